@@ -90,8 +90,8 @@ fn same_starts(one: &DotSet, other: &DotSet) -> bool
     one.dots() == other.dots()
 }
 
-/// Marks an application.
-fn mark(moved: &mut [bool; MAX_APPS], app: AppId)
+/// Counts an application as moved.
+fn count_moved(moved: &mut [bool; MAX_APPS], app: AppId)
     ensures before { (k : ℕ) → get_or moved.new k true ≡ false → get_or moved.old k true ≡ false }
     ensures own { (k : ℕ) → get_or moved.new k true ≡ false → app.0 ≡ k → ⊥ }
 {
@@ -101,13 +101,13 @@ fn mark(moved: &mut [bool; MAX_APPS], app: AppId)
     }
 }
 
-/// Marks an application, unless it is said to be the same.
-fn mark_unless(moved: &mut [bool; MAX_APPS], app: AppId, same: bool)
+/// Counts an application as moved, unless it is said to be the same.
+fn count_moved_unless(moved: &mut [bool; MAX_APPS], app: AppId, same: bool)
     ensures before { (k : ℕ) → get_or moved.new k true ≡ false → get_or moved.old k true ≡ false }
     ensures own { (k : ℕ) → get_or moved.new k true ≡ false → app.0 ≡ k → same ≡ true }
 {
     if !same {
-        mark(moved, app);
+        count_moved(moved, app);
     }
 }
 
@@ -118,7 +118,7 @@ struct Walk {
     new: usize,
 }
 
-/// Marks each application at a key of which the permits of two states differ.
+/// Counts each application as moved at a key of which the permits of two states differ.
 fn mark_permits(
     moved: &mut [bool; MAX_APPS],
     old: &[(Key, DotFun<Flag>)],
@@ -156,21 +156,21 @@ fn pass_permits(
     let other = &new[walk.new];
     match one.0.cmp(&other.0) {
         Ordering::Less => {
-            mark(moved, one.0.app);
+            count_moved(moved, one.0.app);
             Walk {
                 old: walk.old + 1,
                 new: walk.new,
             }
         }
         Ordering::Greater => {
-            mark(moved, other.0.app);
+            count_moved(moved, other.0.app);
             Walk {
                 old: walk.old,
                 new: walk.new + 1,
             }
         }
         Ordering::Equal => {
-            mark_unless(moved, one.0.app, same_votes(&one.1, &other.1));
+            count_moved_unless(moved, one.0.app, same_votes(&one.1, &other.1));
             Walk {
                 old: walk.old + 1,
                 new: walk.new + 1,
@@ -179,18 +179,18 @@ fn pass_permits(
     }
 }
 
-/// Marks each application of which permits stand.
+/// Counts each application as moved of which permits stand.
 fn rest_of_permits(moved: &mut [bool; MAX_APPS], entries: &[(Key, DotFun<Flag>)])
     ensures before { (k : ℕ) → get_or moved.new k true ≡ false → get_or moved.old k true ≡ false }
     ensures gone { (k : ℕ) → get_or moved.new k true ≡ false
         → AtEachKey key_cmp (IsAbsent k) entries.now }
 {
     for (key, _votes) in entries {
-        mark(moved, key.app);
+        count_moved(moved, key.app);
     }
 }
 
-/// Marks each application at a key of which the starts of two states differ.
+/// Counts each application as moved at a key of which the starts of two states differ.
 fn mark_starts(moved: &mut [bool; MAX_APPS], old: &[(Key, DotSet)], new: &[(Key, DotSet)])
     ensures before { (k : ℕ) → get_or moved.new k true ≡ false → get_or moved.old k true ≡ false }
     ensures same { (k : ℕ) → get_or moved.new k true ≡ false → IsSameOf k old.now new.now }
@@ -224,21 +224,21 @@ fn pass_starts(
     let other = &new[walk.new];
     match one.0.cmp(&other.0) {
         Ordering::Less => {
-            mark(moved, one.0.app);
+            count_moved(moved, one.0.app);
             Walk {
                 old: walk.old + 1,
                 new: walk.new,
             }
         }
         Ordering::Greater => {
-            mark(moved, other.0.app);
+            count_moved(moved, other.0.app);
             Walk {
                 old: walk.old,
                 new: walk.new + 1,
             }
         }
         Ordering::Equal => {
-            mark_unless(moved, one.0.app, same_starts(&one.1, &other.1));
+            count_moved_unless(moved, one.0.app, same_starts(&one.1, &other.1));
             Walk {
                 old: walk.old + 1,
                 new: walk.new + 1,
@@ -247,13 +247,13 @@ fn pass_starts(
     }
 }
 
-/// Marks each application of which starts stand.
+/// Counts each application as moved of which starts stand.
 fn rest_of_starts(moved: &mut [bool; MAX_APPS], entries: &[(Key, DotSet)])
     ensures before { (k : ℕ) → get_or moved.new k true ≡ false → get_or moved.old k true ≡ false }
     ensures gone { (k : ℕ) → get_or moved.new k true ≡ false
         → AtEachKey key_cmp (IsAbsent k) entries.now }
 {
     for (key, _starts) in entries {
-        mark(moved, key.app);
+        count_moved(moved, key.app);
     }
 }

@@ -1,4 +1,4 @@
--- Reading from left to right, with the first fault that is met and its place.
+-- Reading from left to right, with the first fault that is met and its offset.
 use Rattle.std.specs.Prelude.{◌≡◌, ℕ, zero, suc, ◌+◌, ◌-◌, ◌^◌, Bool, true, List, [], ◌∷◌, length, take, drop, Option, Some, None, Result, Ok, Err, IfErr, nat_lt, ◌||◌, ◌==◌, if◌then◌else◌}
 use Rattle.std.specs.Int.{Width, w8, w16, w32, w64, byte_len, from_be_bytes}
 use Rattle.std.specs.declared.cmp.Ordering.{Ordering}
@@ -15,7 +15,7 @@ use Rattle.dac_bytes.specs.declared.version.Version.{Version}
 use Rattle.dac_bytes.specs.Versions.{incarnation_width, highest_incarnation}
 use Rattle.dac_contexts.specs.Rows.{Row, dots_in}
 
--- the rest of a text of bytes, and the place of its first byte in that text
+-- the rest of a text of bytes, and the offset of its first byte in that text
 pub record Rest : Type 0 where
   pub at : ℕ
   pub bytes : List ℕ

@@ -11,7 +11,7 @@ IsBytes bytes = (i : ℕ) → get_or bytes i 0 < 256
 -- the text was taken from the front, and end is left
 pub record Takes (r : Rest) (text : List ℕ) (end : Rest) : Type 0 where
   pub parts : r.bytes ≡ text ++ end.bytes
-  pub place : end.at ≡ r.at + length text
+  pub offset : end.at ≡ r.at + length text
   pub fits : IsBytes end.bytes
 
 -- What read gives is spelled by text, and Is holds of it.

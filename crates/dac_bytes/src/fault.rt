@@ -7,7 +7,7 @@ use std::alloc::{AllocError, AllocFailed};
 use std::error::Error;
 use std::fmt;
 
-/// What is wrong at a place of the bytes. The number of each kind is its place in this list, from 1, and
+/// What is wrong at an offset of the bytes. The number of each kind is its place in this list, from 1, and
 /// its name and number are part of the program's output.
 ///
 /// The readers of this crate answer the first four and the last. The others are for those who read what is
@@ -77,7 +77,7 @@ impl Error for ReadFaultKind {}
 pub struct ReadFault {
     /// What is wrong.
     pub kind: ReadFaultKind,
-    /// Where: the place of a byte, from 0; 0 for `NoMemory`.
+    /// Where: the offset of a byte, from 0; 0 for `NoMemory`.
     pub at: usize,
 }
 

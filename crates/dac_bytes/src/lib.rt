@@ -7,7 +7,7 @@
 //! dots it has.
 //!
 //! Each call of [`ByteReader`] gives exactly the value that its bytes spell, or the first fault from left to right.
-//! The fault and the place of its byte are as the reading functions of `specs/` have them. The contract of
+//! The fault and the offset of its byte are as the reading functions of `specs/` have them. The contract of
 //! [`laws::fields_have_one_spelling`] says that what is read of a field is spelled so and is in range. It also says
 //! that what is in range is read from its spelling. So of each field, and of contexts, there is one spelling that is
 //! read.

@@ -10,7 +10,7 @@ use dac_base::{MAX_COUNTER, MAX_INCARNATION, NodeId};
 use dac_dots::{Dot, Origin};
 use std::marker::Model;
 
-/// The rest of some bytes that are being read, and the place of its first byte. Contracts see these two.
+/// The rest of some bytes that are being read, and the offset of its first byte. Contracts see these two.
 ///
 /// Each call takes the reader and gives it back with what it read, after the field. A field that the bytes
 /// end in is `Short` at its first byte.
@@ -32,7 +32,7 @@ impl<'a> Model for ByteReader<'a> {
 }
 
 impl<'a> ByteReader<'a> {
-    /// All of the bytes, from place 0.
+    /// All of the bytes, from offset 0.
     pub fn new(bytes: &'a [u8]) -> Self
         ensures { result ≡ whole bytes.now }
     {
@@ -48,7 +48,7 @@ impl<'a> ByteReader<'a> {
         ByteReader { at: count, rest }
     }
 
-    /// The place of the next byte, from 0.
+    /// The offset of the next byte, from 0.
     pub fn at(&self) -> usize
         ensures { result ≡ self.now.at }
     {

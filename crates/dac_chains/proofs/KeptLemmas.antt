@@ -10,7 +10,7 @@ use Rattle.std.specs.FinMap.Entries.{same_entries, below_all}
 use Rattle.std.proofs.lemmas.Map.Lookups.{CmpEqualImpliesEq}
 use Rattle.dac_lattice.specs.declared.chain.Max.{Max}
 use Rattle.dac_lattice.specs.Chains.{IsAtMost}
-use Rattle.dac_lattice.specs.Lattices.{IsWithin, join_options}
+use Rattle.dac_lattice.specs.Lattices.{IsOptionBelow, join_options}
 use Rattle.dac_lattice.specs.laws.Entries.{find_merge}
 use Rattle.dac_lattice.specs.Maps.{IsMapBelow, join_maps}
 use Rattle.dac_chains.specs.Greatest.{AreNotAbove, greater}
@@ -35,12 +35,12 @@ module _ {V : Type 0} where
   joined_values cmp (Some x) None = refl
   joined_values cmp (Some x) (Some y) = refl
 
-  within_from : (cmp : V → V → Ordering) (a b : Option (Max V)) → IsWithin (at_most cmp) a b → IsWithin (IsAtMost cmp) (option_map value_of a) (option_map value_of b)
+  within_from : (cmp : V → V → Ordering) (a b : Option (Max V)) → IsOptionBelow (at_most cmp) a b → IsOptionBelow (IsAtMost cmp) (option_map value_of a) (option_map value_of b)
   within_from cmp None b h = tt
   within_from cmp (Some x) None h = h
   within_from cmp (Some x) (Some y) h = h
 
-  within_to : (cmp : V → V → Ordering) (a b : Option (Max V)) → IsWithin (IsAtMost cmp) (option_map value_of a) (option_map value_of b) → IsWithin (at_most cmp) a b
+  within_to : (cmp : V → V → Ordering) (a b : Option (Max V)) → IsOptionBelow (IsAtMost cmp) (option_map value_of a) (option_map value_of b) → IsOptionBelow (at_most cmp) a b
   within_to cmp None b h = tt
   within_to cmp (Some x) None h = h
   within_to cmp (Some x) (Some y) h = h
@@ -88,8 +88,8 @@ module _ {K V : Type 0} {R : K → K → Ordering} (keys : IsTotalOrder R) (exac
   -- the order of the entries is that of the maps
   pub below-kept : (own cmp : V → V → Ordering) → own ≡ cmp → (xs ys : List (K × Max V)) → IsMapBelow R (at_most own) xs ys ↔ AreNotAbove {R = R} cmp (kept xs) (kept ys)
   below-kept own cmp same xs ys =
-      let at : K → Type 0 = λ k. IsWithin (IsAtMost own) (option_map value_of (find R k xs)) (option_map value_of (find R k ys)) in
-      let is : (k : K) → at k ≡ IsWithin (IsAtMost cmp) (map.get (kept {R = R} xs) k) (map.get (kept {R = R} ys) k) = λ k i. IsWithin (IsAtMost (same i)) (sym (get-kept xs k) i) (sym (get-kept ys k) i) in (
+      let at : K → Type 0 = λ k. IsOptionBelow (IsAtMost own) (option_map value_of (find R k xs)) (option_map value_of (find R k ys)) in
+      let is : (k : K) → at k ≡ IsOptionBelow (IsAtMost cmp) (map.get (kept {R = R} xs) k) (map.get (kept {R = R} ys) k) = λ k i. IsOptionBelow (IsAtMost (same i)) (sym (get-kept xs k) i) (sym (get-kept ys k) i) in (
         λ h k. subst (λ (X : Type 0). X) (is k) (within_from own (find R k xs) (find R k ys) (h k)),
         λ h k. within_to own (find R k xs) (find R k ys) (subst (λ (X : Type 0). X) (sym (is k)) (h k)),
       )

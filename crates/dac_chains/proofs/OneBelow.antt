@@ -7,23 +7,23 @@ use Rattle.std.specs.FinMap as map
 use Rattle.std.proofs.lemmas.Cmp.{tied_itself}
 use Rattle.std.proofs.lemmas.Map.Lookups.{CmpEqualImpliesEq}
 use Rattle.dac_lattice.specs.Chains.{IsAtMost}
-use Rattle.dac_lattice.specs.Lattices.{IsWithin}
+use Rattle.dac_lattice.specs.Lattices.{IsOptionBelow}
 use Rattle.dac_chains.specs.Greatest.{AreNotAbove, alone}
 
 module _ {K T : Type 0} {R : K → K → Ordering} (keys : IsTotalOrder R) (exact : CmpEqualImpliesEq R) (cmp : T → T → Ordering) where
   at : (k : K) (v : T) (q : K) → map.get (alone {R = R} (Some (k, v))) q ≡ cond (eq_by_cmp R q k) (Some v) None
   at k v q = map.get-insert keys map.empty k v q ∙ ap (cond (eq_by_cmp R q k) (Some v)) (map.get-empty R q)
 
-  pub one_below : (k : K) (v : T) (s : map.FinMap R T) → IsWithin (IsAtMost cmp) (Some v) (map.get s k) ↔ AreNotAbove cmp (alone (Some (k, v))) s
+  pub one_below : (k : K) (v : T) (s : map.FinMap R T) → IsOptionBelow (IsAtMost cmp) (Some v) (map.get s k) ↔ AreNotAbove cmp (alone (Some (k, v))) s
   one_below k v s = (
-    λ h q. subst (λ x. IsWithin (IsAtMost cmp) x (map.get s q)) (sym (at k v q))
-        (elim (eq_by_cmp R q k) as (λ b. eq_by_cmp R q k ≡ b → IsWithin (IsAtMost cmp) (cond b (Some v) None) (map.get s q)) [
-          | true ↦ λ t. subst (λ p. IsWithin (IsAtMost cmp) (Some v) (map.get s p)) (sym (exact q k ((Equal-is (R q k)).0 t))) h
+    λ h q. subst (λ x. IsOptionBelow (IsAtMost cmp) x (map.get s q)) (sym (at k v q))
+        (elim (eq_by_cmp R q k) as (λ b. eq_by_cmp R q k ≡ b → IsOptionBelow (IsAtMost cmp) (cond b (Some v) None) (map.get s q)) [
+          | true ↦ λ t. subst (λ p. IsOptionBelow (IsAtMost cmp) (Some v) (map.get s p)) (sym (exact q k ((Equal-is (R q k)).0 t))) h
           | false ↦ λ t. tt
         ] refl),
-    λ h. subst (λ x. IsWithin (IsAtMost cmp) x (map.get s k)) (at k v k ∙ ap (λ b. cond b (Some v) None) (ap is_eq (tied_itself keys k))) (h k),
+    λ h. subst (λ x. IsOptionBelow (IsAtMost cmp) x (map.get s k)) (at k v k ∙ ap (λ b. cond b (Some v) None) (ap is_eq (tied_itself keys k))) (h k),
   )
 
   -- nothing said is below all
   pub nothing_below : (s : map.FinMap R T) → AreNotAbove cmp (alone {R = R} None) s
-  nothing_below s k = subst (λ x. IsWithin (IsAtMost cmp) x (map.get s k)) (sym (map.get-empty R k)) tt
+  nothing_below s k = subst (λ x. IsOptionBelow (IsAtMost cmp) x (map.get s k)) (sym (map.get-empty R k)) tt

@@ -22,14 +22,14 @@ use Rattle.dac_chains.specs.declared.claims.ClaimAct.{ClaimAct}
 use Rattle.dac_chains.specs.declared.claims.ClaimAct.TheVariants.{Claim as Claimed, Other}
 
 -- the place of a way to claim
-abbrev pub place : How → ℕ
-place Normal = 0
-place Failover = 1
-place Takeover = 2
+abbrev pub rank : How → ℕ
+rank Normal = 0
+rank Failover = 1
+rank Takeover = 2
 
 -- normal, then failover, then takeover
 abbrev pub how_cmp : How → How → Ordering
-how_cmp x y = nat_cmp (place x) (place y)
+how_cmp x y = nat_cmp (rank x) (rank y)
 
 -- by how, and then by the node that it was taken from, none first
 abbrev pub manner_cmp : (How → How → Ordering) → How × Option NodeId → How × Option NodeId → Ordering
@@ -62,14 +62,14 @@ how_at zero = Normal
 how_at (suc zero) = Failover
 how_at (suc (suc n)) = Takeover
 
-pub how_at-place : (h : How) → how_at (place h) ≡ h
-how_at-place Normal = refl
-how_at-place Failover = refl
-how_at-place Takeover = refl
+pub how_at-rank : (h : How) → how_at (rank h) ≡ h
+how_at-rank Normal = refl
+how_at-rank Failover = refl
+how_at-rank Takeover = refl
 
 -- a way to claim as a number
 abbrev pub coded_how : Coded How
-coded_how = code_by ℕ coded_ℕ place how_at how_at-place
+coded_how = code_by ℕ coded_ℕ rank how_at how_at-rank
 
 -- a claim as a tuple
 abbrev pub coded_claim : Coded Claim

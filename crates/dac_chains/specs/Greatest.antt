@@ -5,13 +5,13 @@ use Rattle.std.specs.Ordering.{ord_max}
 use Rattle.std.specs.FinMap as map
 use Rattle.dac_lattice.specs.Dot.{Dot}
 use Rattle.dac_lattice.specs.Chains.{IsAtMost}
-use Rattle.dac_lattice.specs.Lattices.{IsWithin, join_options}
+use Rattle.dac_lattice.specs.Lattices.{IsOptionBelow, join_options}
 use Rattle.dac_lattice.specs.Entries.{merge_entries}
-use Rattle.dac_lattice.specs.Pieces.{In}
+use Rattle.dac_lattice.specs.Pieces.{IsGivenIn}
 
 -- some operation said the value of the key, where `said` is what an operation says of which key
 abbrev pub IsSaid : {K T A : Type 0} → (Dot → A → Option (K × T)) → List (Dot × A) → K → T → Type 0
-IsSaid {A = A} said os k v = (o : Dot × A) × (In o os × (said o.0 o.1 ≡ Some (k, v)))
+IsSaid {A = A} said os k v = (o : Dot × A) × (IsGivenIn o os × (said o.0 o.1 ≡ Some (k, v)))
 
 -- the greatest value of which P holds, or none where it holds of none
 abbrev pub IsGreatest : {T : Type 0} → (T → T → Ordering) → (T → Type 0) → Option T → Type 0
@@ -25,7 +25,7 @@ module _ {K T : Type 0} {R : K → K → Ordering} (cmp : T → T → Ordering) 
 
   -- no key has a greater value in the first than in the second, where none is least
   abbrev pub AreNotAbove : map.FinMap R T → map.FinMap R T → Type 0
-  AreNotAbove s t = (k : K) → IsWithin (IsAtMost cmp) (map.get s k) (map.get t k)
+  AreNotAbove s t = (k : K) → IsOptionBelow (IsAtMost cmp) (map.get s k) (map.get t k)
 
   -- at each key of either, the greater value
   unfoldable pub greater : map.FinMap R T → map.FinMap R T → map.FinMap R T

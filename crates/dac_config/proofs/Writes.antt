@@ -13,7 +13,7 @@ use Rattle.dac_tokens.specs.declared.token.Symbol.TheVariants.{OpenList, CloseLi
 use Rattle.dac_tokens.specs.Digits.{value_from}
 use Rattle.dac_tokens.specs.Scan.{is_name_byte}
 use Rattle.dac_tokens.specs.laws.NameBytes.{tells_letter, tells_name_byte}
-use Rattle.dac_tokens.specs.Words.{Word, Mark, Name, Number, Located}
+use Rattle.dac_tokens.specs.Words.{Word, Punctuation, Name, Number, Located}
 use Rattle.dac_tokens.specs.TokenGrammar.{Nothing, Blank, Closed, IsNameByte, Begins, IsQuotable, IsDigits, GoesOnAsNumber, IsBareAtom, bytes_of, Spells, AreSpelled, depth_behind, NestWell, AreTokensOf}
 use Rattle.dac_shapes.specs.declared.draft.SyncWait.{SyncWait}
 use Rattle.dac_shapes.specs.declared.draft.SyncWait.TheVariants.{NoSync, Forever, Ms}
@@ -28,7 +28,7 @@ use Rattle.dac_config.proofs.Names.{each_parts}
 -- ---- spelling
 
 abbrev spelling_of : Word → List ℕ
-spelling_of (Mark symbol) = bytes_of symbol
+spelling_of (Punctuation symbol) = bytes_of symbol
 spelling_of (Name name) = name_text name
 spelling_of (Number negative digits) = digits
 spelling_of _ = []
@@ -44,14 +44,14 @@ located at (word ∷ words) = record { word = word; at = at } ∷ located (at + 
 
 -- a mark stands first; a full stop ends the words
 abbrev BeginsApart : List Word → Type 0
-BeginsApart (Mark FullStop ∷ words) = words ≡ []
-BeginsApart (Mark _ ∷ words) = Unit {0}
+BeginsApart (Punctuation FullStop ∷ words) = words ≡ []
+BeginsApart (Punctuation _ ∷ words) = Unit {0}
 BeginsApart _ = ⊥
 
 -- a word can be spelled where these words follow
 abbrev CanStand : Word → List Word → Type 0
-CanStand (Mark FullStop) after = after ≡ []
-CanStand (Mark _) after = Unit {0}
+CanStand (Punctuation FullStop) after = after ≡ []
+CanStand (Punctuation _) after = Unit {0}
 CanStand (Name name) after = All IsQuotable name × BeginsApart after
 CanStand (Number false digits) after = IsDigits digits × BeginsApart after
 CanStand _ after = ⊥
@@ -88,8 +88,8 @@ bare_quotable name h = name_bytes_quotable name ((tells_bare name).0 h).goes_on
 -- ---- what follows a name or a number
 
 no_name_byte : (words : List Word) → BeginsApart words → Begins IsNameByte (spelled_words words ++ codes "\n") → ⊥
-no_name_byte (Mark FullStop ∷ words) apart h = omega (arith, h)
-no_name_byte (Mark _ ∷ words) apart h = omega (arith, h)
+no_name_byte (Punctuation FullStop ∷ words) apart h = omega (arith, h)
+no_name_byte (Punctuation _ ∷ words) apart h = omega (arith, h)
 no_name_byte _ apart h = apart
 
 ends_behind_dot : (words : List Word) → words ≡ [] → (◌≡◌ {A = ℕ} 46 95 ⊎ (◌≡◌ {A = ℕ} 46 46 × Begins IsAsciiDigit (spelled_words words ++ codes "\n"))) → ⊥
@@ -98,10 +98,10 @@ ends_behind_dot [] none (inr h) = omega (arith, h.1)
 ends_behind_dot (word ∷ words) none h = absurd cc
 
 ends_number : (words : List Word) → BeginsApart words → GoesOnAsNumber (spelled_words words ++ codes "\n") → ⊥
-ends_number (Mark FullStop ∷ words) apart (inl h) = omega (arith, h)
-ends_number (Mark FullStop ∷ words) apart (inr (inl h)) = omega (arith, h)
-ends_number (Mark FullStop ∷ words) apart (inr (inr h)) = ends_behind_dot words apart h
-ends_number (Mark _ ∷ words) apart h = omega (arith, h)
+ends_number (Punctuation FullStop ∷ words) apart (inl h) = omega (arith, h)
+ends_number (Punctuation FullStop ∷ words) apart (inr (inl h)) = omega (arith, h)
+ends_number (Punctuation FullStop ∷ words) apart (inr (inr h)) = ends_behind_dot words apart h
+ends_number (Punctuation _ ∷ words) apart h = omega (arith, h)
 ends_number _ apart h = apart
 
 -- ---- each word is spelled so
@@ -110,13 +110,13 @@ name_spelled : (name rest : List ℕ) → All IsQuotable name → (Begins IsName
 name_spelled name rest quotable ends true bare = inl (refl, (tells_bare name).0 bare, ends)
 name_spelled name rest quotable ends false bare = inr (refl, quotable)
 
-ends_term : (words : List Word) → words ≡ [] → Spells (Mark FullStop) (46 ∷ []) (spelled_words words ++ codes "\n")
+ends_term : (words : List Word) → words ≡ [] → Spells (Punctuation FullStop) (46 ∷ []) (spelled_words words ++ codes "\n")
 ends_term [] none = (refl, inr (inl (omega arith)))
 ends_term (word ∷ words) none = absurd cc
 
 word_spelled : (word : Word) (after : List Word) → CanStand word after → Spells word (spelling_of word) (spelled_words after ++ codes "\n")
-word_spelled (Mark FullStop) after h = ends_term after h
-word_spelled (Mark _) after h = refl
+word_spelled (Punctuation FullStop) after h = ends_term after h
+word_spelled (Punctuation _) after h = refl
 word_spelled (Name name) after h = name_spelled name (spelled_words after ++ codes "\n") h.0 (no_name_byte after h.1) (is_bare name) refl
 word_spelled (Number false digits) after h = ((refl, h.0), ends_number after h.1)
 word_spelled _ after h = absurd h
@@ -206,9 +206,9 @@ IsPiece k words = (depth : ℕ) (rest : List Word) → depth + k ≤ 64 → Begi
 name_piece : (k : ℕ) (name : List ℕ) → All IsQuotable name → IsPiece k (Name name ∷ [])
 name_piece k name quotable = λ depth rest le apart h. ((quotable, apart), omega (arith, le), h)
 
-comma_piece : (k : ℕ) (words more : List Word) → IsPiece k words → IsPiece k more → IsPiece k (words ++ Mark Comma ∷ more)
+comma_piece : (k : ℕ) (words more : List Word) → IsPiece k words → IsPiece k more → IsPiece k (words ++ Punctuation Comma ∷ more)
 comma_piece k words more first second = λ depth rest le apart h.
-    subst (Stand depth) (sym (append_assoc words (Mark Comma ∷ more) rest)) (first depth (Mark Comma ∷ (more ++ rest)) le tt (tt, omega (arith, le), second depth rest le apart h))
+    subst (Stand depth) (sym (append_assoc words (Punctuation Comma ∷ more) rest)) (first depth (Punctuation Comma ∷ (more ++ rest)) le tt (tt, omega (arith, le), second depth rest le apart h))
 
 closed : (depth : ℕ) (rest : List Word) → Stand depth rest → Stand (depth + 1 - 1) rest
 closed depth rest h = let same : depth ≡ depth + 1 - 1 = omega arith in subst (λ d. Stand d rest) same h
@@ -217,14 +217,14 @@ list_piece : (k : ℕ) (words : List Word) → IsPiece k words → IsPiece (k + 
 list_piece k words piece = λ depth rest le apart h. (
   tt,
   omega (arith, le),
-  subst (Stand (depth + 1)) (sym (append_assoc words (Mark CloseList ∷ []) rest)) (piece (depth + 1) (Mark CloseList ∷ rest) (omega (arith, le)) tt (tt, omega (arith, le), closed depth rest h)),
+  subst (Stand (depth + 1)) (sym (append_assoc words (Punctuation CloseList ∷ []) rest)) (piece (depth + 1) (Punctuation CloseList ∷ rest) (omega (arith, le)) tt (tt, omega (arith, le), closed depth rest h)),
 )
 
 tuple_piece : (k : ℕ) (words : List Word) → IsPiece k words → IsPiece (k + 1) (between OpenTuple words CloseTuple)
 tuple_piece k words piece = λ depth rest le apart h. (
   tt,
   omega (arith, le),
-  subst (Stand (depth + 1)) (sym (append_assoc words (Mark CloseTuple ∷ []) rest)) (piece (depth + 1) (Mark CloseTuple ∷ rest) (omega (arith, le)) tt (tt, omega (arith, le), closed depth rest h)),
+  subst (Stand (depth + 1)) (sym (append_assoc words (Punctuation CloseTuple ∷ []) rest)) (piece (depth + 1) (Punctuation CloseTuple ∷ rest) (omega (arith, le)) tt (tt, omega (arith, le), closed depth rest h)),
 )
 
 -- ---- words that write a text
@@ -248,26 +248,26 @@ module _ {k : ℕ} {Is : List Word → Type 0} {text : List ℕ} (w : Writes k I
   alone = record { words = w.words; is = w.is; stands = w.stands; spells = w.spells ∙ sym (append-nil text) }
 
   list_writes : Writes (k + 1) (λ words. (inner : List Word) × (words ≡ between OpenList inner CloseList) × Is inner) (codes "[" ++ (text ++ codes "]"))
-  list_writes = record { words = between OpenList w.words CloseList; is = (w.words, refl, w.is); stands = list_piece k w.words w.stands; spells = rw (spelled_append w.words (Mark CloseList ∷ []), w.spells) refl }
+  list_writes = record { words = between OpenList w.words CloseList; is = (w.words, refl, w.is); stands = list_piece k w.words w.stands; spells = rw (spelled_append w.words (Punctuation CloseList ∷ []), w.spells) refl }
 
   tuple_writes : Writes (k + 1) (λ words. (inner : List Word) × (words ≡ between OpenTuple inner CloseTuple) × Is inner) (codes "{" ++ (text ++ codes "}"))
-  tuple_writes = record { words = between OpenTuple w.words CloseTuple; is = (w.words, refl, w.is); stands = tuple_piece k w.words w.stands; spells = rw (spelled_append w.words (Mark CloseTuple ∷ []), w.spells) refl }
+  tuple_writes = record { words = between OpenTuple w.words CloseTuple; is = (w.words, refl, w.is); stands = tuple_piece k w.words w.stands; spells = rw (spelled_append w.words (Punctuation CloseTuple ∷ []), w.spells) refl }
 
   pair_writes : (name : List ℕ) → All IsQuotable name → Writes (k + 1) (IsPair name Is) (pair_text (name_text name) text)
   pair_writes name quotable = record {
-    words = between OpenTuple (Name name ∷ Mark Comma ∷ w.words) CloseTuple;
+    words = between OpenTuple (Name name ∷ Punctuation Comma ∷ w.words) CloseTuple;
     is = (w.words, refl, w.is);
-    stands = tuple_piece k (Name name ∷ Mark Comma ∷ w.words) (comma_piece k (Name name ∷ []) w.words (name_piece k name quotable) w.stands);
-    spells = rw (spelled_append w.words (Mark CloseTuple ∷ []), w.spells) refl;
+    stands = tuple_piece k (Name name ∷ Punctuation Comma ∷ w.words) (comma_piece k (Name name ∷ []) w.words (name_piece k name quotable) w.stands);
+    spells = rw (spelled_append w.words (Punctuation CloseTuple ∷ []), w.spells) refl;
   }
 
 comma_writes : {k : ℕ} {Is As : List Word → Type 0} {text more : List ℕ} → Writes k Is text → Writes k As more
-    → Writes k (λ words. (first rest : List Word) × (words ≡ first ++ Mark Comma ∷ rest) × Is first × As rest) (text ++ (codes "," ++ more))
+    → Writes k (λ words. (first rest : List Word) × (words ≡ first ++ Punctuation Comma ∷ rest) × Is first × As rest) (text ++ (codes "," ++ more))
 comma_writes {k = k} v w = record {
-  words = v.words ++ Mark Comma ∷ w.words;
+  words = v.words ++ Punctuation Comma ∷ w.words;
   is = (v.words, w.words, refl, v.is, w.is);
   stands = comma_piece k v.words w.words v.stands w.stands;
-  spells = rw (spelled_append v.words (Mark Comma ∷ w.words), v.spells, w.spells) refl;
+  spells = rw (spelled_append v.words (Punctuation Comma ∷ w.words), v.spells, w.spells) refl;
 }
 
 nothing_writes : {k : ℕ} → Writes k (λ words. words ≡ []) []
@@ -332,7 +332,7 @@ app_writes nodes row can =
     let list = list_writes (parted_writes 1 IsItem (map (name_at nodes)) (group_text nodes) CanSpellGroup (group_writes nodes) row.groups can.groups some) in
     let value = comma_writes (number_writes 2 row.timeout can.timeout) list in
     let word = value.is.3.0 in
-    pair_writes (shaped value (λ words. IsAppValue words (written_app nodes row)) (word ∷ Mark Comma ∷ [], value.is.1, value.is.2 ∙ ap (λ (first : List Word). first ++ Mark Comma ∷ value.is.1) value.is.3.1, inr (word, refl, value.is.3.2), value.is.4)) row.name can.name
+    pair_writes (shaped value (λ words. IsAppValue words (written_app nodes row)) (word ∷ Punctuation Comma ∷ [], value.is.1, value.is.2 ∙ ap (λ (first : List Word). first ++ Punctuation Comma ∷ value.is.1) value.is.3.1, inr (word, refl, value.is.3.2), value.is.4)) row.name can.name
 
 ban_writes : (row : AppRow) → All IsQuotable row.name → Writes 3 (λ words. IsPermission words (ban row)) (ban_text row.name)
 ban_writes row can = pair_writes (name_writes 2 (codes "false") (bare_quotable (codes "false") refl)) row.name can
@@ -362,9 +362,9 @@ pub file_written : (table : Table) → Each CanSpell (params_of table) → (toke
 file_written table can =
     let section = pair_writes (list_writes (params_write table can)) (codes "kernel") (bare_quotable (codes "kernel") refl) in
     let file = list_writes (alone section) in
-    let words = file.words ++ Mark FullStop ∷ [] in
-    let stands : Stand 0 words = file.stands 0 (Mark FullStop ∷ []) (omega arith) refl (refl, omega arith, tt) in
-    let text : spelled_words words ++ codes "\n" ≡ canonical_text table = rw (spelled_append file.words (Mark FullStop ∷ []), file.spells) (append_assoc (list_text (pair_text (codes "kernel") (list_text (param_texts table)) ∷ [])) (codes ".") (codes "\n")) in (
+    let words = file.words ++ Punctuation FullStop ∷ [] in
+    let stands : Stand 0 words = file.stands 0 (Punctuation FullStop ∷ []) (omega arith) refl (refl, omega arith, tt) in
+    let text : spelled_words words ++ codes "\n" ≡ canonical_text table = rw (spelled_append file.words (Punctuation FullStop ∷ []), file.spells) (append_assoc (list_text (pair_text (codes "kernel") (list_text (param_texts table)) ∷ [])) (codes ".") (codes "\n")) in (
       located 0 words,
       subst (λ (t : List ℕ). AreTokensOf t (located 0 words)) text (words_read words stands),
       subst (λ (ws : List Word). IsFile ws (Kernel (params_of table) ∷ [])) (sym (words_located 0 words)) (file.words, refl, file.is),
@@ -390,15 +390,15 @@ module _ {A : Type 0} (Is : List Word → A → Type 0) (P : A → Type 0) (one 
   parted_spells words [] quotes h = absurd h
   parted_spells words (x ∷ []) quotes h = (one words x quotes h, tt)
   parted_spells words (x ∷ y ∷ ys) quotes h =
-      let parts : Each Quotes (h.0 ++ Mark Comma ∷ h.1) = subst (Each Quotes) h.2 quotes in
-      let split = each_parts Quotes h.0 (Mark Comma ∷ h.1) parts in
+      let parts : Each Quotes (h.0 ++ Punctuation Comma ∷ h.1) = subst (Each Quotes) h.2 quotes in
+      let split = each_parts Quotes h.0 (Punctuation Comma ∷ h.1) parts in
       (one h.0 x split.0 h.3, parted_spells h.1 (y ∷ ys) split.1.1 h.4)
 
   listed_spells : (words : List Word) (xs : List A) → Each Quotes words → IsListOf Is words xs → Each P xs
   listed_spells words [] quotes h = tt
   listed_spells words (x ∷ xs) quotes h =
       let parts : Each Quotes (between OpenList h.0 CloseList) = subst (Each Quotes) h.1 quotes in
-      parted_spells h.0 (x ∷ xs) (each_parts Quotes h.0 (Mark CloseList ∷ []) parts.1).0 h.2
+      parted_spells h.0 (x ∷ xs) (each_parts Quotes h.0 (Punctuation CloseList ∷ []) parts.1).0 h.2
 
 some_of : {A : Type 0} (Is : List Word → A → Type 0) (words : List Word) (xs : List A) → Parted Is words xs → 0 < length xs
 some_of Is words [] h = absurd h
@@ -407,8 +407,8 @@ some_of Is words (x ∷ xs) h = omega arith
 -- of a pair, its name and the words of its value
 pair_spells : (name : List ℕ) (IsValue : List Word → Type 0) (words : List Word) → Each Quotes words → (h : IsPair name IsValue words) → All IsQuotable name × Each Quotes h.0
 pair_spells name IsValue words quotes h =
-    let parts : Each Quotes (Mark OpenTuple ∷ Name name ∷ Mark Comma ∷ (h.0 ++ Mark CloseTuple ∷ [])) = subst (Each Quotes) h.1 quotes in
-    (parts.1.0, (each_parts Quotes h.0 (Mark CloseTuple ∷ []) parts.1.1.1).0)
+    let parts : Each Quotes (Punctuation OpenTuple ∷ Name name ∷ Punctuation Comma ∷ (h.0 ++ Punctuation CloseTuple ∷ [])) = subst (Each Quotes) h.1 quotes in
+    (parts.1.0, (each_parts Quotes h.0 (Punctuation CloseTuple ∷ []) parts.1.1.1).0)
 
 node_spells : (words : List Word) (name : List ℕ) → Each Quotes words → IsNode words name → All IsQuotable name
 node_spells words name quotes is = let parts : Each Quotes (Name name ∷ []) = subst (Each Quotes) is quotes in parts.0
@@ -419,7 +419,7 @@ item_spells words group quotes (inl h) =
     subst CanSpellGroup (sym h.2) alone
 item_spells words group quotes (inr h) =
     let parts : Each Quotes (between OpenTuple h.0 CloseTuple) = subst (Each Quotes) h.1 quotes in
-    record { some = some_of IsNode h.0 group h.2; names = parted_spells IsNode (All IsQuotable) node_spells h.0 group (each_parts Quotes h.0 (Mark CloseTuple ∷ []) parts.1).0 h.2 }
+    record { some = some_of IsNode h.0 group h.2; names = parted_spells IsNode (All IsQuotable) node_spells h.0 group (each_parts Quotes h.0 (Punctuation CloseTuple ∷ []) parts.1).0 h.2 }
 
 timeout_spells : (words : List Word) (n : ℕ) → IsTimeout words n → n < 4294967296
 timeout_spells words n (inl h) = omega (arith, h.1)
@@ -436,7 +436,7 @@ app_spells words app quotes h =
       name = pair.0;
       timeout = timeout_spells value.0 app.timeout value.3;
       some = some_of IsItem list.0 app.groups list.2;
-      groups = parted_spells IsItem CanSpellGroup item_spells list.0 app.groups (each_parts Quotes list.0 (Mark CloseList ∷ []) inner.1).0 list.2;
+      groups = parted_spells IsItem CanSpellGroup item_spells list.0 app.groups (each_parts Quotes list.0 (Punctuation CloseList ∷ []) inner.1).0 list.2;
     }
 
 permission_spells : (words : List Word) (permission : Permission) → Each Quotes words → IsPermission words permission → All IsQuotable permission.name
@@ -474,5 +474,5 @@ params_spell (Section.Other ∷ sections) h = params_spell sections h.1
 -- what the tokens of a file say can be spelled
 pub file_spells : (bytes : List ℕ) (tokens : List Located) (sections : List Section) → AreSpelled 0 bytes tokens → IsFile (map (λ t. t.word) tokens) sections → Each CanSpell (params_in sections)
 file_spells bytes tokens sections spelled h =
-    let parts : Each Quotes (h.0 ++ Mark FullStop ∷ []) = subst (Each Quotes) h.1 (tokens_quote 0 bytes tokens spelled) in
-    params_spell sections (listed_spells IsSection CanSpellSection section_spells h.0 sections (each_parts Quotes h.0 (Mark FullStop ∷ []) parts).0 h.2)
+    let parts : Each Quotes (h.0 ++ Punctuation FullStop ∷ []) = subst (Each Quotes) h.1 (tokens_quote 0 bytes tokens spelled) in
+    params_spell sections (listed_spells IsSection CanSpellSection section_spells h.0 sections (each_parts Quotes h.0 (Punctuation FullStop ∷ []) parts).0 h.2)

@@ -20,7 +20,7 @@ use std::alloc::Global;
 /// lists and in both sync lists. Of two permissions for one application the first stands, and one for an application
 /// that isn't listed is ignored.
 ///
-/// A fault's place counts bytes from 0. Where memory is refused, the answer is `NoMemory` at 0.
+/// A fault's offset counts bytes from 0. Where memory is refused, the answer is `NoMemory` at 0.
 pub fn read_config(alloc: Global, text: &[u8]) -> Result<Config, ConfigFault>
     // What is read is spelled so.
     ensures found { IfOk result (λ config. IsConfigOf text.now config) }

@@ -1,7 +1,7 @@
 pub mod ContextLemmas
 pub mod Failures
 pub mod LenLemmas
-pub mod MarkLemmas
+pub mod FilterLemmas
 pub mod PlaceLemmas
 pub mod RowLemmas
-pub mod RunLemmas
+pub mod SpanLemmas

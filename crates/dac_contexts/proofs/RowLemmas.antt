@@ -16,7 +16,7 @@ use Rattle.dac_contexts.specs.Rows.{Row, row_of, reach_of, reach_from, further_o
 use Rattle.dac_dots.specs.declared.dot.Dot.{Dot}
 use Rattle.dac_dots.specs.declared.dot.Origin.{Origin}
 use Rattle.dac_contexts.proofs.PlaceLemmas.{some_from}
-use Rattle.dac_contexts.proofs.RunLemmas.{reaches}
+use Rattle.dac_contexts.proofs.SpanLemmas.{reaches}
 
 -- ---- what is settled
 

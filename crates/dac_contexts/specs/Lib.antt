@@ -1,5 +1,5 @@
-pub mod Marks
+pub mod DotFilters
 pub mod Rows
-pub mod Runs
+pub mod Spans
 pub mod Sharing
 pub mod laws

@@ -4,11 +4,11 @@ ghost use Rattle.std.specs.FinSet as set;
 ghost use Rattle.dac_dots.specs.Dots.{Dots, dot_cmp, IsNext, IsSubset, IsUsedUp, IsVector};
 ghost use Rattle.dac_dots.specs.InOrder.{in_order};
 ghost use Rattle.dac_dots.specs.Keys.{IsRising};
-ghost use Rattle.dac_contexts.specs.Marks.{AreMarked};
+ghost use Rattle.dac_contexts.specs.DotFilters.{MayHaveAll};
 ghost use Rattle.dac_contexts.specs.Rows.{AreRowsOf, CanFollow, HasSome, EndBefore, IsKept, IsRowIn, row_has, rows_of};
 ghost use Rattle.dac_dots.specs.declared.dot.Dot.{Dot};
 
-use crate::marks::Marks;
+use crate::filter::DotFilter;
 use crate::row::{Further, OriginRow, has_no_dots, place_of, rises_from};
 use dac_base::{MAX_COUNTER, NoMemory};
 use dac_dots::{Dot, Origin};
@@ -215,12 +215,12 @@ impl Context {
         true
     }
 
-    /// Sets the mark of each dot.
-    pub(crate) fn mark(&self, marks: &mut Marks)
-        ensures { AreMarked marks.new.set self.now }
+    /// Sets the slot of each dot.
+    pub(crate) fn fill(&self, filter: &mut DotFilter)
+        ensures { MayHaveAll filter.new.slots self.now }
     {
         for row in &self.rows {
-            row.mark(marks);
+            row.fill(filter);
         }
     }
 

@@ -1,40 +1,40 @@
-//! Sets of counters, kept as runs of counters that follow one another.
+//! Sets of counters, kept as spans of counters that follow one another.
 ghost use Rattle.std.specs.Prelude.{◌≡◌, ◌↔◌, ◌+◌, ◌-◌, ◌^◌, ◌<◌, ◌≤◌, ◌⊎◌, ◌||◌, ◌&&◌, ◌∷◌, [], false, true, length, nat_le, nat_lt, take, drop, vec_capacity, IfOk, IsTrue, OnErr, OnOk};
 ghost use Rattle.std.specs.Ordering.{eq_by_cmp, nat_cmp};
 ghost use Rattle.dac_dots.specs.Dots.{dot};
 ghost use Rattle.dac_dots.specs.Keys.{IsRising, has_key};
 ghost use Rattle.dac_dots.specs.declared.dot.Dot.{Dot};
-ghost use Rattle.dac_contexts.specs.Marks.{is_marked};
+ghost use Rattle.dac_contexts.specs.DotFilters.{may_have};
 ghost use Rattle.dac_contexts.specs.Rows.{IsGreatest, further_of, reach_of};
-ghost use Rattle.dac_contexts.specs.Runs.{AreRuns, HaveEnded, IsPlaceFor, any_past, any_run, are_apart, hull, run_has, absorbed};
+ghost use Rattle.dac_contexts.specs.Spans.{AreSpans, HaveEnded, IsPlaceFor, any_past, any_span, are_apart, hull, span_has, absorbed};
 
-use crate::marks::Marks;
+use crate::filter::DotFilter;
 use dac_base::NoMemory;
 use dac_dots::keys::insert_key;
 use dac_dots::{Dot, Origin};
 use std::alloc::Global;
 use std::marker::Model;
 
-/// How many runs of another set are put in one by one. Where there are more, both sets are gone through.
+/// How many spans of another set are put in one by one. Where there are more, both sets are gone through.
 const FEW: usize = 8;
 
 /// Counters that follow one another: `first`, the one after it, and so on to `last`.
 #[derive(Clone, Copy, Debug)]
-pub(crate) struct Run {
+pub(crate) struct Span {
     pub(crate) first: u64,
     pub(crate) last: u64,
 }
 
-impl Run {
-    /// Whether this run ends so far before the other that a counter lies between them.
-    fn ends_before(self, other: Run) -> bool
+impl Span {
+    /// Whether this span ends so far before the other that a counter lies between them.
+    fn ends_before(self, other: Span) -> bool
         ensures { result ≡ nat_lt (self.last + 1) other.first }
     {
         self.last < other.first && other.first - self.last > 1
     }
 
-    /// Whether the other run begins in this one, before it, or right after it.
-    fn reaches(self, other: Run) -> bool
+    /// Whether the other span begins in this one, before it, or right after it.
+    fn reaches(self, other: Span) -> bool
         ensures { result ≡ nat_le other.first (self.last + 1) }
     {
         other.first <= self.last || other.first - self.last == 1
@@ -50,131 +50,131 @@ impl Run {
     }
 
     /// From where the first of both begins to where the last of both ends.
-    fn hull(self, other: Run) -> Run
+    fn hull(self, other: Span) -> Span
         ensures { result ≡ hull self other }
     {
-        Run {
+        Span {
             first: self.first.min(other.first),
             last: self.last.max(other.last),
         }
     }
 }
 
-/// Takes the runs from a place on out that reach on from this run, and answers the run of all of them.
-fn take_touched(runs: &mut Vec<Run>, place: usize, run: Run) -> Run
-    ensures front { take place runs.new.items ≡ take place runs.old.items }
-    ensures value { absorbed run (drop place runs.old.items) ≡ result ∷ drop place runs.new.items }
-    ensures room { ((runs.new.items ≡ runs.old.items) × (result ≡ run))
-        ⊎ (length runs.new.items < vec_capacity runs.new) }
+/// Takes the spans from a place on out that reach on from this span, and answers the span of all of them.
+fn take_touched(spans: &mut Vec<Span>, place: usize, span: Span) -> Span
+    ensures front { take place spans.new.items ≡ take place spans.old.items }
+    ensures value { absorbed span (drop place spans.old.items) ≡ result ∷ drop place spans.new.items }
+    ensures room { ((spans.new.items ≡ spans.old.items) × (result ≡ span))
+        ⊎ (length spans.new.items < vec_capacity spans.new) }
 {
-    let mut joined = run;
-    while place < runs.len() && joined.reaches(runs[place]) {
-        joined = joined.hull(runs.remove(place));
+    let mut joined = span;
+    while place < spans.len() && joined.reaches(spans[place]) {
+        joined = joined.hull(spans.remove(place));
     }
     joined
 }
 
-/// Puts the counters of a run into a list that rises.
-fn list_run(counters: &mut Vec<u64>, run: Run) -> Result<(), NoMemory>
-    requires valid { run.first ≤ run.last }
+/// Puts the counters of a span into a list that rises.
+fn list_span(counters: &mut Vec<u64>, span: Span) -> Result<(), NoMemory>
+    requires valid { span.first ≤ span.last }
     requires rising { IsRising nat_cmp counters.old.items }
     ensures rising { IsRising nat_cmp counters.new.items }
     ensures ok { OnOk result ((n : _)
         → has_key nat_cmp counters.new.items n
-        ≡ (run_has n run || has_key nat_cmp counters.old.items n)) }
+        ≡ (span_has n span || has_key nat_cmp counters.old.items n)) }
 {
-    for n in run.first..run.last {
+    for n in span.first..span.last {
         insert_key(counters, n)?;
     }
-    insert_key(counters, run.last)?;
+    insert_key(counters, span.last)?;
     Ok(())
 }
 
-/// Puts the counters of those runs that begin above `upto` into a list that rises.
-fn list_past(counters: &mut Vec<u64>, upto: u64, runs: &[Run]) -> Result<(), NoMemory>
-    requires valid { AreRuns runs.now }
+/// Puts the counters of those spans that begin above `upto` into a list that rises.
+fn list_past(counters: &mut Vec<u64>, upto: u64, spans: &[Span]) -> Result<(), NoMemory>
+    requires valid { AreSpans spans.now }
     requires rising { IsRising nat_cmp counters.old.items }
     ensures rising { IsRising nat_cmp counters.new.items }
     ensures ok { OnOk result ((n : _)
         → has_key nat_cmp counters.new.items n
-        ≡ (any_past upto runs.now n || has_key nat_cmp counters.old.items n)) }
+        ≡ (any_past upto spans.now n || has_key nat_cmp counters.old.items n)) }
 {
-    for run in runs {
-        if upto < run.first {
-            list_run(counters, *run)?;
+    for span in spans {
+        if upto < span.first {
+            list_span(counters, *span)?;
         }
     }
     Ok(())
 }
 
-/// Sets the mark of each dot of an origin whose counter is in a run.
-fn mark_run(origin: Origin, run: Run, marks: &mut Marks)
-    requires { run.first ≤ run.last }
-    ensures own { (n : _) → run_has n run ≡ true → is_marked marks.new.set (dot origin n) ≡ true }
-    ensures more { (q : Dot) → is_marked marks.old.set q ≡ true → is_marked marks.new.set q ≡ true }
+/// Sets the slot of each dot of an origin whose counter is in a span.
+fn fill_span(origin: Origin, span: Span, filter: &mut DotFilter)
+    requires { span.first ≤ span.last }
+    ensures own { (n : _) → span_has n span ≡ true → may_have filter.new.slots (dot origin n) ≡ true }
+    ensures more { (q : Dot) → may_have filter.old.slots q ≡ true → may_have filter.new.slots q ≡ true }
 {
-    for n in run.first..run.last {
-        marks.put(Dot { origin, n });
+    for n in span.first..span.last {
+        filter.put(Dot { origin, n });
     }
-    marks.put(Dot {
+    filter.put(Dot {
         origin,
-        n: run.last,
+        n: span.last,
     });
 }
 
-/// For how many runs a copy of so many has room. A set without a gap mostly grows without one, so it gets no
+/// For how many spans a copy of so many has room. A set without a gap mostly grows without one, so it gets no
 /// more room. None take no memory.
-fn room_for(runs: usize) -> usize {
-    if runs <= 1 {
-        runs
+fn room_for(spans: usize) -> usize {
+    if spans <= 1 {
+        spans
     } else {
-        runs.saturating_add(1)
+        spans.saturating_add(1)
     }
 }
 
-/// How many of the runs end before a counter. A set without a gap is one run, so the first is looked at first.
-fn ended_before(runs: &[Run], n: u64) -> usize
-    requires { are_apart 0 runs.now ≡ true }
-    ensures { HaveEnded runs.now result n }
+/// How many of the spans end before a counter. A set without a gap is one span, so the first is looked at first.
+fn ended_before(spans: &[Span], n: u64) -> usize
+    requires { are_apart 0 spans.now ≡ true }
+    ensures { HaveEnded spans.now result n }
 {
-    match runs.first() {
+    match spans.first() {
         Some(first) if n <= first.last => 0,
-        _ => runs.partition_point(|run| run.last < n),
+        _ => spans.partition_point(|span| span.last < n),
     }
 }
 
-/// Where a run is put: how many of the runs end so far before it that a counter lies between. Most runs are
+/// Where a span is put: how many of the spans end so far before it that a counter lies between. Most spans are
 /// put behind the last one, or lengthen it, so that is looked at first.
-fn place_for(runs: &[Run], run: Run) -> usize
-    requires { are_apart 0 runs.now ≡ true }
-    ensures { IsPlaceFor runs.now result run.first }
+fn place_for(spans: &[Span], span: Span) -> usize
+    requires { are_apart 0 spans.now ≡ true }
+    ensures { IsPlaceFor spans.now result span.first }
 {
-    match runs.last() {
-        Some(last) if last.ends_before(run) => runs.len(),
-        Some(last) if last.first <= run.first => runs.len() - 1,
-        _ => runs.partition_point(|before| before.ends_before(run)),
+    match spans.last() {
+        Some(last) if last.ends_before(span) => spans.len(),
+        Some(last) if last.first <= span.first => spans.len() - 1,
+        _ => spans.partition_point(|before| before.ends_before(span)),
     }
 }
 
-/// A set of counters. It costs by gaps and not by counters: each run is as long as it can be.
+/// A set of counters. It costs by gaps and not by counters: each span is as long as it can be.
 #[derive(Debug, Drop)]
 pub(crate) struct Counters {
-    runs: Vec<Run>,
+    spans: Vec<Span>,
 }
 
 impl Model for Counters {
     ghost use Rattle.std.specs.Prelude.{ℕ, List, ◌≡◌, true};
     ghost use Rattle.std.specs.Coded.{coded_ℕ, coded_list};
-    ghost use Rattle.dac_contexts.specs.Runs.{are_apart, counters_in};
+    ghost use Rattle.dac_contexts.specs.Spans.{are_apart, counters_in};
 
     // The counters in rising order.
     ghost Value = { List ℕ };
 
     ghost coded = { coded_list coded_ℕ };
 
-    ghost view = { λ a. counters_in a.runs.items };
+    ghost view = { λ a. counters_in a.spans.items };
 
-    ghost invariant = { λ a. are_apart 0 a.runs.items ≡ true };
+    ghost invariant = { λ a. are_apart 0 a.spans.items ≡ true };
 }
 
 impl Counters {
@@ -183,35 +183,35 @@ impl Counters {
         ensures { result ≡ [] }
     {
         Counters {
-            runs: Vec::new(alloc),
+            spans: Vec::new(alloc),
         }
     }
 
-    /// An equal set, with memory of its own. Where there are gaps it has room for one run more.
+    /// An equal set, with memory of its own. Where there are gaps it has room for one span more.
     pub(crate) fn copy(&self, alloc: Global) -> Result<Self, NoMemory>
         ensures { IfOk result (λ copied. copied ≡ self.now) }
     {
-        let mut runs = Vec::with_capacity(alloc, room_for(self.runs.len()))?;
-        runs.extend_from_slice(&self.runs)?;
-        Ok(Counters { runs })
+        let mut spans = Vec::with_capacity(alloc, room_for(self.spans.len()))?;
+        spans.extend_from_slice(&self.spans)?;
+        Ok(Counters { spans })
     }
 
     /// Whether there are no counters.
     pub(crate) fn is_empty(&self) -> bool
         ensures { IsTrue result ↔ (self.now ≡ []) }
     {
-        self.runs.is_empty()
+        self.spans.is_empty()
     }
 
-    /// Whether the set has each counter of a run.
-    fn has_run(&self, run: Run) -> bool
-        requires { run.first ≤ run.last }
+    /// Whether the set has each counter of a span.
+    fn has_span(&self, span: Span) -> bool
+        requires { span.first ≤ span.last }
         ensures { IsTrue result
-            ↔ ((n : _) → run_has n run ≡ true → has_key nat_cmp self.now n ≡ true) }
+            ↔ ((n : _) → span_has n span ≡ true → has_key nat_cmp self.now n ≡ true) }
     {
-        let place = ended_before(&self.runs, run.first);
-        match self.runs.get(place) {
-            Some(found) => found.first <= run.first && run.last <= found.last,
+        let place = ended_before(&self.spans, span.first);
+        match self.spans.get(place) {
+            Some(found) => found.first <= span.first && span.last <= found.last,
             None => false,
         }
     }
@@ -220,22 +220,22 @@ impl Counters {
     pub(crate) fn contains(&self, n: u64) -> bool
         ensures { result ≡ has_key nat_cmp self.now n }
     {
-        self.has_run(Run { first: n, last: n })
+        self.has_span(Span { first: n, last: n })
     }
 
-    /// Puts the counters of a run into the set. Where all are there it takes no memory.
-    fn put(&mut self, run: Run) -> Result<(), NoMemory>
-        requires { run.first ≤ run.last }
+    /// Puts the counters of a span into the set. Where all are there it takes no memory.
+    fn put(&mut self, span: Span) -> Result<(), NoMemory>
+        requires { span.first ≤ span.last }
         ensures rising { IsRising nat_cmp self.new }
         ensures ok { OnOk result
-            ((n : _) → has_key nat_cmp self.new n ≡ (run_has n run || has_key nat_cmp self.old n)) }
+            ((n : _) → has_key nat_cmp self.new n ≡ (span_has n span || has_key nat_cmp self.old n)) }
         ensures err { OnErr result (self.new ≡ self.old) }
         ensures first { OnErr result
-            ((n : _) → run_has n run ≡ true → has_key nat_cmp self.old n ≡ false) }
+            ((n : _) → span_has n span ≡ true → has_key nat_cmp self.old n ≡ false) }
     {
-        let place = place_for(&self.runs, run);
-        let joined = take_touched(&mut self.runs, place, run);
-        self.runs.insert(place, joined)?;
+        let place = place_for(&self.spans, span);
+        let joined = take_touched(&mut self.spans, place, span);
+        self.spans.insert(place, joined)?;
         Ok(())
     }
 
@@ -247,7 +247,7 @@ impl Counters {
         ensures err { OnErr result (self.new ≡ self.old) }
         ensures first { OnErr result (has_key nat_cmp self.old n ≡ false) }
     {
-        self.put(Run { first: n, last: n })
+        self.put(Span { first: n, last: n })
     }
 
     /// Puts the counters 1 to `upto` into the set.
@@ -258,7 +258,7 @@ impl Counters {
             ≡ ((nat_le 1 n && nat_le n upto) || has_key nat_cmp self.old n)) }
     {
         if 0 < upto {
-            self.put(Run {
+            self.put(Span {
                 first: 1,
                 last: upto,
             })?;
@@ -266,25 +266,25 @@ impl Counters {
         Ok(())
     }
 
-    /// Puts the counters of these runs into the set. [`NoMemory`] is the only error, and may leave some of
+    /// Puts the counters of these spans into the set. [`NoMemory`] is the only error, and may leave some of
     /// them there.
-    fn put_all(&mut self, runs: &[Run]) -> Result<(), NoMemory>
-        requires { AreRuns runs.now }
+    fn put_all(&mut self, spans: &[Span]) -> Result<(), NoMemory>
+        requires { AreSpans spans.now }
         ensures rising { IsRising nat_cmp self.old → IsRising nat_cmp self.new }
         ensures ok { OnOk result ((n : _)
-            → has_key nat_cmp self.new n ≡ (any_run runs.now n || has_key nat_cmp self.old n)) }
+            → has_key nat_cmp self.new n ≡ (any_span spans.now n || has_key nat_cmp self.old n)) }
         ensures err { OnErr result
             ((n : _) → has_key nat_cmp self.old n ≡ true → has_key nat_cmp self.new n ≡ true) }
     {
-        for run in runs {
-            self.put(*run)?;
+        for span in spans {
+            self.put(*span)?;
         }
         Ok(())
     }
 
-    /// Whether so few runs are best put in one by one.
+    /// Whether so few spans are best put in one by one.
     pub(crate) fn are_few(&self) -> bool {
-        self.runs.len() <= FEW
+        self.spans.len() <= FEW
     }
 
     /// Puts the counters of the other set into this one. [`NoMemory`] is the only error, and may leave some
@@ -297,7 +297,7 @@ impl Counters {
         ensures err { OnErr result
             ((n : _) → has_key nat_cmp self.old n ≡ true → has_key nat_cmp self.new n ≡ true) }
     {
-        self.put_all(&other.runs)
+        self.put_all(&other.spans)
     }
 
     /// The counters of both sets.
@@ -307,7 +307,7 @@ impl Counters {
             → has_key nat_cmp both n
             ≡ (has_key nat_cmp other.now n || has_key nat_cmp self.now n))) }
     {
-        merge_runs(alloc, &self.runs, &other.runs)
+        merge_spans(alloc, &self.spans, &other.spans)
     }
 
     /// Whether the other set has each counter of this one.
@@ -315,8 +315,8 @@ impl Counters {
         ensures { IsTrue result
             ↔ ((n : _) → has_key nat_cmp self.now n ≡ true → has_key nat_cmp other.now n ≡ true) }
     {
-        for run in &self.runs {
-            if !other.has_run(*run) {
+        for span in &self.spans {
+            if !other.has_span(*span) {
                 return false;
             }
         }
@@ -327,8 +327,8 @@ impl Counters {
     pub(crate) fn last(&self) -> u64
         ensures { IsGreatest self.now result }
     {
-        match self.runs.last() {
-            Some(run) => run.last,
+        match self.spans.last() {
+            Some(span) => span.last,
             None => 0,
         }
     }
@@ -337,8 +337,8 @@ impl Counters {
     pub(crate) fn upto(&self) -> u64
         ensures { result ≡ reach_of self.now }
     {
-        match self.runs.first() {
-            Some(run) if run.first <= 1 => run.last,
+        match self.spans.first() {
+            Some(span) if span.first <= 1 => span.last,
             _ => 0,
         }
     }
@@ -349,8 +349,8 @@ impl Counters {
         ensures bound { result < 2 ^ 65 }
     {
         let mut len = 0;
-        for run in &self.runs {
-            len += run.len();
+        for span in &self.spans {
+            len += span.len();
         }
         len
     }
@@ -363,19 +363,19 @@ impl Counters {
         if self.contains(0) {
             insert_key(&mut further, 0)?;
         }
-        list_past(&mut further, self.upto(), &self.runs)?;
+        list_past(&mut further, self.upto(), &self.spans)?;
         Ok(further)
     }
 
-    /// Sets the mark of each dot of an origin whose counter is in the set.
-    pub(crate) fn mark(&self, origin: Origin, marks: &mut Marks)
+    /// Sets the slot of each dot of an origin whose counter is in the set.
+    pub(crate) fn fill(&self, origin: Origin, filter: &mut DotFilter)
         ensures own { (n : _) → has_key nat_cmp self.now n ≡ true
-            → is_marked marks.new.set (dot origin n) ≡ true }
-        ensures more { (q : Dot) → is_marked marks.old.set q ≡ true
-            → is_marked marks.new.set q ≡ true }
+            → may_have filter.new.slots (dot origin n) ≡ true }
+        ensures more { (q : Dot) → may_have filter.old.slots q ≡ true
+            → may_have filter.new.slots q ≡ true }
     {
-        for run in &self.runs {
-            mark_run(origin, *run, marks);
+        for span in &self.spans {
+            fill_span(origin, *span, filter);
         }
     }
 
@@ -384,20 +384,20 @@ impl Counters {
         ensures { IfOk result (λ counters. counters.items ≡ self.now) }
     {
         let mut counters = Vec::new(alloc);
-        for run in &self.runs {
-            list_run(&mut counters, *run)?;
+        for span in &self.spans {
+            list_span(&mut counters, *span)?;
         }
         Ok(counters)
     }
 }
 
-/// The counters of both lists of runs. Where both rise they are gone through in order, so that each run is
+/// The counters of both lists of spans. Where both rise they are gone through in order, so that each span is
 /// put at the end.
-fn merge_runs(alloc: Global, xs: &[Run], ys: &[Run]) -> Result<Counters, NoMemory>
-    requires first { AreRuns xs.now }
-    requires second { AreRuns ys.now }
+fn merge_spans(alloc: Global, xs: &[Span], ys: &[Span]) -> Result<Counters, NoMemory>
+    requires first { AreSpans xs.now }
+    requires second { AreSpans ys.now }
     ensures { IfOk result (λ both. IsRising nat_cmp both
-        × ((n : _) → has_key nat_cmp both n ≡ (any_run ys.now n || any_run xs.now n))) }
+        × ((n : _) → has_key nat_cmp both n ≡ (any_span ys.now n || any_span xs.now n))) }
 {
     let mut both = Counters::empty(alloc);
     let mut i = 0;

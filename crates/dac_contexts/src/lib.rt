@@ -4,19 +4,19 @@
 //! of dots and nothing of how it is kept. So this crate promises the sets' own laws. They say what a set contains,
 //! that equal sets are equal values, and which dot of an origin comes next.
 //!
-//! A context is kept by origin, as runs of counters that follow one another. So calls cost by the number of
+//! A context is kept by origin, as spans of counters that follow one another. So calls cost by the number of
 //! origins and of gaps, and not by that of dots. Only the list of all dots, and that of the further counters
 //! of a row, cost by what they list.
 #![tactic(auto)]
 
 pub use context::Context;
-pub use marked::MarkedContext;
+pub use filtered::FilteredContext;
 pub use row::Further;
 pub use shared::SharedContext;
 
 mod context;
 mod counters;
-mod marked;
-mod marks;
+mod filtered;
+mod filter;
 mod row;
 mod shared;

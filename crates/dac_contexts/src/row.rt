@@ -1,14 +1,14 @@
 //! The dots of one origin: how far its counters go without a gap, and the further ones.
 ghost use Rattle.std.specs.Prelude.{◌≡◌, ◌↔◌, ◌+◌, ◌^◌, ◌<◌, ◌≤◌, ◌||◌, ◌∷◌, [], length, false, true, IfOk, IsTrue, OnErr, OnOk};
 ghost use Rattle.std.specs.Ordering.{nat_cmp};
-ghost use Rattle.dac_contexts.specs.Marks.{is_marked};
+ghost use Rattle.dac_contexts.specs.DotFilters.{may_have};
 ghost use Rattle.dac_contexts.specs.Rows.{has_counter, HasBoth, HasMore, HasSome, IsLastOf, IsOne, IsPlaceOf, HasAlso, IsWithinRow, origins, rises_on, row_has};
 ghost use Rattle.dac_dots.specs.declared.dot.Dot.{Dot};
 ghost use Rattle.dac_dots.specs.Dots.{dot_cmp, origin_cmp};
 ghost use Rattle.dac_dots.specs.Keys.{IsRising, has_key};
 
 use crate::counters::Counters;
-use crate::marks::Marks;
+use crate::filter::DotFilter;
 use dac_base::NoMemory;
 use dac_dots::keys::insert_key;
 use dac_dots::{Dot, Origin};
@@ -211,13 +211,13 @@ impl OriginRow {
         Ok(())
     }
 
-    /// Sets the mark of each dot of the row.
-    pub(crate) fn mark(&self, marks: &mut Marks)
-        ensures own { (q : Dot) → row_has q self.now ≡ true → is_marked marks.new.set q ≡ true }
-        ensures more { (q : Dot) → is_marked marks.old.set q ≡ true
-            → is_marked marks.new.set q ≡ true }
+    /// Sets the slot of each dot of the row.
+    pub(crate) fn fill(&self, filter: &mut DotFilter)
+        ensures own { (q : Dot) → row_has q self.now ≡ true → may_have filter.new.slots q ≡ true }
+        ensures more { (q : Dot) → may_have filter.old.slots q ≡ true
+            → may_have filter.new.slots q ≡ true }
     {
-        self.counters.mark(self.origin, marks);
+        self.counters.fill(self.origin, filter);
     }
 
     /// How many counters there are.

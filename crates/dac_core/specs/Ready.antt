@@ -8,7 +8,7 @@ use Rattle.dac_node.specs.Changes.{ChangeValue, Fits, changed}
 
 -- numbers are left for the deltas that come, and a crash leaves the node off
 abbrev pub IsReady : NodeValue → ChangeValue → Type 0
-IsReady v change = Fits v change × (change.reply ≡ Crashed → (changed v change).run ≡ None)
+IsReady v change = Fits v change × (change.reply ≡ Crashed → (changed v change).running ≡ None)
 
 -- so can the node of this number
 abbrev pub IsReadyAt : List NodeValue → NodeId → ChangeValue → Type 0

@@ -12,7 +12,7 @@ pub(crate) fn share_last(messages: &[Message], change: &mut Change)
     ensures { change.new ≡ change.old }
 {
     if let Some(state) = last_of_another(messages, change.reply()) {
-        change.share(state);
+        change.ship_copy_of(state);
     }
 }
 

@@ -6,7 +6,7 @@ use Rattle.std.proofs.lemmas.Bool.{leb-true, leb-false}
 use Rattle.dac_deltas.specs.Blocks.{IsLongestBlock, AreBlocks}
 use Rattle.dac_deltas.specs.declared.blocks.TheConstants.{MOST_LEVEL}
 use Rattle.dac_deltas.specs.declared.buffer.TheConstants.{MAX_DELTAS}
-use Rattle.dac_deltas.proofs.Places.{next_power, aligned_below, aligned_after, aligned_more}
+use Rattle.dac_deltas.proofs.Levels.{next_power, aligned_below, aligned_after, aligned_more}
 
 -- a lesser power has a lesser exponent
 below_power : (i j : ℕ) → 2 ^ i < 2 ^ j → i < j

@@ -8,10 +8,10 @@ use Rattle.std.proofs.lemmas.List.Sums.{fold-append}
 use Rattle.dac_base.specs.declared.limits.TheConstants.{MAX_COUNTER}
 use Rattle.dac_lattice.specs.Lattices.{IsLattice}
 use Rattle.dac_lattice.specs.laws.Joins.{join_assoc}
-use Rattle.dac_deltas.proofs.Places.{below_longest, next_power, aligned_below, aligned_before, aligned_after}
+use Rattle.dac_deltas.proofs.Levels.{below_longest, next_power, aligned_below, aligned_before, aligned_after}
 use Rattle.dac_deltas.specs.Blocks.{IsLongest}
 use Rattle.dac_deltas.specs.declared.blocks.TheConstants.{MOST_LEVEL}
-use Rattle.dac_deltas.specs.Endings.{deltas_of, join_at, StandsFor, HasJoins, AreJoined}
+use Rattle.dac_deltas.specs.BlockEnds.{deltas_of, join_at, StandsFor, HasJoins, AreJoined}
 
 module _ {L : Type 0} (is_value : L → Type 0) (join : L → L → L) where
   -- a delta stands for itself
@@ -29,8 +29,8 @@ module _ {L : Type 0} (is_value : L → Type 0) (join : L → L → L) where
         ∙ sym (join_assoc laws z x y v s.value t.value)));
   }
 
-  has_same : (place place' : ℕ) (ds ds' : List L) (e e' : L × List L) → place ≡ place' → ds ≡ ds' → e ≡ e' → HasJoins is_value join place ds e → HasJoins is_value join place' ds' e'
-  has_same place place' ds ds' e e' p q r h = subst (λ f. HasJoins is_value join place' ds' f) r (subst (λ xs. HasJoins is_value join place' xs e) q (subst (λ n. HasJoins is_value join n ds e) p h))
+  has_same : (number number' : ℕ) (ds ds' : List L) (e e' : L × List L) → number ≡ number' → ds ≡ ds' → e ≡ e' → HasJoins is_value join number ds e → HasJoins is_value join number' ds' e'
+  has_same number number' ds ds' e e' p q r h = subst (λ f. HasJoins is_value join number' ds' f) r (subst (λ xs. HasJoins is_value join number' xs e) q (subst (λ n. HasJoins is_value join n ds e) p h))
 
   -- one more ending, with the joins of the blocks that end there
   pub joined_push : (base : ℕ) (es : List (L × List L)) (e : L × List L) → AreJoined is_value join base es → HasJoins is_value join (base + (length es + 1)) (deltas_of es ++ e.0 ∷ []) e → AreJoined is_value join base (es ++ e ∷ [])
@@ -51,8 +51,8 @@ module _ {L : Type 0} (is_value : L → Type 0) (join : L → L → L) where
       ] refl
 
   -- where fewer deltas are kept, there are fewer blocks
-  has_less : (place n : ℕ) (ds : List L) (e : L × List L) → HasJoins is_value join place ds e → HasJoins is_value join place (drop n ds) e
-  has_less place n ds e h k small at fits =
+  has_less : (number n : ℕ) (ds : List L) (e : L × List L) → HasJoins is_value join number ds e → HasJoins is_value join number (drop n ds) e
+  has_less number n ds e h k small at fits =
       let left = length-drop n ds in
       let pos = pow_pos k in
       let had = h k small at (omega arith) in
@@ -93,8 +93,8 @@ module _ {L : Type 0} (is_value : L → Type 0) (join : L → L → L) where
       let many = length-map es (λ (x : L × List L). x.0) in
       let long = length-take (i + 1) (deltas_of es) in
       let at = aligned_below (base + (n + 1)) level (level + 1) (omega arith) both.aligned in
-      let place = aligned_before (base + (n + 1)) (base + (i + 1)) level (omega arith) at in
-      let had = h i e (omega arith) level (omega arith) place (omega arith) in
+      let number = aligned_before (base + (n + 1)) (base + (i + 1)) level (omega arith) at in
+      let had = h i e (omega arith) level (omega arith) number (omega arith) in
       let ds = take (i + 1) (deltas_of es) in
       let begins : length ds - 2 ^ level ≡ i + 1 - 2 ^ level = omega arith in
       subst (λ f. (level ≤ length f.1) × StandsFor is_value join (join_at f level) (drop (i + 1 - 2 ^ level) ds)) (sym is)
@@ -202,40 +202,40 @@ module _ {L : Type 0} (is_value : L → Type 0) (join : L → L → L) where
       }
 
   -- ---- intervals
-  -- from a place on, the longest block is kept where it ends
-  pub block_there : (count base place level i : ℕ) (es : List (L × List L)) (e : L × List L) → AreJoined is_value join base es → base + length es ≡ count → base ≤ place → place < count → IsLongest place (count - place) level → i ≡ place + 1 * 2 ^ level % 2 ^ 64 - base - 1 → e ≡ get_or es i e → (level ≤ length e.1) × StandsFor is_value join (join_at e level) (take (2 ^ level) (drop (place - base) (deltas_of es)))
-  block_there count base place level i es e h whole from before top to is =
+  -- from a number on, the longest block is kept where it ends
+  pub block_there : (count base number level i : ℕ) (es : List (L × List L)) (e : L × List L) → AreJoined is_value join base es → base + length es ≡ count → base ≤ number → number < count → IsLongest number (count - number) level → i ≡ number + 1 * 2 ^ level % 2 ^ 64 - base - 1 → e ≡ get_or es i e → (level ≤ length e.1) × StandsFor is_value join (join_at e level) (take (2 ^ level) (drop (number - base) (deltas_of es)))
+  block_there count base number level i es e h whole from before top to is =
       let pos = pow_pos level in
       let small = top.small in
       let fits = top.fits in
       let shifted = one_shl level 64 (omega arith) in
-      let had = kept_block base place level i es e h from small top.aligned (omega arith) (omega arith) in
-      subst (λ f. (level ≤ length f.1) × StandsFor is_value join (join_at f level) (take (2 ^ level) (drop (place - base) (deltas_of es)))) (sym is) had
+      let had = kept_block base number level i es e h from small top.aligned (omega arith) (omega arith) in
+      subst (λ f. (level ≤ length f.1) × StandsFor is_value join (join_at f level) (take (2 ^ level) (drop (number - base) (deltas_of es)))) (sym is) had
 
-  -- of the deltas from a on, those before a place are joined
-  pub record IsJoining (bottom : L) (base a count place : ℕ) (ds : List L) (joined : L) : Type 0 where
-    pub from : a ≤ place
-    pub to : place ≤ count
+  -- of the deltas from a on, those before a number are joined
+  pub record IsJoining (bottom : L) (base a count number : ℕ) (ds : List L) (joined : L) : Type 0 where
+    pub from : a ≤ number
+    pub to : number ≤ count
     pub value : is_value joined
-    pub rest : fold join joined (drop (place - base) ds) ≡ fold join bottom (drop (a - base) ds)
+    pub rest : fold join joined (drop (number - base) ds) ≡ fold join bottom (drop (a - base) ds)
 
   -- one block more
-  pub joining_one : {below : L → L → Type 0} → IsLattice is_value below join → (bottom : L) (base a count place end level : ℕ) (es : List (L × List L)) (joined x j : L) → base ≤ a → place < count → IsLongest place (count - place) level → end ≡ place + 1 * 2 ^ level % 2 ^ 64 → StandsFor is_value join x (take (2 ^ level) (drop (place - base) (deltas_of es))) → IsJoining bottom base a count place (deltas_of es) joined → j ≡ join joined x → IsJoining bottom base a count end (deltas_of es) j
-  joining_one laws bottom base a count place end level es joined x j low before top ends s h is =
+  pub joining_one : {below : L → L → Type 0} → IsLattice is_value below join → (bottom : L) (base a count number end level : ℕ) (es : List (L × List L)) (joined x j : L) → base ≤ a → number < count → IsLongest number (count - number) level → end ≡ number + 1 * 2 ^ level % 2 ^ 64 → StandsFor is_value join x (take (2 ^ level) (drop (number - base) (deltas_of es))) → IsJoining bottom base a count number (deltas_of es) joined → j ≡ join joined x → IsJoining bottom base a count end (deltas_of es) j
+  joining_one laws bottom base a count number end level es joined x j low before top ends s h is =
       let small = top.small in
       let fits = top.fits in
       let shifted = one_shl level 64 (omega arith) in
       let from = h.from in
-      let next : end - base ≡ (place - base) + 2 ^ level = omega arith in
+      let next : end - base ≡ (number - base) + 2 ^ level = omega arith in
       record {
         from = omega arith;
         to = omega arith;
         value = subst is_value (sym is) (laws.closed joined x h.value s.value);
-        rest = ap (λ y. fold join y (drop (end - base) (deltas_of es))) is ∙ (ap (λ n. fold join (join joined x) (drop n (deltas_of es))) next ∙ (block_joined (deltas_of es) (place - base) (2 ^ level) joined x h.value s ∙ h.rest));
+        rest = ap (λ y. fold join y (drop (end - base) (deltas_of es))) is ∙ (ap (λ n. fold join (join joined x) (drop n (deltas_of es))) next ∙ (block_joined (deltas_of es) (number - base) (2 ^ level) joined x h.value s ∙ h.rest));
       }
 
   -- in the end all are joined
-  pub joining_all : (bottom : L) (base a count place : ℕ) (ds : List L) (joined : L) → base + length ds ≡ count → count ≤ place → IsJoining bottom base a count place ds joined → joined ≡ fold join bottom (drop (a - base) ds)
-  joining_all bottom base a count place ds joined whole done h =
+  pub joining_all : (bottom : L) (base a count number : ℕ) (ds : List L) (joined : L) → base + length ds ≡ count → count ≤ number → IsJoining bottom base a count number ds joined → joined ≡ fold join bottom (drop (a - base) ds)
+  joining_all bottom base a count number ds joined whole done h =
       let to = h.to in
-      sym (ap (fold join joined) (drop_all (place - base) ds (omega arith))) ∙ h.rest
+      sym (ap (fold join joined) (drop_all (number - base) ds (omega arith))) ∙ h.rest

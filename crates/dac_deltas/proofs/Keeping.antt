@@ -4,9 +4,9 @@ use Rattle.std.proofs.Math.Nat.{mod-one}
 use Rattle.std.proofs.lemmas.List.{length-drop, length-append, length-map, length-take, drop-map, get_or-map, map-append}
 use Rattle.std.specs.List.{All}
 use Rattle.dac_base.specs.declared.limits.TheConstants.{MAX_COUNTER}
-use Rattle.dac_deltas.specs.Kept.{Kept, newest, pushed, trimmed}
+use Rattle.dac_deltas.specs.KeptDeltas.{KeptDeltas, newest, pushed, trimmed}
 use Rattle.dac_deltas.specs.laws.Logs.{same_kept, pushes_drop_together}
-use Rattle.dac_deltas.specs.Endings.{HasJoins, AreJoined, IsKept, deltas_of}
+use Rattle.dac_deltas.specs.BlockEnds.{HasJoins, AreJoined, IsKept, deltas_of}
 use Rattle.dac_deltas.proofs.Joining.{joined_push, joined_drop}
 use Rattle.dac_deltas.specs.declared.buffer.TheConstants.{MAX_DELTAS}
 
@@ -92,10 +92,10 @@ module _ {L : Type 0} (is_value : L → Type 0) (join : L → L → L) where
         same_kept _ _ _ _ _ _ refl (omega arith) (ap deltas_of dropped ∙ (sym (drop-map (λ (x : L × List L). x.0) m es) ∙ ap (λ k. drop k (deltas_of es)) same))
 
     -- the base that contracts see
-    pub base_is : (k : Kept L) (b : ℕ) → newest count (deltas_of es) ≡ k → b ≡ k.base → b ≡ count - length es
+    pub base_is : (k : KeptDeltas L) (b : ℕ) → newest count (deltas_of es) ≡ k → b ≡ k.base → b ≡ count - length es
     base_is k b shown is =
         let many = length-map es (λ (x : L × List L). x.0) in
-        let same = ap (λ (k : Kept L). k.base) shown in
+        let same = ap (λ (k : KeptDeltas L). k.base) shown in
         omega arith
 
     -- one more ending

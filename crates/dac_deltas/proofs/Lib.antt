@@ -1,5 +1,5 @@
 mod Keeping
-mod Places
+mod Levels
 mod Few
 mod Joining
 mod Listing

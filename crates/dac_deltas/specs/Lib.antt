@@ -1,6 +1,6 @@
-pub mod Kept
+pub mod KeptDeltas
 pub mod Blocks
-pub mod Endings
+pub mod BlockEnds
 pub mod Logs
 pub mod Numbers
 pub mod laws

@@ -2,20 +2,20 @@
 -- those of such a log.
 use Rattle.std.specs.Prelude.{◌≡◌, ◌<◌, ◌≤◌, ℕ, ◌+◌, ◌-◌, List, [], ◌∷◌, ◌++◌, length, drop, fold, min, max, Some, None}
 use Rattle.std.specs.List.{All}
-use Rattle.dac_deltas.specs.Kept.{Kept, IsJoinOf, empty, pushed, trimmed, interval_of}
+use Rattle.dac_deltas.specs.KeptDeltas.{KeptDeltas, IsJoinOf, empty, pushed, trimmed, interval_of}
 use Rattle.dac_deltas.specs.declared.buffer.TheConstants.{MAX_DELTAS}
 
 -- what is kept of a log, where those below the base are dropped
-abbrev pub kept_of : {L : Type 0} → ℕ → List L → Kept L
+abbrev pub kept_of : {L : Type 0} → ℕ → List L → KeptDeltas L
 kept_of base log = record { count = length log; base = base; deltas = drop base log }
 
 -- the same, where all but the newest 256 are dropped too
-abbrev pub newest_of : {L : Type 0} → ℕ → List L → Kept L
+abbrev pub newest_of : {L : Type 0} → ℕ → List L → KeptDeltas L
 newest_of base log = kept_of (max base (length log - MAX_DELTAS)) log
 
 -- a buffer begins as the empty log
 abbrev pub EmptyIsOfNothing : Type 0 → Type 0
-EmptyIsOfNothing L = ◌≡◌ {A = Kept L} empty (kept_of 0 [])
+EmptyIsOfNothing L = ◌≡◌ {A = KeptDeltas L} empty (kept_of 0 [])
 
 -- a push appends to the log, and drops all but the newest 256
 abbrev pub PushesAppend : Type 0 → Type 0

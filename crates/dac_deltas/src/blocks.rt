@@ -1,7 +1,7 @@
 //! Aligned blocks of deltas, and what is kept of each delta.
 ghost use Rattle.std.specs.Prelude.{◌≡◌, ◌+◌, ◌<◌, ◌≤◌, ◌++◌, ◌∷◌, [], length, take, IfOk, OnOk, slice_index_or};
 ghost use Rattle.dac_deltas.specs.Blocks.{IsLongest};
-ghost use Rattle.dac_deltas.specs.Endings.{HasJoins, AreJoined, deltas_of, join_at};
+ghost use Rattle.dac_deltas.specs.BlockEnds.{HasJoins, AreJoined, deltas_of, join_at};
 
 use dac_base::{MAX_COUNTER, NoMemory};
 use dac_lattice::Lattice;
@@ -12,15 +12,15 @@ use std::marker::Model;
 /// The level of the longest blocks, which have 256 deltas.
 pub(crate) const MOST_LEVEL: usize = 8;
 
-/// The level of the longest aligned block that begins at a place, or that ends there, with at most so many
+/// The level of the longest aligned block that begins at a number, or that ends there, with at most so many
 /// deltas. It has 2^level of them.
-pub(crate) fn level_at(place: u64, most: u64) -> usize
+pub(crate) fn level_at(number: u64, most: u64) -> usize
     requires { 0 < most }
-    ensures { IsLongest place most result }
+    ensures { IsLongest number most result }
 {
     let mut level = 0;
     let mut longer = 2;
-    while level < MOST_LEVEL && longer <= most && place % longer == 0 {
+    while level < MOST_LEVEL && longer <= most && number % longer == 0 {
         level += 1;
         longer *= 2;
     }
@@ -30,12 +30,12 @@ pub(crate) fn level_at(place: u64, most: u64) -> usize
 /// A delta that is kept, and the joins of the blocks of 2 deltas and more that end with it, the shortest
 /// block first. Contracts see the delta and the joins.
 #[derive(Drop)]
-pub(crate) struct Ending<L: Lattice> {
+pub(crate) struct BlockEnd<L: Lattice> {
     delta: L,
     joins: Vec<L>,
 }
 
-impl<L: Lattice> Model for Ending<L> {
+impl<L: Lattice> Model for BlockEnd<L> {
     ghost use Rattle.std.specs.Prelude.{List};
 
     ghost Value = { L × List L };
@@ -56,7 +56,7 @@ fn longest<'a, L>(delta: &'a L, joins: &'a [L]) -> &'a L
 /// The joins of all blocks of 2 deltas and more that end with a delta, where it comes next after those that are kept.
 fn joins_after<L: Lattice>(
     alloc: Global,
-    kept: &VecDeque<Ending<L>>,
+    kept: &VecDeque<BlockEnd<L>>,
     base: u64,
     delta: &L,
 ) -> Result<Vec<L>, NoMemory>
@@ -87,7 +87,7 @@ fn copy_all<L: Lattice>(alloc: Global, values: &[L]) -> Result<Vec<L>, NoMemory>
     Ok(copied)
 }
 
-impl<L: Lattice> Ending<L> {
+impl<L: Lattice> BlockEnd<L> {
     /// The join of the block of 2^level deltas that ends with this one.
     pub(crate) fn block(&self, level: usize) -> &L
         requires { level ≤ length self.now.1 }
@@ -103,7 +103,7 @@ impl<L: Lattice> Ending<L> {
     /// of kept deltas that end with it. [`NoMemory`] is the only error.
     pub(crate) fn next(
         alloc: Global,
-        kept: &VecDeque<Ending<L>>,
+        kept: &VecDeque<BlockEnd<L>>,
         base: u64,
         delta: L,
     ) -> Result<Self, NoMemory>
@@ -114,14 +114,14 @@ impl<L: Lattice> Ending<L> {
             (deltas_of kept.now.items ++ delta ∷ [])) }
     {
         let joins = joins_after(alloc, kept, base, &delta)?;
-        Ok(Ending { delta, joins })
+        Ok(BlockEnd { delta, joins })
     }
 
     /// A copy. [`NoMemory`] is the only error.
     pub(crate) fn copy(&self) -> Result<Self, NoMemory>
         ensures { IfOk result (λ copied. copied ≡ self.now) }
     {
-        Ok(Ending {
+        Ok(BlockEnd {
             delta: self.delta.copy()?,
             joins: copy_all(*self.joins.allocator(), &self.joins)?,
         })
@@ -131,7 +131,7 @@ impl<L: Lattice> Ending<L> {
 /// Adds deltas after those that are kept. Where memory is refused, only some are added.
 pub(crate) fn add_all<L: Lattice>(
     alloc: Global,
-    kept: &mut VecDeque<Ending<L>>,
+    kept: &mut VecDeque<BlockEnd<L>>,
     base: u64,
     deltas: Vec<L>,
 ) -> Result<(), NoMemory>
@@ -143,7 +143,7 @@ pub(crate) fn add_all<L: Lattice>(
     ensures before { take (length kept.old.items) kept.new.items ≡ kept.old.items }
 {
     for delta in deltas {
-        let ending = Ending::next(alloc, kept, base, delta)?;
+        let ending = BlockEnd::next(alloc, kept, base, delta)?;
         kept.push_back(ending)?;
     }
     Ok(())

@@ -1,11 +1,11 @@
 //! The newest deltas, by number.
 ghost use Rattle.std.specs.Prelude.{◌≡◌, ◌+◌, ◌-◌, ◌*◌, ◌<◌, ◌≤◌, fold, drop, length, Ok, None, Some, OnOk, OnErr, IfOk, IfSome, IsSome, unwrap_or};
-ghost use Rattle.dac_deltas.specs.Kept.{IsBuffer, empty, pushed, trimmed, numbered_from, interval_of, IsJoinOf};
+ghost use Rattle.dac_deltas.specs.KeptDeltas.{IsBuffer, empty, pushed, trimmed, numbered_from, interval_of, IsJoinOf};
 ghost use Rattle.dac_deltas.specs.Blocks.{AreBlocks};
 ghost use Rattle.dac_deltas.specs.declared.blocks.TheConstants.{MOST_LEVEL};
 ghost use Rattle.dac_deltas.specs.declared.buffer.TheConstants.{MAX_DELTAS};
 
-use crate::blocks::{Ending, MOST_LEVEL, add_all, level_at};
+use crate::blocks::{BlockEnd, MOST_LEVEL, add_all, level_at};
 use dac_base::{MAX_COUNTER, NoMemory};
 use dac_lattice::{Bottom, Lattice};
 use std::alloc::Global;
@@ -26,15 +26,15 @@ pub const MAX_DELTAS: usize = 1 << MOST_LEVEL;
 pub struct Buffer<L: Bottom> {
     alloc: Global,
     count: u64,
-    kept: VecDeque<Ending<L>>,
+    kept: VecDeque<BlockEnd<L>>,
     ready: Option<(u64, L)>,
 }
 
 impl<L: Bottom> Model for Buffer<L> {
-    ghost use Rattle.dac_deltas.specs.Kept.{Kept, newest};
-    ghost use Rattle.dac_deltas.specs.Endings.{IsHeld, deltas_of};
+    ghost use Rattle.dac_deltas.specs.KeptDeltas.{KeptDeltas, newest};
+    ghost use Rattle.dac_deltas.specs.BlockEnds.{IsHeld, deltas_of};
 
-    ghost Value = { Kept L };
+    ghost Value = { KeptDeltas L };
 
     ghost view = { λ b. newest b.count (deltas_of b.kept.items) };
 
@@ -42,7 +42,7 @@ impl<L: Bottom> Model for Buffer<L> {
 }
 
 /// Drops all but the newest 256.
-fn keep_newest<L: Bottom>(kept: &mut VecDeque<Ending<L>>)
+fn keep_newest<L: Bottom>(kept: &mut VecDeque<BlockEnd<L>>)
     ensures { kept.new.items ≡ drop (length kept.old.items - MAX_DELTAS) kept.old.items }
 {
     let dropped = kept.len().saturating_sub(MAX_DELTAS);
@@ -126,7 +126,7 @@ impl<L: Bottom> Buffer<L> {
         ensures err { OnErr result (self.new ≡ self.old) }
     {
         let base = self.base();
-        let ending = Ending::next(self.alloc, &self.kept, base, delta)?;
+        let ending = BlockEnd::next(self.alloc, &self.kept, base, delta)?;
         self.kept.push_back(ending)?;
         self.ready = None;
         self.count += 1;

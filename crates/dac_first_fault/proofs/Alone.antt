@@ -8,13 +8,13 @@ use Rattle.dac_tokens.specs.declared.fault.FaultKind.TheVariants as kind
 use Rattle.dac_tokens.specs.declared.fault.ConfigFault.{ConfigFault}
 use Rattle.dac_tokens.specs.declared.token.Symbol.{Symbol}
 use Rattle.dac_tokens.specs.declared.token.Symbol.TheVariants.{CloseList, CloseTuple}
-use Rattle.dac_tokens.specs.Words.{Word, Mark, Name, Number, Text, End, Located}
+use Rattle.dac_tokens.specs.Words.{Word, Punctuation, Name, Number, Text, End, Located}
 use Rattle.dac_tokens.specs.Stream.{Stream, ended as ended_by, stopped}
 use Rattle.dac_tokens.specs.TokenGrammar.{AreTokensOf}
 use Rattle.dac_tokens.specs.TokenFaults.{StopAt}
 use Rattle.dac_shapes.specs.Written.{Section}
 use Rattle.dac_shapes.specs.Grammar.{IsFile}
-use Rattle.dac_first_fault.specs.FirstFault.{StandsAt, Itself, InList, InTuple, CanBring, words, IsWell, IsWithin, IsNoName, Only, Before, IsOfName, Breaks, rank, BeginsWith, IsFaultOf, Long, NoToken, Token, Ends, Nobody, CanBeginLoosely, Spoils, Brings, apps_in}
+use Rattle.dac_first_fault.specs.FirstFault.{StandsAt, Itself, InList, InTuple, CanBring, words, IsWell, IsFileWithinLimits, IsNoName, Only, Before, IsOfName, Breaks, rank, BeginsWith, IsFaultOf, Long, NoToken, Token, Ends, Nobody, CanBeginLoosely, Spoils, Brings, apps_in}
 use Rattle.dac_first_fault.proofs.Order.{words_append, well_so_far}
 use Rattle.dac_first_fault.proofs.Places.{name_or_not}
 use Rattle.dac_first_fault.proofs.Fewer.{keeps_fewer}
@@ -36,12 +36,12 @@ can_kind kind.Unsupported w name is can = let wrong : Name name ≡ Text = sym i
 can_kind kind.NumberTooLarge w name is can = let wrong : Name name ≡ Number false can.0 = sym is ∙ can.1 in absurd cc
 can_kind _ w name is can = absurd can
 
-no_mark : (w : Word) (name : List ℕ) (x : Symbol) → w ≡ Name name → w ≡ Mark x → ⊥
-no_mark w name x is other = let wrong : Name name ≡ Mark x = sym is ∙ other in absurd cc
+no_mark : (w : Word) (name : List ℕ) (x : Symbol) → w ≡ Name name → w ≡ Punctuation x → ⊥
+no_mark w name x is other = let wrong : Name name ≡ Punctuation x = sym is ∙ other in absurd cc
 
 -- the fault of a name stands at it
 name_kind : (a : List Located) (l : Located) (e : ConfigFault) (name : List ℕ) → l.word ≡ Name name → StandsAt a l e → (e.at ≡ l.at) × IsNameKind e.kind
-name_kind a l e name is (Itself place can) = (place, can_kind e.kind l.word name is can)
+name_kind a l e name is (Itself offset can) = (offset, can_kind e.kind l.word name is can)
 name_kind a l e name is (InList front o parts w v k) = absurd (no_mark l.word name _ is v)
 name_kind a l e name is (InTuple front o parts w v k) = absurd (no_mark l.word name _ is v)
 
@@ -93,7 +93,7 @@ same_fault e f k n = ap (λ (k : FaultKind). record { kind = k; at = e.at }) k �
 
 -- ---- one token that is no name brings one fault
 
--- what a token that is no name can bring at its own place
+-- what a token that is no name can bring at its own offset
 abbrev IsPlainKind : FaultKind → Word → Type 0
 IsPlainKind k w = (k ≡ kind.BadShape) ⊎ (((k ≡ kind.Unsupported) × (w ≡ Text)) ⊎ ((k ≡ kind.NumberTooLarge) × ((digits : List ℕ) × (w ≡ Number false digits))))
 
@@ -112,12 +112,12 @@ module _ (ws : List Word) (w : Word) where
   no_text : (digits : List ℕ) → w ≡ Text → w ≡ Number false digits → ⊥
   no_text digits a b = let wrong : Text ≡ Number false digits = sym a ∙ b in absurd cc
 
-  no_closing : (k : FaultKind) (x : Symbol) → w ≡ Mark x → IsPlainKind k w → k ≡ kind.BadShape
+  no_closing : (k : FaultKind) (x : Symbol) → w ≡ Punctuation x → IsPlainKind k w → k ≡ kind.BadShape
   no_closing k x is plain = elim plain [
     | inl shape ↦ shape
     | inr other ↦ elim other [
-      | inl text ↦ let wrong : Mark x ≡ Text = sym is ∙ text.1 in absurd cc
-      | inr number ↦ let wrong : Mark x ≡ Number false number.1.0 = sym is ∙ number.1.1 in absurd cc
+      | inl text ↦ let wrong : Punctuation x ≡ Text = sym is ∙ text.1 in absurd cc
+      | inr number ↦ let wrong : Punctuation x ≡ Number false number.1.0 = sym is ∙ number.1.1 in absurd cc
     ]
   ]
 
@@ -161,7 +161,7 @@ none_more (u ∷ a) l e = cc
 
 spoils_of : (w : Word) (ws : List Word) (k : FaultKind) → IsNoName w → Brings w ws k → Spoils ws k
 spoils_of (Name name) ws k no_name brings = absurd no_name
-spoils_of (Mark symbol) ws k no_name brings = brings
+spoils_of (Punctuation symbol) ws k no_name brings = brings
 spoils_of (Number negative digits) ws k no_name brings = brings
 spoils_of Text ws k no_name brings = brings
 spoils_of End ws k no_name brings = brings
@@ -178,11 +178,11 @@ module _ (before : List Located) (t : Located) (no_name : IsNoName t.word) where
   abbrev ws : List Word
   ws = words before ++ t.word ∷ []
 
-  shape_not : (e f : ConfigFault) (x : Symbol) → t.word ≡ Mark x → CanBring e.kind t.word → Spoils ws e.kind → CanBeginLoosely ws → ⊥
+  shape_not : (e f : ConfigFault) (x : Symbol) → t.word ≡ Punctuation x → CanBring e.kind t.word → Spoils ws e.kind → CanBeginLoosely ws → ⊥
   shape_not e f x is can told loosely = subst (λ (k : FaultKind). Spoils ws k) (no_closing ws t.word e.kind x is (plain_kind e.kind t.word can no_name)) told loosely
 
-  no_two : (x y : Symbol) → t.word ≡ Mark x → t.word ≡ Mark y → x ≡ y
-  no_two x y a b = let same : Mark x ≡ Mark y = sym a ∙ b in cc
+  no_two : (x y : Symbol) → t.word ≡ Punctuation x → t.word ≡ Punctuation y → x ≡ y
+  no_two x y a b = let same : Punctuation x ≡ Punctuation y = sym a ∙ b in cc
 
   list_told : (e : ConfigFault) (o : Located) → e ≡ record { kind = kind.EmptyList; at = o.at } → Spoils ws e.kind → CanBeginLoosely ws
   list_told e o is told = subst (λ (f : ConfigFault). Spoils ws f.kind) is told
@@ -190,7 +190,7 @@ module _ (before : List Located) (t : Located) (no_name : IsNoName t.word) where
   tuple_told : (e : ConfigFault) (o : Located) → e ≡ record { kind = kind.EmptyTuple; at = o.at } → Spoils ws e.kind → CanBeginLoosely ws
   tuple_told e o is told = subst (λ (f : ConfigFault). Spoils ws f.kind) is told
 
-  closes_one : t.word ≡ Mark CloseList → t.word ≡ Mark CloseTuple → ⊥
+  closes_one : t.word ≡ Punctuation CloseList → t.word ≡ Punctuation CloseTuple → ⊥
   closes_one a b = let wrong : CloseList ≡ CloseTuple = no_two CloseList CloseTuple a b in absurd cc
 
   one_here : (e f : ConfigFault) → Spoils ws e.kind → Spoils ws f.kind → StandsAt before t e → StandsAt before t f → e ≡ f
@@ -226,7 +226,7 @@ order_of (u ∷ a) l b (v ∷ c) m d e = let p = cons_both u v (a ++ l ∷ b) (c
 well_to : (a : List Located) (l : Located) (b : List Located) → IsWell (words (a ++ l ∷ b)) → IsWell (words a ++ l.word ∷ [])
 well_to a l b w = well_so_far (words a ++ l.word ∷ []) (words b) (subst IsWell (words_append a (l ∷ b) ∙ sym (append_assoc (words a) (l.word ∷ []) (words b))) w)
 
-well_within : (ws : List Word) → IsWithin ws → IsWell ws
+well_within : (ws : List Word) → IsFileWithinLimits ws → IsWell ws
 well_within ws is =
     let file : IsFile (ws ++ []) is.sections = subst (λ (l : List Word). IsFile l is.sections) (sym (append-nil ws)) is.file in
     record {
@@ -257,7 +257,7 @@ module _ (text : List ℕ) (s : Stream) (spelled : (ts : List Located) → (AreT
   pub data AtEnd (e : ConfigFault) : Type 0 where
     Stopped : s ≡ stopped s.tokens e → AtEnd e
     NoFile : s ≡ ended_by (length text) s.tokens → ((sections : List Section) → IsFile (words s.tokens) sections → ⊥) → e ≡ record { kind = kind.BadShape; at = length text } → AtEnd e
-    Empty : s ≡ ended_by (length text) s.tokens → IsWithin (words s.tokens) → ((is : IsWithin (words s.tokens)) → apps_in is.sections ≡ 0) → e ≡ record { kind = kind.NoDistributed; at = length text } → AtEnd e
+    Empty : s ≡ ended_by (length text) s.tokens → IsFileWithinLimits (words s.tokens) → ((is : IsFileWithinLimits (words s.tokens)) → apps_in is.sections ≡ 0) → e ≡ record { kind = kind.NoDistributed; at = length text } → AtEnd e
 
   pub data Cause (e : ConfigFault) : Type 0 where
     TooFar : 65536 < length text → e ≡ record { kind = kind.TooLong; at = 65536 } → Cause e
@@ -291,8 +291,8 @@ module _ (text : List ℕ) (s : Stream) (spelled : (ts : List Located) → (AreT
       let same = sym (tokens_in ts tokens) in
       Final short (subst (λ (ts : List Located). IsWell (words ts)) same well) (NoFile (ended_so ts tokens) (subst (λ (ts : List Located). (sections : List Section) → IsFile (words ts) sections → ⊥) same none) is)
   cause_of e (Nobody ts short tokens within none is) =
-      let all : IsWithin (words s.tokens) = subst (λ (ts : List Located). IsWithin (words ts)) (sym (tokens_in ts tokens)) within in
-      Final short (well_within (words s.tokens) all) (Empty (ended_so ts tokens) all (subst (λ (ts : List Located). (is : IsWithin (words ts)) → apps_in is.sections ≡ 0) (sym (tokens_in ts tokens)) none) is)
+      let all : IsFileWithinLimits (words s.tokens) = subst (λ (ts : List Located). IsFileWithinLimits (words ts)) (sym (tokens_in ts tokens)) within in
+      Final short (well_within (words s.tokens) all) (Empty (ended_so ts tokens) all (subst (λ (ts : List Located). (is : IsFileWithinLimits (words ts)) → apps_in is.sections ≡ 0) (sym (tokens_in ts tokens)) none) is)
 
   pub not_final : (e : ConfigFault) → ByToken e → IsWell (words s.tokens) → ⊥
   not_final e b w = b.not_well (well_to b.before b.t b.rest (subst (λ (ts : List Located). IsWell (words ts)) b.whole w))

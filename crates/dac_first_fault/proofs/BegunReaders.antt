@@ -7,12 +7,12 @@ use Rattle.dac_tokens.specs.declared.fault.ConfigFault.{ConfigFault}
 use Rattle.dac_tokens.specs.declared.fault.FaultKind.TheVariants.{BadShape, EmptyList, EmptyTuple, TwiceInList, TwiceApp, TooManyApps, TooManyNodes, NumberTooLarge, NameTooLong}
 use Rattle.dac_tokens.specs.declared.token.Symbol.TheVariants.{OpenList, CloseList, OpenTuple, CloseTuple, Comma}
 use Rattle.dac_tokens.specs.Gives.{◌>>=◌}
-use Rattle.dac_tokens.specs.Words.{Word, Mark, Name, Number, Text, End, Located}
+use Rattle.dac_tokens.specs.Words.{Word, Punctuation, Name, Number, Text, End, Located}
 use Rattle.dac_shapes.specs.declared.draft.SyncWait.TheVariants.{Forever, Ms}
 use Rattle.dac_shapes.specs.Written.{App, Permission}
 use Rattle.dac_shapes.specs.Limits.{is_among, with_node, listing}
 use Rattle.dac_tokens.specs.Digits.{value_from}
-use Rattle.dac_shapes.specs.Shape.{State, fails, is_mark, token, symbol_at, atom_of, short_name_of, milliseconds_of, wait_of, flag_of, app_name_of, node_of, names_at, item_at, items_at, groups_at, timeout_at, app_value_at, app_at, permission_value_at, permission_at, closed, room}
+use Rattle.dac_shapes.specs.Shape.{State, fails, is_symbol, token, symbol_at, atom_of, short_name_of, milliseconds_of, wait_of, flag_of, app_name_of, node_of, names_at, item_at, items_at, groups_at, timeout_at, app_value_at, app_at, permission_value_at, permission_at, closed, room}
 use Rattle.dac_shapes.specs.Grammar.{Parted, IsNode, IsItem, IsNodeList, IsMs, IsTimeout, IsAppValue, IsApp, IsFlag, IsPermission, IsWait}
 use Rattle.dac_shapes.specs.laws.Names.{is_named}
 use Rattle.dac_first_fault.proofs.Steps.{mark_is}
@@ -30,23 +30,23 @@ word_before Is w b = record { more = w ∷ b.more; x = b.x; is = b.is }
 
 -- the words of a pair of this name
 abbrev pub pair_of : List ℕ → List Word → List Word
-pair_of name value = Mark OpenTuple ∷ Name name ∷ Mark Comma ∷ value ++ Mark CloseTuple ∷ []
+pair_of name value = Punctuation OpenTuple ∷ Name name ∷ Punctuation Comma ∷ value ++ Punctuation CloseTuple ∷ []
 
-pub pair_is : (w : Word) (name : List ℕ) (vs v : List Word) → w ≡ Name name → vs ≡ v ++ Mark CloseTuple ∷ [] → Mark OpenTuple ∷ w ∷ Mark Comma ∷ vs ≡ pair_of name v
-pair_is w name vs v e f = ap (λ (u : Word). Mark OpenTuple ∷ u ∷ Mark Comma ∷ vs) e ∙ ap (λ (l : List Word). Mark OpenTuple ∷ Name name ∷ Mark Comma ∷ l) f
+pub pair_is : (w : Word) (name : List ℕ) (vs v : List Word) → w ≡ Name name → vs ≡ v ++ Punctuation CloseTuple ∷ [] → Punctuation OpenTuple ∷ w ∷ Punctuation Comma ∷ vs ≡ pair_of name v
+pair_is w name vs v e f = ap (λ (u : Word). Punctuation OpenTuple ∷ u ∷ Punctuation Comma ∷ vs) e ∙ ap (λ (l : List Word). Punctuation OpenTuple ∷ Name name ∷ Punctuation Comma ∷ l) f
 
 -- ---- names
 
 abbrev pub IsName : Word → List ℕ → Type 0
 IsName w name = w ≡ Name name
 
-atom_by : (w : Word) (place : ℕ) → Looks (IsName w) (atom_of (record { word = w; at = place }))
+atom_by : (w : Word) (offset : ℕ) → Looks (IsName w) (atom_of (record { word = w; at = offset }))
 unfolding atom_of
-atom_by (Name name) place = refl
-atom_by (Mark symbol) place = λ h. h
-atom_by (Number negative digits) place = λ h. h
-atom_by Text place = λ h. h
-atom_by End place = λ h. h
+atom_by (Name name) offset = refl
+atom_by (Punctuation symbol) offset = λ h. h
+atom_by (Number negative digits) offset = λ h. h
+atom_by Text offset = λ h. h
+atom_by End offset = λ h. h
 
 pub atom_looks : (t : Located) → Looks (IsName t.word) (atom_of t)
 atom_looks t = atom_by t.word t.at
@@ -78,21 +78,21 @@ not_less true true v e f z = z refl
 not_less true false v e f z = absurd cc
 not_less false d v e f z = absurd cc
 
-pub ms_looks : (place : ℕ) (negative : Bool) (digits : List ℕ) → Looks (IsMs (Number negative digits)) (milliseconds_of place negative (value_from 0 digits))
-ms_looks place negative digits =
+pub ms_looks : (offset : ℕ) (negative : Bool) (digits : List ℕ) → Looks (IsMs (Number negative digits)) (milliseconds_of offset negative (value_from 0 digits))
+ms_looks offset negative digits =
     let v = value_from 0 digits in
-    looks_if (IsMs (Number negative digits)) (negative && not (eqb v 0)) (fails BadShape place) (cond (ltb v 4294967296) (Ok v) (fails NumberTooLarge place)) (λ below h. h)
-    (λ above. looks_if (IsMs (Number negative digits)) (ltb v 4294967296) (Ok v) (fails NumberTooLarge place) (λ small. (negative, digits, refl, refl, ltb-true v 4294967296 small, λ n. not_less negative (eqb v 0) v n above (λ z. eqb-true v 0 z))) (λ large h. h))
+    looks_if (IsMs (Number negative digits)) (negative && not (eqb v 0)) (fails BadShape offset) (cond (ltb v 4294967296) (Ok v) (fails NumberTooLarge offset)) (λ below h. h)
+    (λ above. looks_if (IsMs (Number negative digits)) (ltb v 4294967296) (Ok v) (fails NumberTooLarge offset) (λ small. (negative, digits, refl, refl, ltb-true v 4294967296 small, λ n. not_less negative (eqb v 0) v n above (λ z. eqb-true v 0 z))) (λ large h. h))
 
-wait_by : (w : Word) (place : ℕ) → Looks (λ wait. IsWait (w ∷ []) wait) (wait_of (record { word = w; at = place }))
+wait_by : (w : Word) (offset : ℕ) → Looks (λ wait. IsWait (w ∷ []) wait) (wait_of (record { word = w; at = offset }))
 unfolding wait_of
-wait_by (Number negative digits) place =
-    looks_then (IsMs (Number negative digits)) (λ wait. IsWait (Number negative digits ∷ []) wait) (milliseconds_of place negative (value_from 0 digits)) (λ n. Ok (Ms n)) (ms_looks place negative digits) (λ n is. (Number negative digits, refl, is))
-wait_by (Name name) place =
-    looks_if (λ wait. IsWait (Name name ∷ []) wait) (bytes_eq name (codes "infinity")) (Ok Forever) (fails BadShape place) (λ is. ap (λ (n : List ℕ). Name n ∷ []) (is_named name (codes "infinity") is)) (λ other h. h)
-wait_by (Mark symbol) place = λ h. h
-wait_by Text place = λ h. h
-wait_by End place = λ h. h
+wait_by (Number negative digits) offset =
+    looks_then (IsMs (Number negative digits)) (λ wait. IsWait (Number negative digits ∷ []) wait) (milliseconds_of offset negative (value_from 0 digits)) (λ n. Ok (Ms n)) (ms_looks offset negative digits) (λ n is. (Number negative digits, refl, is))
+wait_by (Name name) offset =
+    looks_if (λ wait. IsWait (Name name ∷ []) wait) (bytes_eq name (codes "infinity")) (Ok Forever) (fails BadShape offset) (λ is. ap (λ (n : List ℕ). Name n ∷ []) (is_named name (codes "infinity") is)) (λ other h. h)
+wait_by (Punctuation symbol) offset = λ h. h
+wait_by Text offset = λ h. h
+wait_by End offset = λ h. h
 
 pub wait_looks : (t : Located) → Looks (λ wait. IsWait (t.word ∷ []) wait) (wait_of t)
 wait_looks t = wait_by t.word t.at
@@ -127,23 +127,23 @@ abbrev Item : List Word → List (List ℕ) × State → Type 0
 Item own x = IsItem own x.0
 
 abbrev InTuple : List Word → List (List ℕ) × State → Type 0
-InTuple vs x = IsItem (Mark OpenTuple ∷ vs) x.0
+InTuple vs x = IsItem (Punctuation OpenTuple ∷ vs) x.0
 
-in_tuple : (vs : List Word) (ys xs : List (List ℕ)) (inner : List Word) → vs ≡ inner ++ Mark CloseTuple ∷ [] → ys ≡ xs → Parted IsNode inner xs → IsItem (Mark OpenTuple ∷ vs) ys
-in_tuple vs ys xs inner e f p = inr (inner, ap (λ (l : List Word). Mark OpenTuple ∷ l) e, subst (λ (l : List (List ℕ)). Parted IsNode inner l) (sym f) p)
+in_tuple : (vs : List Word) (ys xs : List (List ℕ)) (inner : List Word) → vs ≡ inner ++ Punctuation CloseTuple ∷ [] → ys ≡ xs → Parted IsNode inner xs → IsItem (Punctuation OpenTuple ∷ vs) ys
+in_tuple vs ys xs inner e f p = inr (inner, ap (λ (l : List Word). Punctuation OpenTuple ∷ l) e, subst (λ (l : List (List ℕ)). Parted IsNode inner l) (sym f) p)
 
-tuple_sees : (t : Located) (s : State) → IsShort s → Sees by_pair InTuple (words_in s) (token s >>= λ first. cond (is_mark CloseTuple first.0.word) (fails EmptyTuple t.at) (names_at false CloseTuple first.0 first.1))
+tuple_sees : (t : Located) (s : State) → IsShort s → Sees by_pair InTuple (words_in s) (token s >>= λ first. cond (is_symbol CloseTuple first.0.word) (fails EmptyTuple t.at) (names_at false CloseTuple first.0 first.1))
 tuple_sees t s short =
-    token_then by_pair InTuple s (λ first. cond (is_mark CloseTuple first.0.word) (fails EmptyTuple t.at) (names_at false CloseTuple first.0 first.1)) short (record { more = Name [] ∷ Mark CloseTuple ∷ []; x = ([] ∷ [], blank); is = inr (Name [] ∷ [], refl, refl) })
-    (λ f u short. chosen by_pair InTuple (f.word ∷ words_in u) (is_mark CloseTuple f.word) (fails EmptyTuple t.at) (names_at false CloseTuple f u) (λ none h. absurd h)
+    token_then by_pair InTuple s (λ first. cond (is_symbol CloseTuple first.0.word) (fails EmptyTuple t.at) (names_at false CloseTuple first.0 first.1)) short (record { more = Name [] ∷ Punctuation CloseTuple ∷ []; x = ([] ∷ [], blank); is = inr (Name [] ∷ [], refl, refl) })
+    (λ f u short. chosen by_pair InTuple (f.word ∷ words_in u) (is_symbol CloseTuple f.word) (fails EmptyTuple t.at) (names_at false CloseTuple f u) (λ none h. absurd h)
     (λ some. weaker by_pair (IsRun IsNode some_node CloseTuple (λ _. node_of false) (λ _. node_sees false) []) InTuple (λ vs ys r. in_tuple vs ys.0 r.0 r.1 r.2 r.3 r.4) (f.word ∷ words_in u) (names_at false CloseTuple f u) (list_sees IsNode some_node CloseTuple (λ _. node_of false) (λ _. node_sees false) (room u) [] f u short)))
 
 item_sees : (t : Located) (s : State) → IsShort s → Seen IsItem (t.word ∷ words_in s) (item_at t s)
 unfolding item_at
 item_sees t s short =
-    let tuple : Result (List (List ℕ) × State) ConfigFault = token s >>= λ first. cond (is_mark CloseTuple first.0.word) (fails EmptyTuple t.at) (names_at false CloseTuple first.0 first.1) in
-    chosen by_pair Item (t.word ∷ words_in s) (is_mark OpenTuple t.word) tuple (node_of false t s >>= λ name. Ok (name.0 ∷ [], name.1))
-    (λ e. subst (λ (w : Word). Sees by_pair Item (w ∷ words_in s) tuple) (sym (mark_is OpenTuple t.word e)) (shifted by_pair Item (Mark OpenTuple ∷ []) (words_in s) tuple (tuple_sees t s short)))
+    let tuple : Result (List (List ℕ) × State) ConfigFault = token s >>= λ first. cond (is_symbol CloseTuple first.0.word) (fails EmptyTuple t.at) (names_at false CloseTuple first.0 first.1) in
+    chosen by_pair Item (t.word ∷ words_in s) (is_symbol OpenTuple t.word) tuple (node_of false t s >>= λ name. Ok (name.0 ∷ [], name.1))
+    (λ e. subst (λ (w : Word). Sees by_pair Item (w ∷ words_in s) tuple) (sym (mark_is OpenTuple t.word e)) (shifted by_pair Item (Punctuation OpenTuple ∷ []) (words_in s) tuple (tuple_sees t s short)))
     (λ e. made_sees IsNode IsItem (λ name. name ∷ []) (λ own name is. inl (name, is, refl)) (t.word ∷ words_in s) (node_of false t s) (node_sees false t s short))
 
 some_item : Begun IsItem []
@@ -152,24 +152,24 @@ some_item = record { more = Name [] ∷ []; x = [] ∷ []; is = inl ([], refl, r
 -- ---- node lists
 
 abbrev InList : List Word → List (List (List ℕ)) × State → Type 0
-InList vs x = IsNodeList (Mark OpenList ∷ vs) x.0
+InList vs x = IsNodeList (Punctuation OpenList ∷ vs) x.0
 
-in_list : (vs : List Word) (ys xs : List (List (List ℕ))) (inner : List Word) → vs ≡ inner ++ Mark CloseList ∷ [] → ys ≡ xs → Parted IsItem inner xs → IsNodeList (Mark OpenList ∷ vs) ys
-in_list vs ys xs inner e f p = (inner, ap (λ (l : List Word). Mark OpenList ∷ l) e, subst (λ (l : List (List (List ℕ))). Parted IsItem inner l) (sym f) p)
+in_list : (vs : List Word) (ys xs : List (List (List ℕ))) (inner : List Word) → vs ≡ inner ++ Punctuation CloseList ∷ [] → ys ≡ xs → Parted IsItem inner xs → IsNodeList (Punctuation OpenList ∷ vs) ys
+in_list vs ys xs inner e f p = (inner, ap (λ (l : List Word). Punctuation OpenList ∷ l) e, subst (λ (l : List (List (List ℕ))). Parted IsItem inner l) (sym f) p)
 
-opened_sees : (t : Located) (s : State) → IsShort s → Sees by_pair InList (words_in s) (token s >>= λ first. cond (is_mark CloseList first.0.word) (fails EmptyList t.at) (items_at first.0 (record first.1 { seen = listing first.1.seen })))
+opened_sees : (t : Located) (s : State) → IsShort s → Sees by_pair InList (words_in s) (token s >>= λ first. cond (is_symbol CloseList first.0.word) (fails EmptyList t.at) (items_at first.0 (record first.1 { seen = listing first.1.seen })))
 opened_sees t s short =
-    token_then by_pair InList s (λ first. cond (is_mark CloseList first.0.word) (fails EmptyList t.at) (items_at first.0 (record first.1 { seen = listing first.1.seen }))) short (record { more = Name [] ∷ Mark CloseList ∷ []; x = (([] ∷ []) ∷ [], blank); is = (Name [] ∷ [], refl, inl ([], refl, refl)) })
-    (λ f u short. chosen by_pair InList (f.word ∷ words_in u) (is_mark CloseList f.word) (fails EmptyList t.at) (items_at f (record u { seen = listing u.seen })) (λ none h. absurd h)
+    token_then by_pair InList s (λ first. cond (is_symbol CloseList first.0.word) (fails EmptyList t.at) (items_at first.0 (record first.1 { seen = listing first.1.seen }))) short (record { more = Name [] ∷ Punctuation CloseList ∷ []; x = (([] ∷ []) ∷ [], blank); is = (Name [] ∷ [], refl, inl ([], refl, refl)) })
+    (λ f u short. chosen by_pair InList (f.word ∷ words_in u) (is_symbol CloseList f.word) (fails EmptyList t.at) (items_at f (record u { seen = listing u.seen })) (λ none h. absurd h)
     (λ some. weaker by_pair (IsRun IsItem some_item CloseList (λ _. item_at) (λ _. item_sees) []) InList (λ vs ys r. in_list vs ys.0 r.0 r.1 r.2 r.3 r.4) (f.word ∷ words_in u) (items_at f (record u { seen = listing u.seen }))
     (list_sees IsItem some_item CloseList (λ _. item_at) (λ _. item_sees) (room u) [] f (record u { seen = listing u.seen }) short)))
 
 groups_sees : (t : Located) (s : State) → IsShort s → Seen IsNodeList (t.word ∷ words_in s) (groups_at t s)
 unfolding groups_at
 groups_sees t s short =
-    let list : Result (List (List (List ℕ)) × State) ConfigFault = token s >>= λ first. cond (is_mark CloseList first.0.word) (fails EmptyList t.at) (items_at first.0 (record first.1 { seen = listing first.1.seen })) in
-    chosen by_pair (λ own x. IsNodeList own x.0) (t.word ∷ words_in s) (is_mark OpenList t.word) list (fails BadShape t.at)
-    (λ e. subst (λ (w : Word). Seen IsNodeList (w ∷ words_in s) list) (sym (mark_is OpenList t.word e)) (shifted by_pair (λ own x. IsNodeList own x.0) (Mark OpenList ∷ []) (words_in s) list (opened_sees t s short))) (λ e h. absurd h)
+    let list : Result (List (List (List ℕ)) × State) ConfigFault = token s >>= λ first. cond (is_symbol CloseList first.0.word) (fails EmptyList t.at) (items_at first.0 (record first.1 { seen = listing first.1.seen })) in
+    chosen by_pair (λ own x. IsNodeList own x.0) (t.word ∷ words_in s) (is_symbol OpenList t.word) list (fails BadShape t.at)
+    (λ e. subst (λ (w : Word). Seen IsNodeList (w ∷ words_in s) list) (sym (mark_is OpenList t.word e)) (shifted by_pair (λ own x. IsNodeList own x.0) (Punctuation OpenList ∷ []) (words_in s) list (opened_sees t s short))) (λ e h. absurd h)
 
 -- ---- applications
 
@@ -179,23 +179,23 @@ by_timeout = record { rest = λ x. x.1.word ∷ words_in x.2; state = λ x. x.2 
 abbrev Time : List Word → ℕ × Located × State → Type 0
 Time own x = IsTimeout own x.0
 
-timeout_by : (w : Word) (place : ℕ) (s : State) → IsShort s → Sees by_timeout Time (w ∷ words_in s) (timeout_at (record { word = w; at = place }) s)
+timeout_by : (w : Word) (offset : ℕ) (s : State) → IsShort s → Sees by_timeout Time (w ∷ words_in s) (timeout_at (record { word = w; at = offset }) s)
 unfolding timeout_at
-timeout_by (Number negative digits) place s short =
-    look_then (IsMs w) by_timeout Time (w ∷ words_in s) (milliseconds_of place negative (value_from 0 digits)) (λ n. symbol_at Comma s >>= λ comma. token comma >>= λ next. Ok (n, next.0, next.1)) (ms_looks place negative digits)
+timeout_by (Number negative digits) offset s short =
+    look_then (IsMs w) by_timeout Time (w ∷ words_in s) (milliseconds_of offset negative (value_from 0 digits)) (λ n. symbol_at Comma s >>= λ comma. token comma >>= λ next. Ok (n, next.0, next.1)) (ms_looks offset negative digits)
     (λ n is. shifted by_timeout Time (w ∷ []) (words_in s) (symbol_at Comma s >>= λ comma. token comma >>= λ next. Ok (n, next.0, next.1))
     (symbol_then by_timeout (λ vs x. IsTimeout (w ∷ vs) x.0) Comma s (λ comma. token comma >>= λ next. Ok (n, next.0, next.1)) short (done n is)
-    (λ u short. token_then by_timeout (λ vs x. IsTimeout (w ∷ Mark Comma ∷ vs) x.0) u (λ next. Ok (n, next.0, next.1)) short (done n is) (λ t v short. record { own = []; whole = refl; is = inr (w, refl, is); short = short }))))
+    (λ u short. token_then by_timeout (λ vs x. IsTimeout (w ∷ Punctuation Comma ∷ vs) x.0) u (λ next. Ok (n, next.0, next.1)) short (done n is) (λ t v short. record { own = []; whole = refl; is = inr (w, refl, is); short = short }))))
   where
     w : Word
     w = Number negative digits
 
-    done : (n : ℕ) → IsMs w n → Begun (λ vs (x : ℕ × Located × State). IsTimeout (w ∷ Mark Comma ∷ vs) x.0) []
+    done : (n : ℕ) → IsMs w n → Begun (λ vs (x : ℕ × Located × State). IsTimeout (w ∷ Punctuation Comma ∷ vs) x.0) []
     done n is = record { more = []; x = (n, record { word = End; at = 0 }, blank); is = inr (w, refl, is) }
-timeout_by (Mark symbol) place s short = record { own = []; whole = refl; is = inl (refl, refl); short = short }
-timeout_by (Name name) place s short = record { own = []; whole = refl; is = inl (refl, refl); short = short }
-timeout_by Text place s short = record { own = []; whole = refl; is = inl (refl, refl); short = short }
-timeout_by End place s short = record { own = []; whole = refl; is = inl (refl, refl); short = short }
+timeout_by (Punctuation symbol) offset s short = record { own = []; whole = refl; is = inl (refl, refl); short = short }
+timeout_by (Name name) offset s short = record { own = []; whole = refl; is = inl (refl, refl); short = short }
+timeout_by Text offset s short = record { own = []; whole = refl; is = inl (refl, refl); short = short }
+timeout_by End offset s short = record { own = []; whole = refl; is = inl (refl, refl); short = short }
 
 abbrev IsNamed : List ℕ → List Word → App → Type 0
 IsNamed name own app = (app.name ≡ name) × IsAppValue own app
@@ -205,7 +205,7 @@ module _ (name : List ℕ) where
   with_groups n groups = record { name = name; timeout = n; groups = groups }
 
   abbrev short_list : List Word
-  short_list = Mark OpenList ∷ Name [] ∷ Mark CloseList ∷ []
+  short_list = Punctuation OpenList ∷ Name [] ∷ Punctuation CloseList ∷ []
 
   short_value : (own : List Word) (n : ℕ) → IsTimeout own n → IsNamed name (own ++ short_list) (with_groups n ((([] ∷ []) ∷ [])))
   short_value own n is = (refl, (own, short_list, refl, is, (Name [] ∷ [], refl, inl ([], refl, refl))))
@@ -221,23 +221,23 @@ module _ (name : List ℕ) where
       listed : ℕ × Located × State → Result (App × State) ConfigFault
       listed timeout = groups_at timeout.1 timeout.2 >>= λ groups. Ok (with_groups timeout.0 groups.0, groups.1)
 
-is_app : (w : Word) (name : List ℕ) (vs : List Word) (app : App) → w ≡ Name name → IsClosed (IsNamed name) vs app → IsApp (Mark OpenTuple ∷ w ∷ Mark Comma ∷ vs) app
+is_app : (w : Word) (name : List ℕ) (vs : List Word) (app : App) → w ≡ Name name → IsClosed (IsNamed name) vs app → IsApp (Punctuation OpenTuple ∷ w ∷ Punctuation Comma ∷ vs) app
 is_app w name vs app e c = (c.0, pair_is w app.name vs c.0 (e ∙ ap Name (sym c.2.0)) c.1, c.2.1)
 
-filled_app : (w : Word) (name : List ℕ) → w ≡ Name name → Begun (λ vs x. IsApp (Mark OpenTuple ∷ w ∷ Mark Comma ∷ vs) x) []
+filled_app : (w : Word) (name : List ℕ) → w ≡ Name name → Begun (λ vs x. IsApp (Punctuation OpenTuple ∷ w ∷ Punctuation Comma ∷ vs) x) []
 filled_app w name e =
     let value = short_value name [] 0 (inl (refl, refl)) in
-    record { more = short_list name ++ Mark CloseTuple ∷ []; x = with_groups name 0 (([] ∷ []) ∷ []); is = is_app w name (short_list name ++ Mark CloseTuple ∷ []) (with_groups name 0 (([] ∷ []) ∷ [])) e (short_list name, refl, value) }
+    record { more = short_list name ++ Punctuation CloseTuple ∷ []; x = with_groups name 0 (([] ∷ []) ∷ []); is = is_app w name (short_list name ++ Punctuation CloseTuple ∷ []) (with_groups name 0 (([] ∷ []) ∷ [])) e (short_list name, refl, value) }
 
-begun_app : Begun (λ vs x. IsApp (Mark OpenTuple ∷ vs) x) []
-begun_app = word_before (λ vs x. IsApp (Mark OpenTuple ∷ vs) x) (Name []) (word_before (λ vs x. IsApp (Mark OpenTuple ∷ Name [] ∷ vs) x) (Mark Comma) (filled_app (Name []) [] refl))
+begun_app : Begun (λ vs x. IsApp (Punctuation OpenTuple ∷ vs) x) []
+begun_app = word_before (λ vs x. IsApp (Punctuation OpenTuple ∷ vs) x) (Name []) (word_before (λ vs x. IsApp (Punctuation OpenTuple ∷ Name [] ∷ vs) x) (Punctuation Comma) (filled_app (Name []) [] refl))
 
 pub some_app : Begun IsApp []
-some_app = word_before IsApp (Mark OpenTuple) begun_app
+some_app = word_before IsApp (Punctuation OpenTuple) begun_app
 
 pub app_sees : (before : List App) (t : Located) (s : State) → IsShort s → Seen IsApp (t.word ∷ words_in s) (app_at before t s)
 app_sees before = pair_sees IsApp IsName (app_name_of before) (λ name. closed (app_value_at name)) (app_looks before) begun_app filled_app
-    (λ w name e s short. weaker by_pair (λ own x. IsClosed (IsNamed name) own x.0) (λ vs x. IsApp (Mark OpenTuple ∷ w ∷ Mark Comma ∷ vs) x.0) (λ vs x c. is_app w name vs x.0 e c) (words_in s) (closed (app_value_at name) s) (closed_sees (IsNamed name) (app_value_at name) s (app_value_sees name s short)))
+    (λ w name e s short. weaker by_pair (λ own x. IsClosed (IsNamed name) own x.0) (λ vs x. IsApp (Punctuation OpenTuple ∷ w ∷ Punctuation Comma ∷ vs) x.0) (λ vs x c. is_app w name vs x.0 e c) (words_in s) (closed (app_value_at name) s) (closed_sees (IsNamed name) (app_value_at name) s (app_value_sees name s short)))
 
 -- ---- permissions
 
@@ -250,21 +250,21 @@ permission_value_sees name s short =
     token_then by_pair (λ own x. IsGiven name own x.0) s (λ t. flag_of t.0 >>= λ value. Ok (record { name = name; value = value }, t.1)) short (record { more = Name (codes "true") ∷ []; x = (record { name = name; value = true }, blank); is = (refl, refl) })
     (λ t u short. look_then (λ value. IsFlag (t.word ∷ []) value) by_pair (λ own x. IsGiven name own x.0) (t.word ∷ words_in u) (flag_of t) (λ value. Ok (record { name = name; value = value }, u)) (flag_looks t) (λ value is. record { own = t.word ∷ []; whole = refl; is = (refl, is); short = short }))
 
-is_permission : (w : Word) (name : List ℕ) (vs : List Word) (p : Permission) → w ≡ Name name → IsClosed (IsGiven name) vs p → IsPermission (Mark OpenTuple ∷ w ∷ Mark Comma ∷ vs) p
+is_permission : (w : Word) (name : List ℕ) (vs : List Word) (p : Permission) → w ≡ Name name → IsClosed (IsGiven name) vs p → IsPermission (Punctuation OpenTuple ∷ w ∷ Punctuation Comma ∷ vs) p
 is_permission w name vs p e c = (c.0, pair_is w p.name vs c.0 (e ∙ ap Name (sym c.2.0)) c.1, c.2.1)
 
-filled_permission : (w : Word) (name : List ℕ) → w ≡ Name name → Begun (λ vs x. IsPermission (Mark OpenTuple ∷ w ∷ Mark Comma ∷ vs) x) []
+filled_permission : (w : Word) (name : List ℕ) → w ≡ Name name → Begun (λ vs x. IsPermission (Punctuation OpenTuple ∷ w ∷ Punctuation Comma ∷ vs) x) []
 filled_permission w name e =
     let p : Permission = record { name = name; value = true } in
-    record { more = Name (codes "true") ∷ Mark CloseTuple ∷ []; x = p; is = is_permission w name (Name (codes "true") ∷ Mark CloseTuple ∷ []) p e (Name (codes "true") ∷ [], refl, (refl, refl)) }
+    record { more = Name (codes "true") ∷ Punctuation CloseTuple ∷ []; x = p; is = is_permission w name (Name (codes "true") ∷ Punctuation CloseTuple ∷ []) p e (Name (codes "true") ∷ [], refl, (refl, refl)) }
 
-begun_permission : Begun (λ vs x. IsPermission (Mark OpenTuple ∷ vs) x) []
-begun_permission = word_before (λ vs x. IsPermission (Mark OpenTuple ∷ vs) x) (Name []) (word_before (λ vs x. IsPermission (Mark OpenTuple ∷ Name [] ∷ vs) x) (Mark Comma) (filled_permission (Name []) [] refl))
+begun_permission : Begun (λ vs x. IsPermission (Punctuation OpenTuple ∷ vs) x) []
+begun_permission = word_before (λ vs x. IsPermission (Punctuation OpenTuple ∷ vs) x) (Name []) (word_before (λ vs x. IsPermission (Punctuation OpenTuple ∷ Name [] ∷ vs) x) (Punctuation Comma) (filled_permission (Name []) [] refl))
 
 pub some_permission : Begun IsPermission []
-some_permission = word_before IsPermission (Mark OpenTuple) begun_permission
+some_permission = word_before IsPermission (Punctuation OpenTuple) begun_permission
 
 pub permission_sees : (t : Located) (s : State) → IsShort s → Seen IsPermission (t.word ∷ words_in s) (permission_at t s)
 permission_sees = pair_sees IsPermission IsName short_name_of (λ name. closed (permission_value_at name)) short_looks begun_permission filled_permission
-    (λ w name e s short. weaker by_pair (λ own x. IsClosed (IsGiven name) own x.0) (λ vs x. IsPermission (Mark OpenTuple ∷ w ∷ Mark Comma ∷ vs) x.0) (λ vs x c. is_permission w name vs x.0 e c) (words_in s) (closed (permission_value_at name) s)
+    (λ w name e s short. weaker by_pair (λ own x. IsClosed (IsGiven name) own x.0) (λ vs x. IsPermission (Punctuation OpenTuple ∷ w ∷ Punctuation Comma ∷ vs) x.0) (λ vs x c. is_permission w name vs x.0 e c) (words_in s) (closed (permission_value_at name) s)
     (closed_sees (IsGiven name) (permission_value_at name) s (permission_value_sees name s short)))

@@ -5,7 +5,7 @@ use Rattle.dac_tokens.specs.declared.fault.ConfigFault.{ConfigFault}
 use Rattle.dac_tokens.specs.declared.fault.FaultKind.TheVariants.{BadShape, Unsupported, NoDistributed}
 use Rattle.dac_tokens.specs.declared.token.Symbol.TheVariants.{OpenList, CloseList, OpenTuple, CloseTuple, Comma, FullStop}
 use Rattle.dac_tokens.specs.Gives.{◌>>=◌}
-use Rattle.dac_tokens.specs.Words.{Word, Mark, Name, Located, is_end}
+use Rattle.dac_tokens.specs.Words.{Word, Punctuation, Name, Located, is_end}
 use Rattle.dac_shapes.specs.declared.param.ParamName.{ParamName}
 use Rattle.dac_shapes.specs.declared.param.ParamName.TheVariants as named
 use Rattle.dac_shapes.specs.declared.draft.SyncWait.TheVariants.{Forever}
@@ -39,9 +39,9 @@ unknown_is name e known same = absurd (no_name known (sym (ap param_named same) 
     no_name named.Optional h = absurd cc
     no_name named.Timeout h = absurd cc
 
-first_looks : (before : List Param) (w : Word) (place : ℕ) (name : List ℕ) → w ≡ Name name → (o : Option ParamName) → param_named name ≡ o → Looks (Says w) (first_param before place o)
-first_looks before w place name e None is = (name, e, unknown_is name is)
-first_looks before w place name e (Some known) is = looks_if (Says w) (has_param known before) (fails BadShape place) (Ok (Some known)) (λ twice h. h) (λ once. (name, e, param_is name known is))
+first_looks : (before : List Param) (w : Word) (offset : ℕ) (name : List ℕ) → w ≡ Name name → (o : Option ParamName) → param_named name ≡ o → Looks (Says w) (first_param before offset o)
+first_looks before w offset name e None is = (name, e, unknown_is name is)
+first_looks before w offset name e (Some known) is = looks_if (Says w) (has_param known before) (fails BadShape offset) (Ok (Some known)) (λ twice h. h) (λ once. (name, e, param_is name known is))
 
 param_looks : (before : List Param) (t : Located) → Looks (Says t.word) (param_name_of before t)
 unfolding param_name_of
@@ -64,7 +64,7 @@ param_value_sees named.Timeout s short =
     (λ t u short. look_then (λ wait. IsWait (t.word ∷ []) wait) by_pair (λ own x. IsValue named.Timeout own x.0) (t.word ∷ words_in u) (wait_of t) (λ wait. Ok (Timeout wait, u)) (wait_looks t) (λ wait is. record { own = t.word ∷ []; whole = refl; is = (t.word ∷ [], refl, is); short = short }))
 
 empty_list : List Word
-empty_list = Mark OpenList ∷ Mark CloseList ∷ []
+empty_list = Punctuation OpenList ∷ Punctuation CloseList ∷ []
 
 some_value : (name : ParamName) → Begun (IsValue name) []
 unfolding empty_list
@@ -76,40 +76,40 @@ some_value named.Timeout = record { more = Name (codes "infinity") ∷ []; x = T
 
 -- ---- parameters
 
-is_param : (w : Word) (known : ParamName) (vs : List Word) (p : Param) → w ≡ Name (spelled known) → IsClosed (IsValue known) vs p → IsParam (Mark OpenTuple ∷ w ∷ Mark Comma ∷ vs) p
+is_param : (w : Word) (known : ParamName) (vs : List Word) (p : Param) → w ≡ Name (spelled known) → IsClosed (IsValue known) vs p → IsParam (Punctuation OpenTuple ∷ w ∷ Punctuation Comma ∷ vs) p
 is_param w known vs p e c = subst (λ (l : List Word). IsParam l p) (sym (pair_is w (spelled known) vs c.0 e c.1)) c.2
 
-is_other : (w : Word) (name : List ℕ) (vs : List Word) → w ≡ Name name → ((known : ParamName) → name ≢ spelled known) → IsPassed vs → IsParam (Mark OpenTuple ∷ w ∷ Mark Comma ∷ vs) Param.Other
+is_other : (w : Word) (name : List ℕ) (vs : List Word) → w ≡ Name name → ((known : ParamName) → name ≢ spelled known) → IsPassed vs → IsParam (Punctuation OpenTuple ∷ w ∷ Punctuation Comma ∷ vs) Param.Other
 is_other w name vs e other c = (name, other, (c.0, pair_is w name vs c.0 e c.1, c.2))
 
 abbrev some_term : List Word
-some_term = Name [] ∷ Mark CloseTuple ∷ []
+some_term = Name [] ∷ Punctuation CloseTuple ∷ []
 
-filled_param : (w : Word) (o : Option ParamName) → Says w o → Begun (λ vs x. IsParam (Mark OpenTuple ∷ w ∷ Mark Comma ∷ vs) x) []
+filled_param : (w : Word) (o : Option ParamName) → Says w o → Begun (λ vs x. IsParam (Punctuation OpenTuple ∷ w ∷ Punctuation Comma ∷ vs) x) []
 filled_param w (Some known) says =
     let v = some_value known in
-    record { more = v.more ++ Mark CloseTuple ∷ []; x = v.x; is = is_param w known (v.more ++ Mark CloseTuple ∷ []) v.x (says.1 ∙ ap Name says.2) (v.more, refl, v.is) }
+    record { more = v.more ++ Punctuation CloseTuple ∷ []; x = v.x; is = is_param w known (v.more ++ Punctuation CloseTuple ∷ []) v.x (says.1 ∙ ap Name says.2) (v.more, refl, v.is) }
 filled_param w None says = record { more = some_term; x = Param.Other; is = is_other w says.0 some_term says.1 says.2 (Name [] ∷ [], refl, a_term) }
 
 timeout_says : Says (Name (spelled named.Timeout)) (Some named.Timeout)
 timeout_says = (spelled named.Timeout, refl, refl)
 
-begun_param : Begun (λ vs x. IsParam (Mark OpenTuple ∷ vs) x) []
-begun_param = word_before (λ vs x. IsParam (Mark OpenTuple ∷ vs) x) (Name (spelled named.Timeout)) (word_before (λ vs x. IsParam (Mark OpenTuple ∷ Name (spelled named.Timeout) ∷ vs) x) (Mark Comma) (filled_param (Name (spelled named.Timeout)) (Some named.Timeout) timeout_says))
+begun_param : Begun (λ vs x. IsParam (Punctuation OpenTuple ∷ vs) x) []
+begun_param = word_before (λ vs x. IsParam (Punctuation OpenTuple ∷ vs) x) (Name (spelled named.Timeout)) (word_before (λ vs x. IsParam (Punctuation OpenTuple ∷ Name (spelled named.Timeout) ∷ vs) x) (Punctuation Comma) (filled_param (Name (spelled named.Timeout)) (Some named.Timeout) timeout_says))
 
 some_param : Begun IsParam []
-some_param = word_before IsParam (Mark OpenTuple) begun_param
+some_param = word_before IsParam (Punctuation OpenTuple) begun_param
 
 -- what is made of a term that was passed over
 passed_made : {A : Type 0} (Is : List Word → A → Type 0) (y : A) → ((vs : List Word) → IsPassed vs → Is vs y) → (ws : List Word) (r : Result State ConfigFault) → Sees by_state (λ own u. IsPassed own) ws r → Seen Is ws (r >>= λ behind. Ok (y, behind))
 passed_made Is y so ws (Ok u) k = record { own = k.own; whole = k.whole; is = so k.own k.is; short = k.short }
 passed_made Is y so ws (Err e) k = λ h. let b = k h in record { more = b.more; x = (y, blank); is = so (ws ++ b.more) b.is }
 
-param_rest_sees : (w : Word) (o : Option ParamName) → Says w o → (s : State) → IsShort s → Seen (λ vs x. IsParam (Mark OpenTuple ∷ w ∷ Mark Comma ∷ vs) x) (words_in s) (param_rest_at o s)
+param_rest_sees : (w : Word) (o : Option ParamName) → Says w o → (s : State) → IsShort s → Seen (λ vs x. IsParam (Punctuation OpenTuple ∷ w ∷ Punctuation Comma ∷ vs) x) (words_in s) (param_rest_at o s)
 unfolding param_rest_at
-param_rest_sees w (Some known) says s short = weaker by_pair (λ own x. IsClosed (IsValue known) own x.0) (λ vs x. IsParam (Mark OpenTuple ∷ w ∷ Mark Comma ∷ vs) x.0) (λ vs x c. is_param w known vs x.0 (says.1 ∙ ap Name says.2) c) (words_in s) (closed (param_value_at known) s)
+param_rest_sees w (Some known) says s short = weaker by_pair (λ own x. IsClosed (IsValue known) own x.0) (λ vs x. IsParam (Punctuation OpenTuple ∷ w ∷ Punctuation Comma ∷ vs) x.0) (λ vs x c. is_param w known vs x.0 (says.1 ∙ ap Name says.2) c) (words_in s) (closed (param_value_at known) s)
     (closed_sees (IsValue known) (param_value_at known) s (param_value_sees known s short))
-param_rest_sees w None says s short = passed_made (λ vs x. IsParam (Mark OpenTuple ∷ w ∷ Mark Comma ∷ vs) x) Param.Other (λ vs c. is_other w says.0 vs says.1 says.2 c) (words_in s) (passed_at s) (passed_sees s short)
+param_rest_sees w None says s short = passed_made (λ vs x. IsParam (Punctuation OpenTuple ∷ w ∷ Punctuation Comma ∷ vs) x) Param.Other (λ vs c. is_other w says.0 vs says.1 says.2 c) (words_in s) (passed_at s) (passed_sees s short)
 
 param_sees : (before : List Param) (t : Located) (s : State) → IsShort s → Seen IsParam (t.word ∷ words_in s) (param_at before t s)
 param_sees before = pair_sees IsParam Says (param_name_of before) param_rest_at (param_looks before) begun_param filled_param param_rest_sees
@@ -140,29 +140,29 @@ kernel_sees : (s : State) → IsShort s → Seen IsKernel (words_in s) (kernel_a
 unfolding kernel_at
 kernel_sees s short = made_sees (IsListOf IsParam) IsKernel Kernel (λ own xs is. (own, refl, is)) (words_in s) (list_of param_at s) (bracketed_sees IsParam some_param param_at param_sees s short)
 
-is_kernel : (w : Word) (vs : List Word) (x : Section) → w ≡ Name (codes "kernel") → IsClosed IsKernel vs x → IsSection (Mark OpenTuple ∷ w ∷ Mark Comma ∷ vs) x
+is_kernel : (w : Word) (vs : List Word) (x : Section) → w ≡ Name (codes "kernel") → IsClosed IsKernel vs x → IsSection (Punctuation OpenTuple ∷ w ∷ Punctuation Comma ∷ vs) x
 is_kernel w vs x e c = subst (λ (l : List Word). IsSection l x) (sym (pair_is w (codes "kernel") vs c.0 e c.1)) c.2
 
-is_section : (w : Word) (name : List ℕ) (vs : List Word) → w ≡ Name name → name ≢ codes "kernel" → IsPassed vs → IsSection (Mark OpenTuple ∷ w ∷ Mark Comma ∷ vs) Section.Other
+is_section : (w : Word) (name : List ℕ) (vs : List Word) → w ≡ Name name → name ≢ codes "kernel" → IsPassed vs → IsSection (Punctuation OpenTuple ∷ w ∷ Punctuation Comma ∷ vs) Section.Other
 is_section w name vs e other c = (name, other, (c.0, pair_is w name vs c.0 e c.1, c.2))
 
-filled_section : (w : Word) (k : Bool) → Tells w k → Begun (λ vs x. IsSection (Mark OpenTuple ∷ w ∷ Mark Comma ∷ vs) x) []
+filled_section : (w : Word) (k : Bool) → Tells w k → Begun (λ vs x. IsSection (Punctuation OpenTuple ∷ w ∷ Punctuation Comma ∷ vs) x) []
 unfolding empty_list
 filled_section w true says =
-    record { more = empty_list ++ Mark CloseTuple ∷ []; x = Kernel []; is = is_kernel w (empty_list ++ Mark CloseTuple ∷ []) (Kernel []) (says.1 ∙ ap Name says.2) (empty_list, refl, (empty_list, refl, ([], refl, refl))) }
+    record { more = empty_list ++ Punctuation CloseTuple ∷ []; x = Kernel []; is = is_kernel w (empty_list ++ Punctuation CloseTuple ∷ []) (Kernel []) (says.1 ∙ ap Name says.2) (empty_list, refl, (empty_list, refl, ([], refl, refl))) }
 filled_section w false says = record { more = some_term; x = Section.Other; is = is_section w says.0 some_term says.1 says.2 (Name [] ∷ [], refl, a_term) }
 
-begun_section : Begun (λ vs x. IsSection (Mark OpenTuple ∷ vs) x) []
-begun_section = word_before (λ vs x. IsSection (Mark OpenTuple ∷ vs) x) (Name (codes "kernel")) (word_before (λ vs x. IsSection (Mark OpenTuple ∷ Name (codes "kernel") ∷ vs) x) (Mark Comma) (filled_section (Name (codes "kernel")) true (codes "kernel", refl, refl)))
+begun_section : Begun (λ vs x. IsSection (Punctuation OpenTuple ∷ vs) x) []
+begun_section = word_before (λ vs x. IsSection (Punctuation OpenTuple ∷ vs) x) (Name (codes "kernel")) (word_before (λ vs x. IsSection (Punctuation OpenTuple ∷ Name (codes "kernel") ∷ vs) x) (Punctuation Comma) (filled_section (Name (codes "kernel")) true (codes "kernel", refl, refl)))
 
 some_section : Begun IsSection []
-some_section = word_before IsSection (Mark OpenTuple) begun_section
+some_section = word_before IsSection (Punctuation OpenTuple) begun_section
 
-section_rest_sees : (w : Word) (k : Bool) → Tells w k → (s : State) → IsShort s → Seen (λ vs x. IsSection (Mark OpenTuple ∷ w ∷ Mark Comma ∷ vs) x) (words_in s) (section_rest_at k s)
+section_rest_sees : (w : Word) (k : Bool) → Tells w k → (s : State) → IsShort s → Seen (λ vs x. IsSection (Punctuation OpenTuple ∷ w ∷ Punctuation Comma ∷ vs) x) (words_in s) (section_rest_at k s)
 unfolding section_rest_at
-section_rest_sees w true says s short = weaker by_pair (λ own x. IsClosed IsKernel own x.0) (λ vs x. IsSection (Mark OpenTuple ∷ w ∷ Mark Comma ∷ vs) x.0) (λ vs x c. is_kernel w vs x.0 (says.1 ∙ ap Name says.2) c) (words_in s) (closed kernel_at s)
+section_rest_sees w true says s short = weaker by_pair (λ own x. IsClosed IsKernel own x.0) (λ vs x. IsSection (Punctuation OpenTuple ∷ w ∷ Punctuation Comma ∷ vs) x.0) (λ vs x c. is_kernel w vs x.0 (says.1 ∙ ap Name says.2) c) (words_in s) (closed kernel_at s)
     (closed_sees IsKernel kernel_at s (kernel_sees s short))
-section_rest_sees w false says s short = passed_made (λ vs x. IsSection (Mark OpenTuple ∷ w ∷ Mark Comma ∷ vs) x) Section.Other (λ vs c. is_section w says.0 vs says.1 says.2 c) (words_in s) (passed_at s) (passed_sees s short)
+section_rest_sees w false says s short = passed_made (λ vs x. IsSection (Punctuation OpenTuple ∷ w ∷ Punctuation Comma ∷ vs) x) Section.Other (λ vs c. is_section w says.0 vs says.1 says.2 c) (words_in s) (passed_at s) (passed_sees s short)
 
 section_sees : (before : List Section) (t : Located) (s : State) → IsShort s → Seen IsSection (t.word ∷ words_in s) (section_at before t s)
 unfolding section_at
@@ -184,24 +184,24 @@ abbrev stop : Located × State → Result (ℕ × State) ConfigFault
 stop t = cond (is_end t.0.word) (Ok (t.0.at, t.1)) (fails BadShape t.0.at)
 
 module _ (own : List Word) (sections : List Section) (list : IsListOf IsSection own sections) where
-  judged_falls : (ws : List Word) (place : ℕ) (w : Written) (c : Bool) → Falls ws (cond c (fails NoDistributed place) (Ok w))
-  judged_falls ws place w true = λ h. absurd h
-  judged_falls ws place w false = tt
+  judged_falls : (ws : List Word) (offset : ℕ) (w : Written) (c : Bool) → Falls ws (cond c (fails NoDistributed offset) (Ok w))
+  judged_falls ws offset w true = λ h. absurd h
+  judged_falls ws offset w false = tt
 
   stop_falls : (ws : List Word) (t : Located × State) (c : Bool) → Falls ws (cond c (Ok (t.0.at, t.1)) (fails BadShape t.0.at) >>= judged sections)
   stop_falls ws t true = judged_falls ws t.0.at (written sections t.1.seen.met) (eqb (length (written sections t.1.seen.met).apps) 0)
   stop_falls ws t false = λ h. absurd h
 
-  stopped : (vs : List Word) → vs ≡ Mark FullStop ∷ [] → IsFile (own ++ vs) sections
+  stopped : (vs : List Word) → vs ≡ Punctuation FullStop ∷ [] → IsFile (own ++ vs) sections
   stopped vs e = (own, ap (λ (l : List Word). own ++ l) e, list)
 
-  behind_stop : (ws : List Word) (r : Result (Located × State) ConfigFault) → Sees by_behind (λ vs x. vs ≡ []) ws r → Falls (own ++ Mark FullStop ∷ ws) ((r >>= stop) >>= judged sections)
-  behind_stop ws (Ok t) k = stop_falls (own ++ Mark FullStop ∷ ws) t (is_end t.0.word)
+  behind_stop : (ws : List Word) (r : Result (Located × State) ConfigFault) → Sees by_behind (λ vs x. vs ≡ []) ws r → Falls (own ++ Punctuation FullStop ∷ ws) ((r >>= stop) >>= judged sections)
+  behind_stop ws (Ok t) k = stop_falls (own ++ Punctuation FullStop ∷ ws) t (is_end t.0.word)
   behind_stop ws (Err e) k = λ h.
       let b = k h in
-      record { more = b.more; x = sections; is = subst (λ (l : List Word). IsFile l sections) (sym (append_assoc own (Mark FullStop ∷ ws) b.more)) (stopped (Mark FullStop ∷ ws ++ b.more) (ap (λ (l : List Word). Mark FullStop ∷ l) b.is)) }
+      record { more = b.more; x = sections; is = subst (λ (l : List Word). IsFile l sections) (sym (append_assoc own (Punctuation FullStop ∷ ws) b.more)) (stopped (Punctuation FullStop ∷ ws ++ b.more) (ap (λ (l : List Word). Punctuation FullStop ∷ l) b.is)) }
 
-  at_stop : (ws : List Word) (r : Result State ConfigFault) → Sees by_state (λ vs u. vs ≡ Mark FullStop ∷ []) ws r → Falls (own ++ ws) ((r >>= λ u. token u >>= stop) >>= judged sections)
+  at_stop : (ws : List Word) (r : Result State ConfigFault) → Sees by_state (λ vs u. vs ≡ Punctuation FullStop ∷ []) ws r → Falls (own ++ ws) ((r >>= λ u. token u >>= stop) >>= judged sections)
   at_stop ws (Ok u) k = subst (λ (l : List Word). Falls (own ++ l) ((token u >>= stop) >>= judged sections)) (sym (k.whole ∙ ap (λ (l : List Word). l ++ words_in u) k.is)) (behind_stop (words_in u) (token u) (token_behind u k.short))
   at_stop ws (Err e) k = λ h. let b = k h in record { more = b.more; x = sections; is = subst (λ (l : List Word). IsFile l sections) (sym (append_assoc own ws b.more)) (stopped (ws ++ b.more) b.is) }
 
@@ -211,7 +211,7 @@ module _ (own : List Word) (sections : List Section) (list : IsListOf IsSection 
 
 list_falls : (ws : List Word) (r : Result (List Section × State) ConfigFault) → Seen (IsListOf IsSection) ws r → Falls ws (r >>= λ x. end_at x.1 >>= judged x.0)
 list_falls ws (Ok x) k = subst (λ (l : List Word). Falls l (end_at x.1 >>= judged x.0)) (sym k.whole) (end_falls k.own x.0 k.is x.1 k.short)
-list_falls ws (Err e) k = λ h. let b = k h in record { more = b.more ++ Mark FullStop ∷ []; x = b.x.0; is = (ws ++ b.more, sym (append_assoc ws b.more (Mark FullStop ∷ [])), b.is) }
+list_falls ws (Err e) k = λ h. let b = k h in record { more = b.more ++ Punctuation FullStop ∷ []; x = b.x.0; is = (ws ++ b.more, sym (append_assoc ws b.more (Punctuation FullStop ∷ [])), b.is) }
 
 file_falls : (s : State) → IsShort s → Falls (words_in s) (file_at s)
 unfolding file_at

@@ -7,8 +7,8 @@ use Rattle.dac_tokens.specs.declared.fault.FaultKind.TheVariants.{BadShape}
 use Rattle.dac_tokens.specs.declared.token.Symbol.{Symbol}
 use Rattle.dac_tokens.specs.declared.token.Symbol.TheVariants.{OpenList, CloseList, OpenTuple, CloseTuple, Comma, FullStop}
 use Rattle.dac_tokens.specs.Gives.{◌>>=◌}
-use Rattle.dac_tokens.specs.Words.{Word, Mark, Name, Number, Text, End, Located}
-use Rattle.dac_shapes.specs.Shape.{State, fails, is_mark, is_text, token, room, terms_at, terms_in, texts_at, term_by, term_at, passed_at}
+use Rattle.dac_tokens.specs.Words.{Word, Punctuation, Name, Number, Text, End, Located}
+use Rattle.dac_shapes.specs.Shape.{State, fails, is_symbol, is_text, token, room, terms_at, terms_in, texts_at, term_by, term_at, passed_at}
 use Rattle.dac_shapes.specs.Grammar.{AreBrackets, IsTerm, AreTerms, OfList, OfTuple, Atom, Integer, Strings, Empty, Between, One, More}
 use Rattle.dac_first_fault.proofs.Steps.{mark_is}
 use Rattle.dac_first_fault.proofs.Begun.{IsShort, words_in, by_state, by_behind, Sees, blank, chosen, weaker, shifted, and_then, token_then, token_behind}
@@ -26,7 +26,7 @@ AreTexts words = All (λ word. word ≡ Text) words
 
 pub text_is : (w : Word) → is_text w ≡ true → w ≡ Text
 text_is Text e = refl
-text_is (Mark x) e = absurd cc
+text_is (Punctuation x) e = absurd cc
 text_is (Name name) e = absurd cc
 text_is (Number negative digits) e = absurd cc
 text_is End e = absurd cc
@@ -45,53 +45,53 @@ texts_see (suc n) s short =
 
 -- ---- terms between brackets
 
--- terms parted by commas, and the closing mark
+-- terms parted by commas, and the closing symbol
 abbrev AreClosed : Symbol → List Word → Type 0
-AreClosed close own = (inner : List Word) × (own ≡ inner ++ Mark close ∷ []) × AreTerms inner
+AreClosed close own = (inner : List Word) × (own ≡ inner ++ Punctuation close ∷ []) × AreTerms inner
 
 pub a_term : IsTerm (Name [] ∷ [])
 a_term = Atom []
 
 module _ (pass : Located → State → Result (Located × State) ConfigFault) (close : Symbol) (passes : (t : Located) (s : State) → IsShort s → Skipped IsTerm (t.word ∷ words_in s) (pass t s)) where
-  one_term : (own : List Word) → IsTerm own → AreClosed close (own ++ Mark close ∷ [])
+  one_term : (own : List Word) → IsTerm own → AreClosed close (own ++ Punctuation close ∷ [])
   one_term own is = (own, refl, One own is)
 
-  more_terms : (own vs : List Word) → IsTerm own → AreClosed close vs → AreClosed close (own ++ Mark Comma ∷ vs)
-  more_terms own vs is c = (own ++ Mark Comma ∷ c.0, ap (λ (l : List Word). own ++ Mark Comma ∷ l) c.1 ∙ sym (append_assoc own (Mark Comma ∷ c.0) (Mark close ∷ [])), More own c.0 is c.2)
+  more_terms : (own vs : List Word) → IsTerm own → AreClosed close vs → AreClosed close (own ++ Punctuation Comma ∷ vs)
+  more_terms own vs is c = (own ++ Punctuation Comma ∷ c.0, ap (λ (l : List Word). own ++ Punctuation Comma ∷ l) c.1 ∙ sym (append_assoc own (Punctuation Comma ∷ c.0) (Punctuation close ∷ [])), More own c.0 is c.2)
 
   abbrev Next : List Word → List Word → Type 0
   Next own vs = AreClosed close (own ++ vs)
 
   module _ (n : ℕ) (again : (t : Located) (s : State) → IsShort s → Skipped (AreClosed close) (t.word ∷ words_in s) (terms_at pass close n t s)) (own : List Word) (is : IsTerm own) where
-    comma_sees : (u : State) → IsShort u → Skipped (λ vs. Next own (Mark Comma ∷ vs)) (words_in u) (token u >>= λ next. terms_at pass close n next.0 next.1)
+    comma_sees : (u : State) → IsShort u → Skipped (λ vs. Next own (Punctuation Comma ∷ vs)) (words_in u) (token u >>= λ next. terms_at pass close n next.0 next.1)
     comma_sees u short =
-        token_then by_behind (λ vs x. Next own (Mark Comma ∷ vs)) u (λ next. terms_at pass close n next.0 next.1) short (record { more = Name [] ∷ Mark close ∷ []; x = some_token; is = more_terms own (Name [] ∷ Mark close ∷ []) is (one_term (Name [] ∷ []) a_term) })
-        (λ t v short. weaker by_behind (λ vs x. AreClosed close vs) (λ vs x. Next own (Mark Comma ∷ vs)) (λ vs x c. more_terms own vs is c) (t.word ∷ words_in v) (terms_at pass close n t v) (again t v short))
+        token_then by_behind (λ vs x. Next own (Punctuation Comma ∷ vs)) u (λ next. terms_at pass close n next.0 next.1) short (record { more = Name [] ∷ Punctuation close ∷ []; x = some_token; is = more_terms own (Name [] ∷ Punctuation close ∷ []) is (one_term (Name [] ∷ []) a_term) })
+        (λ t v short. weaker by_behind (λ vs x. AreClosed close vs) (λ vs x. Next own (Punctuation Comma ∷ vs)) (λ vs x c. more_terms own vs is c) (t.word ∷ words_in v) (terms_at pass close n t v) (again t v short))
 
-    close_sees : (u : State) → IsShort u → Skipped (λ vs. Next own (Mark close ∷ vs)) (words_in u) (token u)
-    close_sees u short = weaker by_behind (λ vs x. vs ≡ []) (λ vs x. Next own (Mark close ∷ vs)) (λ vs x e. subst (λ (l : List Word). Next own (Mark close ∷ l)) (sym e) (one_term own is)) (words_in u) (token u) (token_behind u short)
+    close_sees : (u : State) → IsShort u → Skipped (λ vs. Next own (Punctuation close ∷ vs)) (words_in u) (token u)
+    close_sees u short = weaker by_behind (λ vs x. vs ≡ []) (λ vs x. Next own (Punctuation close ∷ vs)) (λ vs x e. subst (λ (l : List Word). Next own (Punctuation close ∷ l)) (sym e) (one_term own is)) (words_in u) (token u) (token_behind u short)
 
-    marked : (x : Symbol) (w : Word) (ws : List Word) (r : Result (Located × State) ConfigFault) → w ≡ Mark x → Skipped (λ vs. Next own (Mark x ∷ vs)) ws r → Skipped (Next own) (w ∷ ws) r
-    marked x w ws r e k = subst (λ (v : Word). Skipped (Next own) (v ∷ ws) r) (sym e) (shifted by_behind (λ vs x. Next own vs) (Mark x ∷ []) ws r k)
+    marked : (x : Symbol) (w : Word) (ws : List Word) (r : Result (Located × State) ConfigFault) → w ≡ Punctuation x → Skipped (λ vs. Next own (Punctuation x ∷ vs)) ws r → Skipped (Next own) (w ∷ ws) r
+    marked x w ws r e k = subst (λ (v : Word). Skipped (Next own) (v ∷ ws) r) (sym e) (shifted by_behind (λ vs x. Next own vs) (Punctuation x ∷ []) ws r k)
 
-    mark_sees : (f : Located) (u : State) → IsShort u → Skipped (Next own) (f.word ∷ words_in u) (cond (is_mark close f.word) (token u) (cond (is_mark Comma f.word) (token u >>= λ next. terms_at pass close n next.0 next.1) (fails BadShape f.at)))
+    mark_sees : (f : Located) (u : State) → IsShort u → Skipped (Next own) (f.word ∷ words_in u) (cond (is_symbol close f.word) (token u) (cond (is_symbol Comma f.word) (token u >>= λ next. terms_at pass close n next.0 next.1) (fails BadShape f.at)))
     mark_sees f u short =
-        chosen by_behind (λ vs x. Next own vs) (f.word ∷ words_in u) (is_mark close f.word) (token u) (cond (is_mark Comma f.word) (token u >>= λ next. terms_at pass close n next.0 next.1) (fails BadShape f.at))
+        chosen by_behind (λ vs x. Next own vs) (f.word ∷ words_in u) (is_symbol close f.word) (token u) (cond (is_symbol Comma f.word) (token u >>= λ next. terms_at pass close n next.0 next.1) (fails BadShape f.at))
         (λ e. marked close f.word (words_in u) (token u) (mark_is close f.word e) (close_sees u short))
-        (λ other. chosen by_behind (λ vs x. Next own vs) (f.word ∷ words_in u) (is_mark Comma f.word) (token u >>= λ next. terms_at pass close n next.0 next.1) (fails BadShape f.at)
+        (λ other. chosen by_behind (λ vs x. Next own vs) (f.word ∷ words_in u) (is_symbol Comma f.word) (token u >>= λ next. terms_at pass close n next.0 next.1) (fails BadShape f.at)
         (λ e. marked Comma f.word (words_in u) (token u >>= λ next. terms_at pass close n next.0 next.1) (mark_is Comma f.word e) (comma_sees u short)) (λ e h. absurd h))
 
   terms_see : (n : ℕ) (t : Located) (s : State) → IsShort s → Skipped (AreClosed close) (t.word ∷ words_in s) (terms_at pass close n t s)
   unfolding terms_at
   terms_see zero t s short = λ h. absurd h
   terms_see (suc n) t s short =
-      and_then by_behind by_behind (λ own x. IsTerm own) (λ own x. AreClosed close own) (λ b. cond (is_mark close b.0.word) (token b.1) (cond (is_mark Comma b.0.word) (token b.1 >>= λ next. terms_at pass close n next.0 next.1) (fails BadShape b.0.at))) (t.word ∷ words_in s) (pass t s) (passes t s short)
-      (λ own x is short. mark_sees n (terms_see n) own is x.0 x.1 short) (λ own x is. record { more = Mark close ∷ []; x = some_token; is = one_term own is })
+      and_then by_behind by_behind (λ own x. IsTerm own) (λ own x. AreClosed close own) (λ b. cond (is_symbol close b.0.word) (token b.1) (cond (is_symbol Comma b.0.word) (token b.1 >>= λ next. terms_at pass close n next.0 next.1) (fails BadShape b.0.at))) (t.word ∷ words_in s) (pass t s) (passes t s short)
+      (λ own x is short. mark_sees n (terms_see n) own is x.0 x.1 short) (λ own x is. record { more = Punctuation close ∷ []; x = some_token; is = one_term own is })
 
   -- what stands between brackets is a term with them
   module _ (left : Symbol) (are : AreBrackets left close) where
     abbrev Inside : List Word → Type 0
-    Inside vs = IsTerm (Mark left ∷ vs)
+    Inside vs = IsTerm (Punctuation left ∷ vs)
 
     full : (vs : List Word) → AreClosed close vs → Inside vs
     full vs c = subst Inside (sym c.1) (Between left close c.0 are c.2)
@@ -99,13 +99,13 @@ module _ (pass : Located → State → Result (Located × State) ConfigFault) (c
     in_sees : (n : ℕ) (s : State) → IsShort s → Skipped Inside (words_in s) (terms_in pass close n s)
     unfolding terms_in
     in_sees n s short =
-        token_then by_behind (λ vs x. Inside vs) s (λ first. cond (is_mark close first.0.word) (token first.1) (terms_at pass close n first.0 first.1)) short (record { more = Mark close ∷ []; x = some_token; is = Empty left close are })
-        (λ t u short. chosen by_behind (λ vs x. Inside vs) (t.word ∷ words_in u) (is_mark close t.word) (token u) (terms_at pass close n t u)
+        token_then by_behind (λ vs x. Inside vs) s (λ first. cond (is_symbol close first.0.word) (token first.1) (terms_at pass close n first.0 first.1)) short (record { more = Punctuation close ∷ []; x = some_token; is = Empty left close are })
+        (λ t u short. chosen by_behind (λ vs x. Inside vs) (t.word ∷ words_in u) (is_symbol close t.word) (token u) (terms_at pass close n t u)
         (λ e. shifted by_behind (λ vs x. Inside vs) (t.word ∷ []) (words_in u) (token u) (weaker by_behind (λ vs x. vs ≡ []) (λ vs x. Inside (t.word ∷ vs)) (λ vs x none. closed_now t.word vs (mark_is close t.word e) none) (words_in u) (token u) (token_behind u short)))
         (λ e. weaker by_behind (λ vs x. AreClosed close vs) (λ vs x. Inside vs) (λ vs x c. full vs c) (t.word ∷ words_in u) (terms_at pass close n t u) (terms_see n t u short)))
       where
-        closed_now : (w : Word) (vs : List Word) → w ≡ Mark close → vs ≡ [] → Inside (w ∷ vs)
-        closed_now w vs e none = subst (λ (v : Word). Inside (v ∷ vs)) (sym e) (subst (λ (l : List Word). Inside (Mark close ∷ l)) (sym none) (Empty left close are))
+        closed_now : (w : Word) (vs : List Word) → w ≡ Punctuation close → vs ≡ [] → Inside (w ∷ vs)
+        closed_now w vs e none = subst (λ (v : Word). Inside (v ∷ vs)) (sym e) (subst (λ (l : List Word). Inside (Punctuation close ∷ l)) (sym none) (Empty left close are))
 
 -- ---- terms
 
@@ -113,18 +113,18 @@ one_word : (w : Word) → IsTerm (w ∷ []) → (s : State) → IsShort s → Sk
 one_word w is s short = shifted by_behind (λ own x. IsTerm own) (w ∷ []) (words_in s) (token s) (weaker by_behind (λ vs x. vs ≡ []) (λ vs x. IsTerm (w ∷ vs)) (λ vs x e. subst (λ (l : List Word). IsTerm (w ∷ l)) (sym e) is) (words_in s) (token s) (token_behind s short))
 
 module _ (pass : Located → State → Result (Located × State) ConfigFault) (passes : (t : Located) (s : State) → IsShort s → Skipped IsTerm (t.word ∷ words_in s) (pass t s)) where
-  term_by_sees : (w : Word) (place n : ℕ) (s : State) → IsShort s → Skipped IsTerm (w ∷ words_in s) (term_by pass n (record { word = w; at = place }) s)
+  term_by_sees : (w : Word) (offset n : ℕ) (s : State) → IsShort s → Skipped IsTerm (w ∷ words_in s) (term_by pass n (record { word = w; at = offset }) s)
   unfolding term_by
-  term_by_sees (Name name) place n s short = one_word (Name name) (Atom name) s short
-  term_by_sees (Number negative digits) place n s short = one_word (Number negative digits) (Integer negative digits) s short
-  term_by_sees Text place n s short = shifted by_behind (λ own x. IsTerm own) (Text ∷ []) (words_in s) (texts_at n s) (weaker by_behind (λ own x. AreTexts own) (λ own x. IsTerm (Text ∷ own)) (λ own x all. Strings own all) (words_in s) (texts_at n s) (texts_see n s short))
-  term_by_sees (Mark OpenList) place n s short = shifted by_behind (λ own x. IsTerm own) (Mark OpenList ∷ []) (words_in s) (terms_in pass CloseList n s) (in_sees pass CloseList passes OpenList OfList n s short)
-  term_by_sees (Mark OpenTuple) place n s short = shifted by_behind (λ own x. IsTerm own) (Mark OpenTuple ∷ []) (words_in s) (terms_in pass CloseTuple n s) (in_sees pass CloseTuple passes OpenTuple OfTuple n s short)
-  term_by_sees (Mark CloseList) place n s short = λ h. absurd h
-  term_by_sees (Mark CloseTuple) place n s short = λ h. absurd h
-  term_by_sees (Mark Comma) place n s short = λ h. absurd h
-  term_by_sees (Mark FullStop) place n s short = λ h. absurd h
-  term_by_sees End place n s short = λ h. absurd h
+  term_by_sees (Name name) offset n s short = one_word (Name name) (Atom name) s short
+  term_by_sees (Number negative digits) offset n s short = one_word (Number negative digits) (Integer negative digits) s short
+  term_by_sees Text offset n s short = shifted by_behind (λ own x. IsTerm own) (Text ∷ []) (words_in s) (texts_at n s) (weaker by_behind (λ own x. AreTexts own) (λ own x. IsTerm (Text ∷ own)) (λ own x all. Strings own all) (words_in s) (texts_at n s) (texts_see n s short))
+  term_by_sees (Punctuation OpenList) offset n s short = shifted by_behind (λ own x. IsTerm own) (Punctuation OpenList ∷ []) (words_in s) (terms_in pass CloseList n s) (in_sees pass CloseList passes OpenList OfList n s short)
+  term_by_sees (Punctuation OpenTuple) offset n s short = shifted by_behind (λ own x. IsTerm own) (Punctuation OpenTuple ∷ []) (words_in s) (terms_in pass CloseTuple n s) (in_sees pass CloseTuple passes OpenTuple OfTuple n s short)
+  term_by_sees (Punctuation CloseList) offset n s short = λ h. absurd h
+  term_by_sees (Punctuation CloseTuple) offset n s short = λ h. absurd h
+  term_by_sees (Punctuation Comma) offset n s short = λ h. absurd h
+  term_by_sees (Punctuation FullStop) offset n s short = λ h. absurd h
+  term_by_sees End offset n s short = λ h. absurd h
 
 term_sees : (n : ℕ) (t : Located) (s : State) → IsShort s → Skipped IsTerm (t.word ∷ words_in s) (term_at n t s)
 unfolding term_at
@@ -133,17 +133,17 @@ term_sees (suc n) t s short = term_by_sees (term_at n) (term_sees n) t.word t.at
 
 -- a term, and the brace that closes its pair
 abbrev pub IsPassed : List Word → Type 0
-IsPassed own = (v : List Word) × (own ≡ v ++ Mark CloseTuple ∷ []) × IsTerm v
+IsPassed own = (v : List Word) × (own ≡ v ++ Punctuation CloseTuple ∷ []) × IsTerm v
 
 pub passed_sees : (s : State) → IsShort s → Sees by_state (λ own u. IsPassed own) (words_in s) (passed_at s)
 unfolding passed_at
 passed_sees s short =
-    token_then by_state (λ own u. IsPassed own) s (λ first. term_at (suc (room s)) first.0 first.1 >>= brace) short (record { more = Name [] ∷ Mark CloseTuple ∷ []; x = blank; is = (Name [] ∷ [], refl, a_term) })
-    (λ t u short. and_then by_behind by_state (λ own x. IsTerm own) (λ own v. IsPassed own) brace (t.word ∷ words_in u) (term_at (suc (room s)) t u) (term_sees (suc (room s)) t u short) (λ own x is short. brace_sees own is x.0 x.1 short) (λ own x is. record { more = Mark CloseTuple ∷ []; x = blank; is = (own, refl, is) }))
+    token_then by_state (λ own u. IsPassed own) s (λ first. term_at (suc (room s)) first.0 first.1 >>= brace) short (record { more = Name [] ∷ Punctuation CloseTuple ∷ []; x = blank; is = (Name [] ∷ [], refl, a_term) })
+    (λ t u short. and_then by_behind by_state (λ own x. IsTerm own) (λ own v. IsPassed own) brace (t.word ∷ words_in u) (term_at (suc (room s)) t u) (term_sees (suc (room s)) t u short) (λ own x is short. brace_sees own is x.0 x.1 short) (λ own x is. record { more = Punctuation CloseTuple ∷ []; x = blank; is = (own, refl, is) }))
   where
     brace : Located × State → Result State ConfigFault
-    brace behind = cond (is_mark CloseTuple behind.0.word) (Ok behind.1) (fails BadShape behind.0.at)
+    brace behind = cond (is_symbol CloseTuple behind.0.word) (Ok behind.1) (fails BadShape behind.0.at)
 
     brace_sees : (own : List Word) → IsTerm own → (f : Located) (u : State) → IsShort u → Sees by_state (λ vs v. IsPassed (own ++ vs)) (f.word ∷ words_in u) (brace (f, u))
-    brace_sees own is f u short = chosen by_state (λ vs v. IsPassed (own ++ vs)) (f.word ∷ words_in u) (is_mark CloseTuple f.word) (Ok u) (fails BadShape f.at)
+    brace_sees own is f u short = chosen by_state (λ vs v. IsPassed (own ++ vs)) (f.word ∷ words_in u) (is_symbol CloseTuple f.word) (Ok u) (fails BadShape f.at)
         (λ e. record { own = f.word ∷ []; whole = refl; is = (own, ap (λ (w : Word). own ++ w ∷ []) (mark_is CloseTuple f.word e), is); short = short }) (λ e h. absurd h)

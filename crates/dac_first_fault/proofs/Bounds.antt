@@ -3,7 +3,7 @@ use Rattle.std.proofs.Common.{ℕ, suc, ◌+◌, ◌≤◌, Bool, true, false, L
 use Rattle.std.proofs.lemmas.List.Elements.{All-nil}
 use Rattle.dac_tokens.specs.declared.fault.FaultKind.{FaultKind}
 use Rattle.dac_tokens.specs.declared.token.Symbol.TheVariants.{OpenList, CloseList, OpenTuple, CloseTuple, Comma, FullStop}
-use Rattle.dac_tokens.specs.Words.{Word, Mark, Name, Number, Text, End, Located}
+use Rattle.dac_tokens.specs.Words.{Word, Punctuation, Name, Number, Text, End, Located}
 use Rattle.dac_shapes.specs.Written.{App, Param, Distributed, Permissions, Mandatory, Optional, Timeout, Section, Kernel}
 use Rattle.dac_shapes.specs.Limits.{Seen, nothing, AllMay, with_node, MayNode, with_nodes, MayNodes, MayGroups, listing, with_app, MayApp, with_permission, MayPermission, with_param, MayValue, MayParam, with_section, MaySection, MaySections}
 use Rattle.dac_first_fault.specs.Keeps.{NodeKeeps, NodesKeep, GroupsKeep, AppKeeps, PermissionKeeps, ValueKeeps, ParamKeeps, SectionKeeps, Keeps}
@@ -51,7 +51,7 @@ sections_may sections k = all_to with_section (SectionKeeps Every) MaySection se
 
 -- ---- places
 
--- a place behind all of these
+-- an offset behind all of these
 abbrev pub beyond : List Located → ℕ
 beyond [] = 0
 beyond (t ∷ ts) = suc (t.at + beyond ts)
@@ -62,12 +62,12 @@ lone_beyond bad Bound (t ∷ ts) le = (λ e. absurd (omega (arith, e)), lone_bey
 
 -- behind the last of tokens there is none
 quiet_none : (w : Word) → QuietBehind w []
-quiet_none (Mark OpenList) = All-nil IsQuiet
-quiet_none (Mark OpenTuple) = All-nil IsQuiet
-quiet_none (Mark CloseList) = All-nil IsQuiet
-quiet_none (Mark CloseTuple) = All-nil IsQuiet
-quiet_none (Mark Comma) = All-nil IsQuiet
-quiet_none (Mark FullStop) = All-nil IsQuiet
+quiet_none (Punctuation OpenList) = All-nil IsQuiet
+quiet_none (Punctuation OpenTuple) = All-nil IsQuiet
+quiet_none (Punctuation CloseList) = All-nil IsQuiet
+quiet_none (Punctuation CloseTuple) = All-nil IsQuiet
+quiet_none (Punctuation Comma) = All-nil IsQuiet
+quiet_none (Punctuation FullStop) = All-nil IsQuiet
 quiet_none (Name name) = All-nil IsQuiet
 quiet_none (Number negative digits) = All-nil IsQuiet
 quiet_none Text = All-nil IsQuiet

@@ -8,7 +8,7 @@ use Rattle.dac_tokens.specs.declared.fault.FaultKind.{FaultKind}
 use Rattle.dac_tokens.specs.declared.fault.FaultKind.TheVariants.{BadShape, NoDistributed, TooLong, Unsupported, NumberTooLarge, NameTooLong, TwiceApp, TwiceInList, TooManyApps, TooManyNodes}
 use Rattle.dac_tokens.specs.declared.token.Symbol.TheVariants.{FullStop}
 use Rattle.dac_tokens.specs.Gives.{◌>>=◌}
-use Rattle.dac_tokens.specs.Words.{Word, Mark, Name, Number, Text, End, Located, is_end}
+use Rattle.dac_tokens.specs.Words.{Word, Punctuation, Name, Number, Text, End, Located, is_end}
 use Rattle.dac_tokens.specs.Stream.{Stream, tokens_of, end_at as end_of, ended as ended_by, stopped}
 use Rattle.dac_tokens.specs.TokenGrammar.{AreTokensOf, AreSpelled, Spells, depth_behind}
 use Rattle.dac_tokens.specs.TokenFaults.{StopAt}
@@ -16,12 +16,12 @@ use Rattle.dac_shapes.specs.Written.{Section, Written, written}
 use Rattle.dac_shapes.specs.Limits.{Seen, nothing, steps, with_section, MaySections}
 use Rattle.dac_shapes.specs.Within.{AreWithinLimits, nodes_in}
 use Rattle.dac_shapes.specs.Grammar.{IsFile, IsSection, IsListOf}
-use Rattle.dac_shapes.specs.Shape.{State, fails, is_mark, list_of, section_at, end_at, file_at, draft_at}
+use Rattle.dac_shapes.specs.Shape.{State, fails, is_symbol, list_of, section_at, end_at, file_at, draft_at}
 use Rattle.dac_shapes.specs.laws.AgainLists.{at, ended}
 use Rattle.dac_shapes.specs.laws.Again.{sections_again}
 use Rattle.dac_first_fault.specs.Loose.{IsLooseSection, IsLooseFile}
 use Rattle.dac_first_fault.specs.Keeps.{Keeps}
-use Rattle.dac_first_fault.specs.FirstFault.{StandsAt, Itself, InList, InTuple, words, CanBegin, CanBring, Only, Before, IsOfName, Breaks, NoKind, CanBeginLoosely, Spoils, Brings, IsWell, IsWithin, IsNoName, apps_in, BeginsWith, IsFaultOf, Long, NoToken, Token, Ends, Nobody}
+use Rattle.dac_first_fault.specs.FirstFault.{StandsAt, Itself, InList, InTuple, words, CanBegin, CanBring, Only, Before, IsOfName, Breaks, NoKind, CanBeginLoosely, Spoils, Brings, IsWell, IsFileWithinLimits, IsNoName, apps_in, BeginsWith, IsFaultOf, Long, NoToken, Token, Ends, Nobody}
 use Rattle.dac_first_fault.proofs.Outcomes.{Took, Failed, Asked, Takes, Always, Plain, Gives}
 use Rattle.dac_first_fault.proofs.Steps.{mark_is, symbol_yes, symbol_no, symbol_none, symbol_end}
 use Rattle.dac_first_fault.proofs.Sections.{sections_reader}
@@ -41,7 +41,7 @@ use Rattle.dac_first_fault.proofs.HeldFile.{file_kept}
 
 brings_by : (w : Word) (ws : List Word) (k : FaultKind) → Breaks ws k → (IsNoName w → Spoils ws k) → Brings w ws k
 brings_by (Name name) ws k breaks spoils = breaks
-brings_by (Mark symbol) ws k breaks spoils = spoils tt
+brings_by (Punctuation symbol) ws k breaks spoils = spoils tt
 brings_by (Number negative digits) ws k breaks spoils = spoils tt
 brings_by Text ws k breaks spoils = spoils tt
 brings_by End ws k breaks spoils = spoils tt
@@ -49,7 +49,7 @@ brings_by End ws k breaks spoils = spoils tt
 -- words that are quiet hold no name
 quiet_name : (w : Word) → IsQuiet w → IsNoName w
 quiet_name (Name name) quiet = quiet
-quiet_name (Mark symbol) quiet = tt
+quiet_name (Punctuation symbol) quiet = tt
 quiet_name (Number negative digits) quiet = tt
 quiet_name Text quiet = tt
 quiet_name End quiet = tt
@@ -61,19 +61,19 @@ quiet_names (w ∷ ws) all = All-cons IsNoName w ws (quiet_name w (All-head IsQu
 -- ---- the end of a file
 
 module _ (c : Located) (seen : Seen) where
-  end_no : (last : Result Located ConfigFault) (rest : List Located) → is_mark FullStop c.word ≡ false → end_at (at last (c ∷ rest) seen) ≡ fails BadShape c.at
+  end_no : (last : Result Located ConfigFault) (rest : List Located) → is_symbol FullStop c.word ≡ false → end_at (at last (c ∷ rest) seen) ≡ fails BadShape c.at
   unfolding end_at
   end_no last rest e = rw (symbol_no FullStop c last rest seen e) refl
 
-  stop_more : (d : Located) (last : Result Located ConfigFault) (rest : List Located) → is_mark FullStop c.word ≡ true → is_end d.word ≡ false → end_at (at last (c ∷ d ∷ rest) seen) ≡ fails BadShape d.at
+  stop_more : (d : Located) (last : Result Located ConfigFault) (rest : List Located) → is_symbol FullStop c.word ≡ true → is_end d.word ≡ false → end_at (at last (c ∷ d ∷ rest) seen) ≡ fails BadShape d.at
   unfolding end_at
   stop_more d last rest e f = rw (symbol_yes FullStop c last (d ∷ rest) seen e, f) refl
 
-  stop_none : (p : ConfigFault) → is_mark FullStop c.word ≡ true → end_at (at (Err p) (c ∷ []) seen) ≡ Err p
+  stop_none : (p : ConfigFault) → is_symbol FullStop c.word ≡ true → end_at (at (Err p) (c ∷ []) seen) ≡ Err p
   unfolding end_at
   stop_none p e = rw (symbol_yes FullStop c (Err p) [] seen e) refl
 
-  stop_end : (t : Located) → is_mark FullStop c.word ≡ true → t.word ≡ End → end_at (at (Ok t) (c ∷ []) seen) ≡ Ok (t.at, at (Ok t) [] seen)
+  stop_end : (t : Located) → is_symbol FullStop c.word ≡ true → t.word ≡ End → end_at (at (Ok t) (c ∷ []) seen) ≡ Ok (t.at, at (Ok t) [] seen)
   unfolding end_at
   stop_end t e w = rw (symbol_yes FullStop c (Ok t) [] seen e, w) refl
 
@@ -103,7 +103,7 @@ Done ts = (sections : List Section) × IsFile (words ts) sections × MaySections
 
 -- what fault reading can have where the end is behind these tokens
 abbrev AtEnd : List Located → ℕ → ConfigFault → Type 0
-AtEnd ts place e = (e ≡ record { kind = BadShape; at = place }) ⊎ ((e ≡ record { kind = NoDistributed; at = place }) × Done ts)
+AtEnd ts offset e = (e ≡ record { kind = BadShape; at = offset }) ⊎ ((e ≡ record { kind = NoDistributed; at = offset }) × Done ts)
 
 -- what reading a file makes of these tokens
 data Judged (ts : List Located) : Type 0 where
@@ -125,19 +125,19 @@ no_end_behind [] b h = h
 no_end_behind (t ∷ a) b h = no_end_behind a b h.1
 
 no_end_word : (w : Word) (own rest : List ℕ) → Spells w own rest → is_end w ≡ false
-no_end_word (Mark symbol) own rest is = refl
+no_end_word (Punctuation symbol) own rest is = refl
 no_end_word (Name name) own rest is = refl
 no_end_word (Number negative digits) own rest is = refl
 no_end_word Text own rest is = refl
 no_end_word End own rest is = absurd is
 
-no_end_spelled : (place : ℕ) (bytes : List ℕ) (ts : List Located) → AreSpelled place bytes ts → NoEnd ts
-no_end_spelled place bytes [] is = tt
-no_end_spelled place bytes (t ∷ ts) is = (no_end_word t.word is.0 is.1 is.2.spelled, no_end_spelled (t.at + length is.0) is.1 ts is.3)
+no_end_spelled : (offset : ℕ) (bytes : List ℕ) (ts : List Located) → AreSpelled offset bytes ts → NoEnd ts
+no_end_spelled offset bytes [] is = tt
+no_end_spelled offset bytes (t ∷ ts) is = (no_end_word t.word is.0 is.1 is.2.spelled, no_end_spelled (t.at + length is.0) is.1 ts is.3)
 
-no_end_stopped : (place depth : ℕ) (bytes : List ℕ) (ts : List Located) (e : ConfigFault) → StopAt place depth bytes ts e → NoEnd ts
-no_end_stopped place depth bytes [] e is = tt
-no_end_stopped place depth bytes (t ∷ ts) e is = (no_end_word t.word is.0 is.1 is.2.spelled, no_end_stopped (t.at + length is.0) (depth_behind depth t.word) is.1 ts e is.4)
+no_end_stopped : (offset depth : ℕ) (bytes : List ℕ) (ts : List Located) (e : ConfigFault) → StopAt offset depth bytes ts e → NoEnd ts
+no_end_stopped offset depth bytes [] e is = tt
+no_end_stopped offset depth bytes (t ∷ ts) e is = (no_end_word t.word is.0 is.1 is.2.spelled, no_end_stopped (t.at + length is.0) (depth_behind depth t.word) is.1 ts e is.4)
 
 module _ (ts : List Located) (k : Takes Always Plain (λ _. list_of section_at) ts nothing) where
   goes : (last : Result Located ConfigFault) (rest : List Located) → file_at (at last (k.a ++ rest) nothing) ≡ (end_at (at last rest k.after) >>= judged k.x)
@@ -152,14 +152,14 @@ module _ (ts : List Located) (k : Takes Always Plain (λ _. list_of section_at) 
       (λ t e w h. inl (same_err (record { kind = BadShape; at = t.at }) e (file_at (at (Ok t) (k.a ++ []) nothing)) (goes (Ok t) [] ∙ ap (λ r. r >>= judged k.x) (end_end t k.after w)) h))
       (λ t w e h. no_draft (record { kind = BadShape; at = t.at }) w (file_at (at (Ok t) (k.a ++ []) nothing)) (goes (Ok t) [] ∙ ap (λ r. r >>= judged k.x) (end_end t k.after e)) h)
 
-  stop_wants : (c : Located) → is_mark FullStop c.word ≡ true → (p : ConfigFault) → file_at (at (Err p) (k.a ++ c ∷ []) nothing) ≡ Err p
+  stop_wants : (c : Located) → is_symbol FullStop c.word ≡ true → (p : ConfigFault) → file_at (at (Err p) (k.a ++ c ∷ []) nothing) ≡ Err p
   stop_wants c is p = goes (Err p) (c ∷ []) ∙ ap (λ r. r >>= judged k.x) (stop_none c k.after p is)
 
   list_wants : (p : ConfigFault) → file_at (at (Err p) k.a nothing) ≡ Err p
   list_wants p = ap (λ (l : List Located). file_at (at (Err p) l nothing)) (sym (append-nil k.a)) ∙ goes (Err p) [] ∙ ap (λ r. r >>= judged k.x) (end_none p k.after)
 
   -- what was read is a file that keeps the limits
-  done : (c : Located) → is_mark FullStop c.word ≡ true → Done (k.a ++ c ∷ [])
+  done : (c : Located) → is_symbol FullStop c.word ≡ true → Done (k.a ++ c ∷ [])
   done c is =
       let ts = k.a ++ c ∷ [] in
       let bad = beyond ts in
@@ -167,20 +167,20 @@ module _ (ts : List Located) (k : Takes Always Plain (λ _. list_of section_at) 
       subst (λ (r : Result (List Section × State) ConfigFault). Holds bad Every by_pair (AreSections bad Every) (words ts) r) (k.goes tt (Err halt) (c ∷ []) tt) (sections_held bad Every ts (lone_beyond bad Every ts (omega arith))) in
       (k.x, (q.own, q.whole ∙ ap (λ (w : Word). q.own ++ w ∷ []) (mark_is FullStop c.word is), sections_strict Every tt tt tt tt q.own k.x q.is.0), sections_may k.x q.is.1)
 
-  stopped_by : (c : Located) (b : List Located) → is_mark FullStop c.word ≡ true → NoEnd b → Judged (k.a ++ c ∷ b)
+  stopped_by : (c : Located) (b : List Located) → is_symbol FullStop c.word ≡ true → NoEnd b → Judged (k.a ++ c ∷ b)
   stopped_by c [] is no_end = Unsettled (stop_wants c is)
       (λ t e w h. last_fault (k.a ++ c ∷ []) (done c is) t e (eqb (length (written k.x k.after.met).apps) 0) (written k.x k.after.met) (sym (goes (Ok t) (c ∷ []) ∙ ap (λ r. r >>= judged k.x) (stop_end c k.after t is w)) ∙ h))
       (λ t w e h. done c is)
   stopped_by c (d ∷ b) is no_end = By (k.a ++ c ∷ []) d b (record { kind = BadShape; at = d.at }) (sym (append_assoc k.a (c ∷ []) (d ∷ b)))
       (λ last rest. ap (λ (l : List Located). file_at (at last l nothing)) (append_assoc k.a (c ∷ []) (d ∷ rest)) ∙ goes last (c ∷ d ∷ rest) ∙ ap (λ r. r >>= judged k.x) (stop_more c k.after d last rest is no_end.0)) (Itself refl tt) (stop_wants c is)
 
-  stop_by : (c : Located) (b : List Located) (x : Bool) → is_mark FullStop c.word ≡ x → NoEnd b → Judged (k.a ++ c ∷ b)
+  stop_by : (c : Located) (b : List Located) (x : Bool) → is_symbol FullStop c.word ≡ x → NoEnd b → Judged (k.a ++ c ∷ b)
   stop_by c b true is no_end = stopped_by c b is no_end
   stop_by c b false is no_end = By k.a c b (record { kind = BadShape; at = c.at }) refl (λ last rest. goes last (c ∷ rest) ∙ ap (λ r. r >>= judged k.x) (end_no c k.after last rest is)) (Itself refl tt) list_wants
 
   took_by : (b : List Located) → NoEnd b → Judged (k.a ++ b)
   took_by [] no_end = none_left
-  took_by (c ∷ b) no_end = stop_by c b (is_mark FullStop c.word) refl no_end.1
+  took_by (c ∷ b) no_end = stop_by c b (is_symbol FullStop c.word) refl no_end.1
 
 judged_by : (ts : List Located) → NoEnd ts → Gives (list_of section_at) ts nothing → Judged ts
 judged_by ts no_end (Took k) = subst Judged (sym k.whole) (took_by ts k k.b (no_end_behind k.a k.b (subst NoEnd k.whole no_end)))
@@ -210,10 +210,10 @@ module _ (order : (sections : List Section) → (MaySections sections ↔ AreWit
   within_judged : (end : Located) (ts : List Located) (sections : List Section) → end.word ≡ End → IsFile (words ts) sections → AreWithinLimits sections
       → file_at (at (Ok end) ts nothing) ≡ cond (eqb (apps_in sections) 0) (fails NoDistributed end.at) (Ok (written sections (nodes_in sections)))
   within_judged end ts sections w file within =
-      let c = ended ts file.0 (Mark FullStop) file.1 in
+      let c = ended ts file.0 (Punctuation FullStop) file.1 in
       let list : IsListOf IsSection (words c.front) sections = subst (λ (l : List Word). IsListOf IsSection l sections) (sym c.first) file.2 in
       let seen = steps with_section nothing sections in
-      let stop : is_mark FullStop c.end.word ≡ true = ap (is_mark FullStop) c.is in
+      let stop : is_symbol FullStop c.end.word ≡ true = ap (is_symbol FullStop) c.is in
       ap (λ (l : List Located). file_at (at (Ok end) l nothing)) c.whole ∙ file_is (at (Ok end) (c.front ++ c.end ∷ []) nothing)
       ∙ ap (λ r. r >>= behind) (sections_again (Ok end) c.front (c.end ∷ []) sections nothing list ((order sections).1 within))
       ∙ ap (λ r. r >>= judged sections) (stop_end c.end seen end stop w)
@@ -230,7 +230,7 @@ module _ (order : (sections : List Section) → (MaySections sections ↔ AreWit
   no_clash e true w h = let same : e.at ≡ suc e.at = ap (λ (f : ConfigFault). f.at) (same_err (record { kind = NoDistributed; at = suc e.at }) e (fails NoDistributed (suc e.at)) refl h) in absurd (omega arith)
   no_clash e false w h = absurd cc
 
-  begins_none : (a : List Located) (l : Located) (e : ConfigFault) → ((last : Result Located ConfigFault) (rest : List Located) → file_at (at last (a ++ l ∷ rest) nothing) ≡ Err e) → (more : List Word) → IsWithin ((words a ++ l.word ∷ []) ++ more) → ⊥
+  begins_none : (a : List Located) (l : Located) (e : ConfigFault) → ((last : Result Located ConfigFault) (rest : List Located) → file_at (at last (a ++ l ∷ rest) nothing) ≡ Err e) → (more : List Word) → IsFileWithinLimits ((words a ++ l.word ∷ []) ++ more) → ⊥
   begins_none a l e fault more is =
       let rest = map (place_at 0) more in
       let same : words (a ++ l ∷ rest) ≡ (words a ++ l.word ∷ []) ++ more = words_append a (l ∷ rest) ∙ ap (λ (m : List Word). words a ++ l.word ∷ m) (placed 0 more) ∙ sym (append_assoc (words a) (l.word ∷ []) more) in
@@ -241,11 +241,11 @@ module _ (order : (sections : List Section) → (MaySections sections ↔ AreWit
   file_read : (end : Located) (Bad : ℕ → Type 0) (Kept : FaultKind → Type 0) (ts : List Located) (sections : List Section) (e : ConfigFault) → end.word ≡ End → IsLooseFile Kept (words ts) sections → Keeps Kept sections → Fine Bad ts → file_at (at (Ok end) ts nothing) ≡ Err e
       → Unkept Bad Kept e.kind e.at ⊎ (e ≡ record { kind = NoDistributed; at = end.at })
   file_read end Bad Kept ts sections e w file keep fine h =
-      let c = ended ts file.0 (Mark FullStop) file.1 in
+      let c = ended ts file.0 (Punctuation FullStop) file.1 in
       let list : IsListOf (IsLooseSection Kept) (words c.front) sections = subst (λ (l : List Word). IsListOf (IsLooseSection Kept) l sections) (sym c.first) file.2 in
       let front : Fine Bad c.front = fine_front Bad c.front (c.end ∷ []) (subst (λ (l : List Located). Fine Bad l) c.whole fine) in
       let there : (list_of section_at (at (Ok end) (c.front ++ c.end ∷ []) nothing) >>= behind) ≡ Err e = sym (ap (λ (l : List Located). file_at (at (Ok end) l nothing)) c.whole ∙ file_is (at (Ok end) (c.front ++ c.end ∷ []) nothing)) ∙ h in
-      by c.end (ap (is_mark FullStop) c.is) (list_of section_at (at (Ok end) (c.front ++ c.end ∷ []) nothing)) (sections_met (Ok end) Bad Kept c.front (c.end ∷ []) sections list front keep) there
+      by c.end (ap (is_symbol FullStop) c.is) (list_of section_at (at (Ok end) (c.front ++ c.end ∷ []) nothing)) (sections_met (Ok end) Bad Kept c.front (c.end ∷ []) sections list front keep) there
     where
       after : Seen
       after = steps with_section nothing sections
@@ -254,7 +254,7 @@ module _ (order : (sections : List Section) → (MaySections sections ↔ AreWit
       nobody true w h = same_err (record { kind = NoDistributed; at = end.at }) e (fails NoDistributed end.at) refl h
       nobody false w h = absurd cc
 
-      by : (c : Located) → is_mark FullStop c.word ≡ true → (r : Result (List Section × State) ConfigFault) → Met (Ok end) Bad Kept sections (c ∷ []) after r → (r >>= behind) ≡ Err e → Unkept Bad Kept e.kind e.at ⊎ (e ≡ record { kind = NoDistributed; at = end.at })
+      by : (c : Located) → is_symbol FullStop c.word ≡ true → (r : Result (List Section × State) ConfigFault) → Met (Ok end) Bad Kept sections (c ∷ []) after r → (r >>= behind) ≡ Err e → Unkept Bad Kept e.kind e.at ⊎ (e ≡ record { kind = NoDistributed; at = end.at })
       by c stop (Ok y) m h =
           let read : behind y ≡ judged sections (end.at, at (Ok end) [] after) = ap behind m ∙ ap (λ r. r >>= judged sections) (stop_end c after end stop w) in
           inr (nobody (eqb (length (written sections after.met).apps) 0) (written sections after.met) (sym read ∙ h))
@@ -266,14 +266,14 @@ module _ (order : (sections : List Section) → (MaySections sections ↔ AreWit
 
   -- what reading makes of a file that goes on behind the token of the fault
   module _ (a : List Located) (l : Located) (e : ConfigFault) (fault : (last : Result Located ConfigFault) (rest : List Located) → file_at (at last (a ++ l ∷ rest) nothing) ≡ Err e) (Bad : ℕ → Type 0) (Kept : FaultKind → Type 0) where
-    goes_on : (place : ℕ) (more : List Word) (sections : List Section) → IsLooseFile Kept ((words a ++ l.word ∷ []) ++ more) sections → Keeps Kept sections → Fine Bad (a ++ l ∷ map (place_at place) more) → Unkept Bad Kept e.kind e.at
-    goes_on place more sections file keep fine =
-        let rest = map (place_at place) more in
-        let same : words (a ++ l ∷ rest) ≡ (words a ++ l.word ∷ []) ++ more = words_append a (l ∷ rest) ∙ ap (λ (m : List Word). words a ++ l.word ∷ m) (placed place more) ∙ sym (append_assoc (words a) (l.word ∷ []) more) in
+    goes_on : (offset : ℕ) (more : List Word) (sections : List Section) → IsLooseFile Kept ((words a ++ l.word ∷ []) ++ more) sections → Keeps Kept sections → Fine Bad (a ++ l ∷ map (place_at offset) more) → Unkept Bad Kept e.kind e.at
+    goes_on offset more sections file keep fine =
+        let rest = map (place_at offset) more in
+        let same : words (a ++ l ∷ rest) ≡ (words a ++ l.word ∷ []) ++ more = words_append a (l ∷ rest) ∙ ap (λ (m : List Word). words a ++ l.word ∷ m) (placed offset more) ∙ sym (append_assoc (words a) (l.word ∷ []) more) in
         let read = file_read (end_of (suc e.at)) Bad Kept (a ++ l ∷ rest) sections e refl (subst (λ (m : List Word). IsLooseFile Kept m sections) (sym same) file) keep fine (fault (Ok (end_of (suc e.at))) rest) in
         elim read [
           | inl of ↦ of
-          | inr is ↦ let place : e.at ≡ suc e.at = ap (λ (f : ConfigFault). f.at) is in absurd (omega (arith, place))
+          | inr is ↦ let offset : e.at ≡ suc e.at = ap (λ (f : ConfigFault). f.at) is in absurd (omega (arith, offset))
         ]
 
   no_file : (a : List Located) (l : Located) (e : ConfigFault) → ((last : Result Located ConfigFault) (rest : List Located) → file_at (at last (a ++ l ∷ rest) nothing) ≡ Err e) → StandsAt a l e → IsNoName l.word → Fine (At l.at) a
@@ -321,19 +321,19 @@ module _ (order : (sections : List Section) → (MaySections sections ↔ AreWit
     abbrev FaultsBy : ConfigFault → Type 0
     FaultsBy e = (last : Result Located ConfigFault) (rest : List Located) → file_at (at last (a ++ l ∷ rest) nothing) ≡ Err e
 
-    itself_spoils : (k : FaultKind) (place : ℕ) → FaultsBy (record { kind = k; at = place }) → Stops l.at NoKind k place → (IsQuiet l.word → ⊥) → CanBeginLoosely (words a ++ l.word ∷ [])
-    itself_spoils k place fault stops loud = spoilt_so l.at a l (record { kind = k; at = place }) fault (lone_last l.at NoKind a l (text_clear text a l begins)) stops loud
+    itself_spoils : (k : FaultKind) (offset : ℕ) → FaultsBy (record { kind = k; at = offset }) → Stops l.at NoKind k offset → (IsQuiet l.word → ⊥) → CanBeginLoosely (words a ++ l.word ∷ [])
+    itself_spoils k offset fault stops loud = spoilt_so l.at a l (record { kind = k; at = offset }) fault (lone_last l.at NoKind a l (text_clear text a l begins)) stops loud
 
-    itself_told : (k : FaultKind) (place : ℕ) → FaultsBy (record { kind = k; at = place }) → place ≡ l.at → CanBring k l.word → Spoils (words a ++ l.word ∷ []) k
-    itself_told BadShape place fault e can = none_loosely a l (record { kind = BadShape; at = place }) fault (ap (λ (n : ℕ). record { kind = BadShape; at = n }) e) no_name (text_fine text a l begins)
-    itself_told Unsupported place fault e can = itself_spoils Unsupported place fault (e, λ no. no) (λ quiet. subst IsQuiet can quiet)
-    itself_told NumberTooLarge place fault e can = itself_spoils NumberTooLarge place fault (e, λ no. no) (λ quiet. subst IsQuiet can.1 quiet)
-    itself_told NameTooLong place fault e can = absurd (subst IsNoName can.1 no_name)
-    itself_told TwiceApp place fault e can = absurd (subst IsNoName can.1 no_name)
-    itself_told TwiceInList place fault e can = absurd (subst IsNoName can.1 no_name)
-    itself_told TooManyApps place fault e can = absurd (subst IsNoName can.1 no_name)
-    itself_told TooManyNodes place fault e can = absurd (subst IsNoName can.1 no_name)
-    itself_told _ place fault e can = absurd can
+    itself_told : (k : FaultKind) (offset : ℕ) → FaultsBy (record { kind = k; at = offset }) → offset ≡ l.at → CanBring k l.word → Spoils (words a ++ l.word ∷ []) k
+    itself_told BadShape offset fault e can = none_loosely a l (record { kind = BadShape; at = offset }) fault (ap (λ (n : ℕ). record { kind = BadShape; at = n }) e) no_name (text_fine text a l begins)
+    itself_told Unsupported offset fault e can = itself_spoils Unsupported offset fault (e, λ no. no) (λ quiet. subst IsQuiet can quiet)
+    itself_told NumberTooLarge offset fault e can = itself_spoils NumberTooLarge offset fault (e, λ no. no) (λ quiet. subst IsQuiet can.1 quiet)
+    itself_told NameTooLong offset fault e can = absurd (subst IsNoName can.1 no_name)
+    itself_told TwiceApp offset fault e can = absurd (subst IsNoName can.1 no_name)
+    itself_told TwiceInList offset fault e can = absurd (subst IsNoName can.1 no_name)
+    itself_told TooManyApps offset fault e can = absurd (subst IsNoName can.1 no_name)
+    itself_told TooManyNodes offset fault e can = absurd (subst IsNoName can.1 no_name)
+    itself_told _ offset fault e can = absurd can
 
     -- brackets with nothing between
     empty_told : (e : ConfigFault) (front : List Located) (o : Located) → FaultsBy e → a ≡ front ++ o ∷ [] → QuietBehind o.word (l ∷ []) → Stops o.at NoKind e.kind e.at → (IsQuiet l.word → ⊥) → CanBeginLoosely (words a ++ l.word ∷ [])
@@ -343,7 +343,7 @@ module _ (order : (sections : List Section) → (MaySections sections ↔ AreWit
         spoilt_so o.at a l e fault (subst (λ (ts : List Located). Lone o.at NoKind ts) (sym whole) (lone_two o.at NoKind front o l quiet (text_clear text front o before))) stops loud
 
     told : (e : ConfigFault) → FaultsBy e → StandsAt a l e → Spoils (words a ++ l.word ∷ []) e.kind
-    told e fault (Itself place can) = itself_told e.kind e.at fault place can
+    told e fault (Itself offset can) = itself_told e.kind e.at fault offset can
     told e fault (InList front o parts w v k) =
         subst (λ (f : ConfigFault). Spoils (words a ++ l.word ∷ []) f.kind) (sym k)
         (empty_told e front o fault parts (subst (λ (u : Word). QuietBehind u (l ∷ [])) (sym w) (All-nil IsQuiet)) (subst (λ (f : ConfigFault). Stops o.at NoKind f.kind f.at) (sym k) (refl, λ no. no)) (λ quiet. subst IsQuiet v quiet))
@@ -361,9 +361,9 @@ module _ (order : (sections : List Section) → (MaySections sections ↔ AreWit
     | inr no_name ↦ no_file a l e fault stands no_name fine w.goes_on.more w.goes_on.sections w.goes_on.file
   ]
 
-  none_listed : (place n : ℕ) (c : Bool) (w : Written) → eqb n 0 ≡ c → cond c (fails NoDistributed place) (Ok w) ≡ fails NoDistributed place → n ≡ 0
-  none_listed place n true w e h = eqb-true n 0 e
-  none_listed place n false w e h = absurd cc
+  none_listed : (offset n : ℕ) (c : Bool) (w : Written) → eqb n 0 ≡ c → cond c (fails NoDistributed offset) (Ok w) ≡ fails NoDistributed offset → n ≡ 0
+  none_listed offset n true w e h = eqb-true n 0 e
+  none_listed offset n false w e h = absurd cc
 
   module _ (text : List ℕ) (s : Stream) (end : IfOk s.last (λ t. t ≡ end_of (length text))) (spelled : (ts : List Located) → (AreTokensOf text ts ↔ (s ≡ ended_by (length text) ts))) (stops : (ts : List Located) (e : ConfigFault) → (StopAt 0 0 text ts e ↔ (s ≡ stopped ts e)))
       (short : length text ≤ 65536) where
@@ -433,7 +433,7 @@ module _ (order : (sections : List Section) → (MaySections sections ↔ AreWit
     whole_read w h = whole_by w h (judged_by s.tokens (no_end_by s.last refl) (sections_reader s.tokens nothing))
 
     -- if none is listed, there is a fault
-    pub listed_read : (is : IsWithin (words s.tokens)) → apps_in is.sections ≡ 0 → s.last ≡ Ok (end_of (length text)) → (w : Written) → file_at (at s.last s.tokens nothing) ≡ Ok w → ⊥
+    pub listed_read : (is : IsFileWithinLimits (words s.tokens)) → apps_in is.sections ≡ 0 → s.last ≡ Ok (end_of (length text)) → (w : Written) → file_at (at s.last s.tokens nothing) ≡ Ok w → ⊥
     listed_read is none last w h =
         let end = end_of (length text) in
         let read = within_judged end s.tokens is.sections refl is.file is.within in

@@ -9,9 +9,9 @@ use Rattle.dac_tokens.specs.declared.fault.FaultKind.TheVariants.{BadShape, TooL
 use Rattle.dac_tokens.specs.declared.token.Symbol.{Symbol}
 use Rattle.dac_tokens.specs.declared.token.Symbol.TheVariants.{OpenList, CloseList, OpenTuple, CloseTuple, Comma, FullStop}
 use Rattle.dac_tokens.specs.Gives.{◌>>=◌}
-use Rattle.dac_tokens.specs.Words.{Word, Mark, Name, Located}
+use Rattle.dac_tokens.specs.Words.{Word, Punctuation, Name, Located}
 use Rattle.dac_shapes.specs.Limits.{Seen, AllMay, steps}
-use Rattle.dac_shapes.specs.Shape.{State, fails, is_mark, token, symbol_at, more_at, comma_list, list_of, pair_at, closed, room}
+use Rattle.dac_shapes.specs.Shape.{State, fails, is_symbol, token, symbol_at, more_at, comma_list, list_of, pair_at, closed, room}
 use Rattle.dac_shapes.specs.Grammar.{Parted, IsListOf}
 use Rattle.dac_shapes.specs.laws.AgainLists.{at}
 use Rattle.dac_first_fault.specs.FirstFault.{rank}
@@ -24,10 +24,10 @@ words ts = map (λ t. t.word) ts
 
 -- A word behind which words can't be wrong yet. Names, numbers, strings and closing brackets aren't.
 abbrev pub IsQuiet : Word → Type 0
-IsQuiet (Mark OpenList) = Unit {0}
-IsQuiet (Mark OpenTuple) = Unit {0}
-IsQuiet (Mark Comma) = Unit {0}
-IsQuiet (Mark FullStop) = Unit {0}
+IsQuiet (Punctuation OpenList) = Unit {0}
+IsQuiet (Punctuation OpenTuple) = Unit {0}
+IsQuiet (Punctuation Comma) = Unit {0}
+IsQuiet (Punctuation FullStop) = Unit {0}
 IsQuiet _ = ⊥
 
 -- these words up to the last that isn't quiet begin such a thing
@@ -49,19 +49,19 @@ all_kept Is ws b = record { named = ws; rest = []; parts = sym (append-nil ws); 
 abbrev pub Frees : (FaultKind → Type 0) → FaultKind → Type 0
 Frees Bound kind = (other : FaultKind) → rank kind ≤ rank other → rank other ≤ 5 → Bound other → ⊥
 
--- The fault is the end of the tokens, or stands at the place `bad`, and its limit or shape isn't bound.
+-- The fault is the end of the tokens, or stands at the offset `bad`, and its limit or shape isn't bound.
 abbrev pub Stops : ℕ → (FaultKind → Type 0) → FaultKind → ℕ → Type 0
-Stops bad Bound TooLong place = Unit {0}
-Stops bad Bound NameTooLong place = (place ≡ bad) × Frees Bound NameTooLong
-Stops bad Bound TwiceApp place = (place ≡ bad) × Frees Bound TwiceApp
-Stops bad Bound TwiceInList place = (place ≡ bad) × Frees Bound TwiceInList
-Stops bad Bound TooManyApps place = (place ≡ bad) × Frees Bound TooManyApps
-Stops bad Bound TooManyNodes place = (place ≡ bad) × Frees Bound TooManyNodes
-Stops bad Bound EmptyList place = (place ≡ bad) × (Bound EmptyList → ⊥)
-Stops bad Bound EmptyTuple place = (place ≡ bad) × (Bound EmptyTuple → ⊥)
-Stops bad Bound NumberTooLarge place = (place ≡ bad) × (Bound NumberTooLarge → ⊥)
-Stops bad Bound Unsupported place = (place ≡ bad) × (Bound Unsupported → ⊥)
-Stops bad Bound _ place = ⊥
+Stops bad Bound TooLong offset = Unit {0}
+Stops bad Bound NameTooLong offset = (offset ≡ bad) × Frees Bound NameTooLong
+Stops bad Bound TwiceApp offset = (offset ≡ bad) × Frees Bound TwiceApp
+Stops bad Bound TwiceInList offset = (offset ≡ bad) × Frees Bound TwiceInList
+Stops bad Bound TooManyApps offset = (offset ≡ bad) × Frees Bound TooManyApps
+Stops bad Bound TooManyNodes offset = (offset ≡ bad) × Frees Bound TooManyNodes
+Stops bad Bound EmptyList offset = (offset ≡ bad) × (Bound EmptyList → ⊥)
+Stops bad Bound EmptyTuple offset = (offset ≡ bad) × (Bound EmptyTuple → ⊥)
+Stops bad Bound NumberTooLarge offset = (offset ≡ bad) × (Bound NumberTooLarge → ⊥)
+Stops bad Bound Unsupported offset = (offset ≡ bad) × (Bound Unsupported → ⊥)
+Stops bad Bound _ offset = ⊥
 
 -- a thing that may come, and what was seen behind it
 abbrev pub Taken : {A : Type 0} → (List Word → A → Type 0) → (Seen → A → Type 0) → (Seen → A → Seen) → Seen → List Word → A × State → Type 0
@@ -69,7 +69,7 @@ Taken Is May step seen own x = Is own x.0 × May seen x.0 × (x.1.seen ≡ step 
 
 -- a value, and the brace that closes its pair
 abbrev pub IsHeldClosed : {A : Type 0} → (List Word → A → Seen → Type 0) → List Word → A × State → Type 0
-IsHeldClosed Is own x = (v : List Word) × (own ≡ v ++ Mark CloseTuple ∷ []) × Is v x.0 x.1.seen
+IsHeldClosed Is own x = (v : List Word) × (own ≡ v ++ Punctuation CloseTuple ∷ []) × Is v x.0 x.1.seen
 
 abbrev pub but_one : List Located → List Located
 but_one [] = []
@@ -77,12 +77,13 @@ but_one (t ∷ ts) = ts
 
 -- what stands behind a word is quiet
 abbrev pub QuietBehind : Word → List Located → Type 0
-QuietBehind (Mark OpenList) ts = All IsQuiet (words (but_one ts))
-QuietBehind (Mark OpenTuple) ts = All IsQuiet (words (but_one ts))
+QuietBehind (Punctuation OpenList) ts = All IsQuiet (words (but_one ts))
+QuietBehind (Punctuation OpenTuple) ts = All IsQuiet (words (but_one ts))
 QuietBehind _ ts = All IsQuiet (words ts)
 
 module _ (bad : ℕ) (Bound : FaultKind → Type 0) where
-  -- Only quiet words stand behind a token at the place `bad`. If it is an opening bracket, another token is before them.
+  -- Only quiet words stand behind a token at the offset `bad`. If it is an opening bracket, another token is before
+  -- them.
   abbrev pub Alone : Located → List Located → Type 0
   Alone t ts = t.at ≡ bad → QuietBehind t.word ts
 
@@ -182,8 +183,8 @@ module _ (bad : ℕ) (Bound : FaultKind → Type 0) where
       | inr q ↦ inr (kept_behind ws q)
     ]
 
-  pub behind_mark : {X : Type 0} (via : Via X) (Is : List Word → X → Type 0) (x : Symbol) → IsQuiet (Mark x) → (ws : List Word) (r : Result X ConfigFault) → Holds via (λ vs y. Is (Mark x ∷ vs) y) ws r → Holds via Is (Mark x ∷ ws) r
-  behind_mark via Is x quiet ws r k = behind_marks via Is (Mark x ∷ []) (All-cons IsQuiet (Mark x) [] quiet (All-nil IsQuiet)) ws r k
+  pub behind_mark : {X : Type 0} (via : Via X) (Is : List Word → X → Type 0) (x : Symbol) → IsQuiet (Punctuation x) → (ws : List Word) (r : Result X ConfigFault) → Holds via (λ vs y. Is (Punctuation x ∷ vs) y) ws r → Holds via Is (Punctuation x ∷ ws) r
+  behind_mark via Is x quiet ws r k = behind_marks via Is (Punctuation x ∷ []) (All-cons IsQuiet (Punctuation x) [] quiet (All-nil IsQuiet)) ws r k
 
   -- one reading, and another behind it
   module _ {X Y : Type 0} (vx : Via X) (vy : Via Y) (IsX : List Word → X → Type 0) (Is : List Word → Y → Type 0) (next : X → Result Y ConfigFault) where
@@ -207,7 +208,7 @@ module _ (bad : ℕ) (Bound : FaultKind → Type 0) where
   held_look P via Is ws (Ok k) next is behind = behind k is
   held_look P via Is ws (Err e) next is behind = is
 
-  -- ---- tokens and marks
+  -- ---- tokens and symbols
 
   module _ {Y : Type 0} (vy : Via Y) (Is : List Word → Y → Type 0) where
     pub token_held : (s : State) (next : Located × State → Result Y ConfigFault) → IsOver s → ((t : Located) (ts : List Located) (last : Result Located ConfigFault) → Alone t ts → Over ts last → Holds vy Is (t.word ∷ words ts) (next (t, at last ts s.seen))) → Holds vy Is (words_in s) (token s >>= next)
@@ -218,35 +219,35 @@ module _ (bad : ℕ) (Bound : FaultKind → Type 0) where
         by (t ∷ ts) last e = behind t ts last e.1.0 (e.0, e.1.1)
 
     abbrev Next : State → Symbol → (State → Result Y ConfigFault) → Type 0
-    Next s x next = (ts : List Located) (last : Result Located ConfigFault) → Over ts last → Holds vy (λ vs y. Is (Mark x ∷ vs) y) (words ts) (next (at last ts s.seen))
+    Next s x next = (ts : List Located) (last : Result Located ConfigFault) → Over ts last → Holds vy (λ vs y. Is (Punctuation x ∷ vs) y) (words ts) (next (at last ts s.seen))
 
-    -- a mark that is quiet, or that ends a thing
+    -- a symbol that is quiet, or that ends a thing
     abbrev pub Goes : Symbol → Type 0
-    Goes x = IsQuiet (Mark x) ⊎ Begun Is (Mark x ∷ [])
+    Goes x = IsQuiet (Punctuation x) ⊎ Begun Is (Punctuation x ∷ [])
 
-    marked : (x : Symbol) → Goes x → (w : Word) (ws : List Word) (r : Result Y ConfigFault) → w ≡ Mark x → Holds vy (λ vs y. Is (Mark x ∷ vs) y) ws r → Holds vy Is (w ∷ ws) r
+    marked : (x : Symbol) → Goes x → (w : Word) (ws : List Word) (r : Result Y ConfigFault) → w ≡ Punctuation x → Holds vy (λ vs y. Is (Punctuation x ∷ vs) y) ws r → Holds vy Is (w ∷ ws) r
     marked x goes w ws r e k = subst (λ (v : Word). Holds vy Is (v ∷ ws) r) (sym e) (elim goes [
       | inl quiet ↦ behind_mark vy Is x quiet ws r k
-      | inr b ↦ behind_names vy Is (Mark x ∷ []) b ws r k
+      | inr b ↦ behind_names vy Is (Punctuation x ∷ []) b ws r k
     ])
 
     pub symbol_held : (x : Symbol) → Goes x → (s : State) (next : State → Result Y ConfigFault) → IsOver s → Next s x next → Holds vy Is (words_in s) (symbol_at x s >>= next)
     unfolding symbol_at
     symbol_held x goes s next short behind =
-        let test : Located × State → Result State ConfigFault = λ t. cond (is_mark x t.0.word) (Ok t.1) (fails BadShape t.0.at) in
-        subst (Holds vy Is (words_in s)) (regroup (token s) test next) (token_held s (λ t. test t >>= next) short (λ t ts last alone e. by t ts last e (is_mark x t.word) refl))
+        let test : Located × State → Result State ConfigFault = λ t. cond (is_symbol x t.0.word) (Ok t.1) (fails BadShape t.0.at) in
+        subst (Holds vy Is (words_in s)) (regroup (token s) test next) (token_held s (λ t. test t >>= next) short (λ t ts last alone e. by t ts last e (is_symbol x t.word) refl))
       where
-        by : (t : Located) (ts : List Located) (last : Result Located ConfigFault) → Over ts last → (c : Bool) → is_mark x t.word ≡ c → Holds vy Is (t.word ∷ words ts) (cond c (Ok (at last ts s.seen)) (fails BadShape t.at) >>= next)
+        by : (t : Located) (ts : List Located) (last : Result Located ConfigFault) → Over ts last → (c : Bool) → is_symbol x t.word ≡ c → Holds vy Is (t.word ∷ words ts) (cond c (Ok (at last ts s.seen)) (fails BadShape t.at) >>= next)
         by t ts last e true is = marked x goes t.word (words ts) (next (at last ts s.seen)) (mark_is x t.word is) (behind ts last e)
         by t ts last e false is = λ h. absurd h
 
     pub more_held : (close : Symbol) → Goes close → (s : State) (next : Bool × State → Result Y ConfigFault) → IsOver s → Next s Comma (λ u. next (true, u)) → Next s close (λ u. next (false, u)) → Holds vy Is (words_in s) (more_at close s >>= next)
     unfolding more_at
     more_held close goes s next short comma closes =
-        let test : Located × State → Result (Bool × State) ConfigFault = λ t. cond (is_mark Comma t.0.word) (Ok (true, t.1)) (cond (is_mark close t.0.word) (Ok (false, t.1)) (fails BadShape t.0.at)) in
-        subst (Holds vy Is (words_in s)) (regroup (token s) test next) (token_held s (λ t. test t >>= next) short (λ t ts last alone e. by t ts last e (is_mark Comma t.word) (is_mark close t.word) refl refl))
+        let test : Located × State → Result (Bool × State) ConfigFault = λ t. cond (is_symbol Comma t.0.word) (Ok (true, t.1)) (cond (is_symbol close t.0.word) (Ok (false, t.1)) (fails BadShape t.0.at)) in
+        subst (Holds vy Is (words_in s)) (regroup (token s) test next) (token_held s (λ t. test t >>= next) short (λ t ts last alone e. by t ts last e (is_symbol Comma t.word) (is_symbol close t.word) refl refl))
       where
-        by : (t : Located) (ts : List Located) (last : Result Located ConfigFault) → Over ts last → (c d : Bool) → is_mark Comma t.word ≡ c → is_mark close t.word ≡ d
+        by : (t : Located) (ts : List Located) (last : Result Located ConfigFault) → Over ts last → (c d : Bool) → is_symbol Comma t.word ≡ c → is_symbol close t.word ≡ d
             → Holds vy Is (t.word ∷ words ts) (cond c (Ok (true, at last ts s.seen)) (cond d (Ok (false, at last ts s.seen)) (fails BadShape t.at)) >>= next)
         by t ts last e true d is f = marked Comma (inl tt) t.word (words ts) (next (true, at last ts s.seen)) (mark_is Comma t.word is) (comma ts last e)
         by t ts last e false true is f = marked close goes t.word (words ts) (next (false, at last ts s.seen)) (mark_is close t.word f) (closes ts last e)
@@ -258,27 +259,27 @@ module _ (bad : ℕ) (Bound : FaultKind → Type 0) where
       (Inv : Seen → Type 0) (keep : (before : List A) (seen : Seen) (x : A) → Inv seen → May before seen x → Inv (step seen x))
       (reads : (before : List A) (t : Located) (s : State) → Alone t s.left.tokens → IsOver s → Inv s.seen → Holds by_pair (Taken Is (May before) step s.seen) (t.word ∷ words_in s) (read before t s)) where
     module _ (close : Symbol) where
-      -- behind these things, more of them that may come, and the closing mark
+      -- behind these things, more of them that may come, and the closing symbol
       abbrev pub IsHeldRun : List A → Seen → List Word → List A × State → Type 0
-      IsHeldRun before seen own ys = (xs : List A) × (inner : List Word) × (own ≡ inner ++ Mark close ∷ []) × (ys.0 ≡ before ++ xs) × Parted Is inner xs × AllMay step May before seen xs × (ys.1.seen ≡ steps step seen xs)
+      IsHeldRun before seen own ys = (xs : List A) × (inner : List Word) × (own ≡ inner ++ Punctuation close ∷ []) × (ys.0 ≡ before ++ xs) × Parted Is inner xs × AllMay step May before seen xs × (ys.1.seen ≡ steps step seen xs)
 
-      more_run : (before : List A) (seen : Seen) (own : List Word) (x : A) → Is own x → May before seen x → (vs : List Word) (ys : List A × State) (xs : List A) (inner : List Word) → vs ≡ inner ++ Mark close ∷ [] → ys.0 ≡ (before ++ x ∷ []) ++ xs → Parted Is inner xs
-          → AllMay step May (before ++ x ∷ []) (step seen x) xs → ys.1.seen ≡ steps step (step seen x) xs → IsHeldRun before seen (own ++ Mark Comma ∷ vs) ys
+      more_run : (before : List A) (seen : Seen) (own : List Word) (x : A) → Is own x → May before seen x → (vs : List Word) (ys : List A × State) (xs : List A) (inner : List Word) → vs ≡ inner ++ Punctuation close ∷ [] → ys.0 ≡ (before ++ x ∷ []) ++ xs → Parted Is inner xs
+          → AllMay step May (before ++ x ∷ []) (step seen x) xs → ys.1.seen ≡ steps step (step seen x) xs → IsHeldRun before seen (own ++ Punctuation Comma ∷ vs) ys
       more_run before seen own x is may vs ys [] inner e f p all after = absurd p
       more_run before seen own x is may vs ys (z ∷ zs) inner e f p all after = (
         x ∷ z ∷ zs,
-        own ++ Mark Comma ∷ inner,
-        ap (λ (l : List Word). own ++ Mark Comma ∷ l) e ∙ sym (append_assoc own (Mark Comma ∷ inner) (Mark close ∷ [])),
+        own ++ Punctuation Comma ∷ inner,
+        ap (λ (l : List Word). own ++ Punctuation Comma ∷ l) e ∙ sym (append_assoc own (Punctuation Comma ∷ inner) (Punctuation close ∷ [])),
         f ∙ append_assoc before (x ∷ []) (z ∷ zs),
         (own, inner, refl, is, p),
         (may, all),
         after,
       )
 
-      close_one : (before : List A) (seen : Seen) (own : List Word) (x : A × State) → Taken Is (May before) step seen own x → (u : State) → u.seen ≡ x.1.seen → IsHeldRun before seen (own ++ Mark close ∷ []) (before ++ x.0 ∷ [], u)
+      close_one : (before : List A) (seen : Seen) (own : List Word) (x : A × State) → Taken Is (May before) step seen own x → (u : State) → u.seen ≡ x.1.seen → IsHeldRun before seen (own ++ Punctuation close ∷ []) (before ++ x.0 ∷ [], u)
       close_one before seen own x k u e = (x.0 ∷ [], own, refl, refl, k.0, (k.1, tt), e ∙ k.2)
 
-      comma_more : (before : List A) (seen : Seen) (own : List Word) (x : A × State) → Taken Is (May before) step seen own x → (vs : List Word) (ys : List A × State) → IsHeldRun (before ++ x.0 ∷ []) x.1.seen vs ys → IsHeldRun before seen (own ++ Mark Comma ∷ vs) ys
+      comma_more : (before : List A) (seen : Seen) (own : List Word) (x : A × State) → Taken Is (May before) step seen own x → (vs : List Word) (ys : List A × State) → IsHeldRun (before ++ x.0 ∷ []) x.1.seen vs ys → IsHeldRun before seen (own ++ Punctuation Comma ∷ vs) ys
       comma_more before seen own x k vs ys r =
           let q = subst (λ (m : Seen). IsHeldRun (before ++ x.0 ∷ []) m vs ys) k.2 r in
           more_run before seen own x.0 k.0 k.1 vs ys q.0 q.1 q.2 q.3 q.4 q.5 q.6
@@ -288,10 +289,10 @@ module _ (bad : ℕ) (Bound : FaultKind → Type 0) where
       list_held zero before t s alone short inv = λ h. absurd h
       list_held (suc n) before t s alone short inv =
           held_then by_pair by_pair (Taken Is (May before) step s.seen) (IsHeldRun before s.seen) (λ one. more_at close one.1 >>= λ more. cond more.0 (token more.1 >>= λ next. comma_list read close n (before ++ one.0 ∷ []) next.0 next.1) (Ok (before ++ one.0 ∷ [], more.1)))
-          (λ own x k. record { more = Mark close ∷ []; x = (before ++ x.0 ∷ [], x.1); is = close_one before s.seen own x k x.1 refl }) (t.word ∷ words_in s) (read before t s) (reads before t s alone short inv)
+          (λ own x k. record { more = Punctuation close ∷ []; x = (before ++ x.0 ∷ [], x.1); is = close_one before s.seen own x k x.1 refl }) (t.word ∷ words_in s) (read before t s) (reads before t s alone short inv)
           (λ own x k short. more_held by_pair (λ vs ys. IsHeldRun before s.seen (own ++ vs) ys) close (inr (record { more = []; x = (before ++ x.0 ∷ [], x.1); is = close_one before s.seen own x k x.1 refl })) x.1 (λ more. cond more.0 (token more.1 >>= λ next. comma_list read close n (before ++ x.0 ∷ []) next.0 next.1) (Ok (before ++ x.0 ∷ [], more.1))) short
-          (λ ts last e. token_held by_pair (λ vs ys. IsHeldRun before s.seen (own ++ Mark Comma ∷ vs) ys) (at last ts x.1.seen) (λ next. comma_list read close n (before ++ x.0 ∷ []) next.0 next.1) e
-          (λ t ts last alone e. held_to by_pair (IsHeldRun (before ++ x.0 ∷ []) x.1.seen) (λ vs ys. IsHeldRun before s.seen (own ++ Mark Comma ∷ vs) ys) (λ vs ys r. comma_more before s.seen own x k vs ys r) (t.word ∷ words ts) (comma_list read close n (before ++ x.0 ∷ []) t (at last ts x.1.seen))
+          (λ ts last e. token_held by_pair (λ vs ys. IsHeldRun before s.seen (own ++ Punctuation Comma ∷ vs) ys) (at last ts x.1.seen) (λ next. comma_list read close n (before ++ x.0 ∷ []) next.0 next.1) e
+          (λ t ts last alone e. held_to by_pair (IsHeldRun (before ++ x.0 ∷ []) x.1.seen) (λ vs ys. IsHeldRun before s.seen (own ++ Punctuation Comma ∷ vs) ys) (λ vs ys r. comma_more before s.seen own x k vs ys r) (t.word ∷ words ts) (comma_list read close n (before ++ x.0 ∷ []) t (at last ts x.1.seen))
           (list_held n (before ++ x.0 ∷ []) t (at last ts x.1.seen) alone e (subst Inv (sym k.2) (keep before s.seen x.0 inv k.1)))))
           (λ ts last e. record { own = []; whole = refl; is = close_one before s.seen own x k (at last ts x.1.seen) refl; short = e }))
 
@@ -299,49 +300,49 @@ module _ (bad : ℕ) (Bound : FaultKind → Type 0) where
     abbrev pub IsHeldList : Seen → List Word → List A × State → Type 0
     IsHeldList seen own xs = IsListOf Is own xs.0 × AllMay step May [] seen xs.0 × (xs.1.seen ≡ steps step seen xs.0)
 
-    filled_list : (seen : Seen) (vs : List Word) (ys : List A × State) (xs : List A) (inner : List Word) → vs ≡ inner ++ Mark CloseList ∷ [] → ys.0 ≡ xs → Parted Is inner xs → AllMay step May [] seen xs → ys.1.seen ≡ steps step seen xs → IsHeldList seen (Mark OpenList ∷ vs) ys
+    filled_list : (seen : Seen) (vs : List Word) (ys : List A × State) (xs : List A) (inner : List Word) → vs ≡ inner ++ Punctuation CloseList ∷ [] → ys.0 ≡ xs → Parted Is inner xs → AllMay step May [] seen xs → ys.1.seen ≡ steps step seen xs → IsHeldList seen (Punctuation OpenList ∷ vs) ys
     filled_list seen vs ys [] inner e f p all after = absurd p
-    filled_list seen vs ys (x ∷ xs) inner e f p all after = subst (λ (l : List A). IsListOf Is (Mark OpenList ∷ vs) l × AllMay step May [] seen l × (ys.1.seen ≡ steps step seen l)) (sym f) ((inner, ap (λ (l : List Word). Mark OpenList ∷ l) e, p), all, after)
+    filled_list seen vs ys (x ∷ xs) inner e f p all after = subst (λ (l : List A). IsListOf Is (Punctuation OpenList ∷ vs) l × AllMay step May [] seen l × (ys.1.seen ≡ steps step seen l)) (sym f) ((inner, ap (λ (l : List Word). Punctuation OpenList ∷ l) e, p), all, after)
 
     pub bracketed_held : (s : State) → IsOver s → Inv s.seen → Holds by_pair (IsHeldList s.seen) (words_in s) (list_of read s)
     unfolding list_of
     bracketed_held s short inv =
-        symbol_held by_pair (IsHeldList s.seen) OpenList (inl tt) s (λ begun. token begun >>= λ first. cond (is_mark CloseList first.0.word) (Ok ([], first.1)) (comma_list read CloseList (room first.1) [] first.0 first.1)) short
-        (λ ts last e. token_held by_pair (λ vs xs. IsHeldList s.seen (Mark OpenList ∷ vs) xs) (at last ts s.seen) (λ first. cond (is_mark CloseList first.0.word) (Ok ([], first.1)) (comma_list read CloseList (room first.1) [] first.0 first.1)) e
-        (λ t ts last alone e. held_if by_pair (λ vs xs. IsHeldList s.seen (Mark OpenList ∷ vs) xs) (t.word ∷ words ts) (is_mark CloseList t.word) (Ok ([], at last ts s.seen)) (comma_list read CloseList (room (at last ts s.seen)) [] t (at last ts s.seen))
-        (λ c. record { own = t.word ∷ []; whole = refl; is = (([], ap (λ (w : Word). Mark OpenList ∷ w ∷ []) (mark_is CloseList t.word c), refl), tt, refl); short = e })
-        (λ no. held_to by_pair (IsHeldRun CloseList [] s.seen) (λ vs xs. IsHeldList s.seen (Mark OpenList ∷ vs) xs) (λ vs ys r. filled_list s.seen vs ys r.0 r.1 r.2 r.3 r.4 r.5 r.6) (t.word ∷ words ts) (comma_list read CloseList (room (at last ts s.seen)) [] t (at last ts s.seen)) (list_held CloseList (room (at last ts s.seen)) [] t (at last ts s.seen) alone e inv))))
+        symbol_held by_pair (IsHeldList s.seen) OpenList (inl tt) s (λ begun. token begun >>= λ first. cond (is_symbol CloseList first.0.word) (Ok ([], first.1)) (comma_list read CloseList (room first.1) [] first.0 first.1)) short
+        (λ ts last e. token_held by_pair (λ vs xs. IsHeldList s.seen (Punctuation OpenList ∷ vs) xs) (at last ts s.seen) (λ first. cond (is_symbol CloseList first.0.word) (Ok ([], first.1)) (comma_list read CloseList (room first.1) [] first.0 first.1)) e
+        (λ t ts last alone e. held_if by_pair (λ vs xs. IsHeldList s.seen (Punctuation OpenList ∷ vs) xs) (t.word ∷ words ts) (is_symbol CloseList t.word) (Ok ([], at last ts s.seen)) (comma_list read CloseList (room (at last ts s.seen)) [] t (at last ts s.seen))
+        (λ c. record { own = t.word ∷ []; whole = refl; is = (([], ap (λ (w : Word). Punctuation OpenList ∷ w ∷ []) (mark_is CloseList t.word c), refl), tt, refl); short = e })
+        (λ no. held_to by_pair (IsHeldRun CloseList [] s.seen) (λ vs xs. IsHeldList s.seen (Punctuation OpenList ∷ vs) xs) (λ vs ys r. filled_list s.seen vs ys r.0 r.1 r.2 r.3 r.4 r.5 r.6) (t.word ∷ words ts) (comma_list read CloseList (room (at last ts s.seen)) [] t (at last ts s.seen)) (list_held CloseList (room (at last ts s.seen)) [] t (at last ts s.seen) alone e inv))))
 
   -- ---- pairs
 
   pub closed_held : {A : Type 0} (Is : List Word → A → Seen → Type 0) (value : State → Result (A × State) ConfigFault) (s : State) → Holds by_pair (λ own x. Is own x.0 x.1.seen) (words_in s) (value s) → Holds by_pair (IsHeldClosed Is) (words_in s) (closed value s)
   closed_held {A} Is value s valued =
-      held_then by_pair by_pair (λ own x. Is own x.0 x.1.seen) (IsHeldClosed Is) (λ one. symbol_at CloseTuple one.1 >>= λ close. Ok (one.0, close)) (λ own x is. record { more = Mark CloseTuple ∷ []; x = x; is = (own, refl, is) }) (words_in s) (value s) valued
+      held_then by_pair by_pair (λ own x. Is own x.0 x.1.seen) (IsHeldClosed Is) (λ one. symbol_at CloseTuple one.1 >>= λ close. Ok (one.0, close)) (λ own x is. record { more = Punctuation CloseTuple ∷ []; x = x; is = (own, refl, is) }) (words_in s) (value s) valued
       (λ own x is short. symbol_held by_pair (λ vs (y : A × State). IsHeldClosed Is (own ++ vs) y) CloseTuple (inr (record { more = []; x = x; is = (own, refl, is) })) x.1 (λ close. Ok (x.0, close)) short (λ ts last e. record { own = []; whole = refl; is = (own, refl, is); short = e }))
 
   module _ {K A : Type 0} (Is : List Word → A × State → Type 0) (Says : Word → K → Type 0) (name_of : Located → Result K ConfigFault) (rest : K → State → Result (A × State) ConfigFault) (seen : Seen) (named : (t : Located) → Shows (Unfit K Says t) (Says t.word) (name_of t))
-      (filled : (w : Word) (k : K) → Says w k → Begun (λ vs x. Is (Mark OpenTuple ∷ w ∷ Mark Comma ∷ vs) x) [])
-      (rests : (w : Word) (k : K) → Says w k → (ts : List Located) (last : Result Located ConfigFault) → Over ts last → Holds by_pair (λ vs x. Is (Mark OpenTuple ∷ w ∷ Mark Comma ∷ vs) x) (words ts) (rest k (at last ts seen))) where
-    behind_name : (t : Located) (k : K) → Says t.word k → (ts : List Located) (last : Result Located ConfigFault) → Over ts last → Holds by_pair (λ vs x. Is (Mark OpenTuple ∷ vs) x) (t.word ∷ words ts) (symbol_at Comma (at last ts seen) >>= rest k)
+      (filled : (w : Word) (k : K) → Says w k → Begun (λ vs x. Is (Punctuation OpenTuple ∷ w ∷ Punctuation Comma ∷ vs) x) [])
+      (rests : (w : Word) (k : K) → Says w k → (ts : List Located) (last : Result Located ConfigFault) → Over ts last → Holds by_pair (λ vs x. Is (Punctuation OpenTuple ∷ w ∷ Punctuation Comma ∷ vs) x) (words ts) (rest k (at last ts seen))) where
+    behind_name : (t : Located) (k : K) → Says t.word k → (ts : List Located) (last : Result Located ConfigFault) → Over ts last → Holds by_pair (λ vs x. Is (Punctuation OpenTuple ∷ vs) x) (t.word ∷ words ts) (symbol_at Comma (at last ts seen) >>= rest k)
     behind_name t k says ts last e =
         let full = filled t.word k says in
-        behind_names by_pair (λ vs x. Is (Mark OpenTuple ∷ vs) x) (t.word ∷ []) (record { more = Mark Comma ∷ full.more; x = full.x; is = full.is }) (words ts) (symbol_at Comma (at last ts seen) >>= rest k)
-        (symbol_held by_pair (λ vs x. Is (Mark OpenTuple ∷ t.word ∷ vs) x) Comma (inl tt) (at last ts seen) (rest k) e (λ ts last e. rests t.word k says ts last e))
+        behind_names by_pair (λ vs x. Is (Punctuation OpenTuple ∷ vs) x) (t.word ∷ []) (record { more = Punctuation Comma ∷ full.more; x = full.x; is = full.is }) (words ts) (symbol_at Comma (at last ts seen) >>= rest k)
+        (symbol_held by_pair (λ vs x. Is (Punctuation OpenTuple ∷ t.word ∷ vs) x) Comma (inl tt) (at last ts seen) (rest k) e (λ ts last e. rests t.word k says ts last e))
 
     -- a name that breaks a limit
-    name_broken : (t : Located) (ts : List Located) → Alone t ts → Unfit K Says t → Held (λ vs x. Is (Mark OpenTuple ∷ vs) x) (t.word ∷ words ts)
+    name_broken : (t : Located) (ts : List Located) → Alone t ts → Unfit K Says t → Held (λ vs x. Is (Punctuation OpenTuple ∷ vs) x) (t.word ∷ words ts)
     name_broken t ts alone q =
         let full = filled t.word q.3.0 q.3.1 in
-        broken (λ vs x. Is (Mark OpenTuple ∷ vs) x) t ts alone q.0 q.1 q.2 (record { more = Mark Comma ∷ full.more; x = full.x; is = full.is })
+        broken (λ vs x. Is (Punctuation OpenTuple ∷ vs) x) t ts alone q.0 q.1 q.2 (record { more = Punctuation Comma ∷ full.more; x = full.x; is = full.is })
 
-    inner_held : (ts : List Located) (last : Result Located ConfigFault) → Over ts last → Holds by_pair (λ vs x. Is (Mark OpenTuple ∷ vs) x) (words ts) (token (at last ts seen) >>= λ first. name_of first.0 >>= λ name. symbol_at Comma first.1 >>= rest name)
-    inner_held ts last e = token_held by_pair (λ vs x. Is (Mark OpenTuple ∷ vs) x) (at last ts seen) (λ first. name_of first.0 >>= λ name. symbol_at Comma first.1 >>= rest name) e
-        (λ t ts last alone e. held_look (Says t.word) by_pair (λ vs x. Is (Mark OpenTuple ∷ vs) x) (t.word ∷ words ts) (name_of t) (λ name. symbol_at Comma (at last ts seen) >>= rest name)
-        (shows_to (Unfit K Says t) (Held (λ vs x. Is (Mark OpenTuple ∷ vs) x) (t.word ∷ words ts)) (Says t.word) (λ q. name_broken t ts alone q) (name_of t) (named t)) (λ k says. behind_name t k says ts last e))
+    inner_held : (ts : List Located) (last : Result Located ConfigFault) → Over ts last → Holds by_pair (λ vs x. Is (Punctuation OpenTuple ∷ vs) x) (words ts) (token (at last ts seen) >>= λ first. name_of first.0 >>= λ name. symbol_at Comma first.1 >>= rest name)
+    inner_held ts last e = token_held by_pair (λ vs x. Is (Punctuation OpenTuple ∷ vs) x) (at last ts seen) (λ first. name_of first.0 >>= λ name. symbol_at Comma first.1 >>= rest name) e
+        (λ t ts last alone e. held_look (Says t.word) by_pair (λ vs x. Is (Punctuation OpenTuple ∷ vs) x) (t.word ∷ words ts) (name_of t) (λ name. symbol_at Comma (at last ts seen) >>= rest name)
+        (shows_to (Unfit K Says t) (Held (λ vs x. Is (Punctuation OpenTuple ∷ vs) x) (t.word ∷ words ts)) (Says t.word) (λ q. name_broken t ts alone q) (name_of t) (named t)) (λ k says. behind_name t k says ts last e))
 
     pub pair_held : (t : Located) (ts : List Located) (last : Result Located ConfigFault) → Over ts last → Holds by_pair Is (t.word ∷ words ts) (pair_at name_of rest t (at last ts seen))
     unfolding pair_at
     pair_held t ts last e =
         let inner : Result (A × State) ConfigFault = token (at last ts seen) >>= λ first. name_of first.0 >>= λ name. symbol_at Comma first.1 >>= rest name in
-        held_if by_pair Is (t.word ∷ words ts) (is_mark OpenTuple t.word) inner (fails BadShape t.at)
+        held_if by_pair Is (t.word ∷ words ts) (is_symbol OpenTuple t.word) inner (fails BadShape t.at)
         (λ c. subst (λ (w : Word). Holds by_pair Is (w ∷ words ts) inner) (sym (mark_is OpenTuple t.word c)) (behind_mark by_pair Is OpenTuple tt (words ts) inner (inner_held ts last e))) (λ c h. absurd h)

@@ -7,10 +7,10 @@ use Rattle.dac_tokens.specs.declared.fault.FaultKind.{FaultKind}
 use Rattle.dac_tokens.specs.declared.fault.FaultKind.TheVariants.{BadShape, NoDistributed}
 use Rattle.dac_tokens.specs.declared.token.Symbol.TheVariants.{OpenList, CloseList, FullStop}
 use Rattle.dac_tokens.specs.Gives.{◌>>=◌}
-use Rattle.dac_tokens.specs.Words.{Word, Mark, Located, is_end}
+use Rattle.dac_tokens.specs.Words.{Word, Punctuation, Located, is_end}
 use Rattle.dac_shapes.specs.Written.{Section, Written, written}
 use Rattle.dac_shapes.specs.Limits.{Seen, nothing}
-use Rattle.dac_shapes.specs.Shape.{State, fails, is_mark, token, symbol_at, list_of, section_at, end_at, file_at}
+use Rattle.dac_shapes.specs.Shape.{State, fails, is_symbol, token, symbol_at, list_of, section_at, end_at, file_at}
 use Rattle.dac_shapes.specs.laws.AgainLists.{at}
 use Rattle.dac_first_fault.specs.Loose.{IsLooseFile}
 use Rattle.dac_first_fault.specs.Keeps.{Keeps}
@@ -42,29 +42,29 @@ module _ (bad : ℕ) (Bound : FaultKind → Type 0) where
     abbrev judged : ℕ × State → Result Written ConfigFault
     judged end = cond (eqb (length (written sections end.1.seen.met).apps) 0) (fails NoDistributed end.0) (Ok (written sections end.1.seen.met))
 
-    judged_quiet : (ws : List Word) (place : ℕ) (w : Written) (c : Bool) → Quiet ws (cond c (fails NoDistributed place) (Ok w))
-    judged_quiet ws place w true = λ h. absurd h
-    judged_quiet ws place w false = tt
+    judged_quiet : (ws : List Word) (offset : ℕ) (w : Written) (c : Bool) → Quiet ws (cond c (fails NoDistributed offset) (Ok w))
+    judged_quiet ws offset w true = λ h. absurd h
+    judged_quiet ws offset w false = tt
 
     stop_quiet : (ws : List Word) (t : Located) (u : State) (c : Bool) → Quiet ws (cond c (Ok (t.at, u)) (fails BadShape t.at) >>= judged)
     stop_quiet ws t u true = judged_quiet ws t.at (written sections u.seen.met) (eqb (length (written sections u.seen.met).apps) 0)
     stop_quiet ws t u false = λ h. absurd h
 
-    one_quiet : (w : Word) → w ≡ Mark FullStop → All IsQuiet (w ∷ [])
-    one_quiet w e = subst (λ (v : Word). All IsQuiet (v ∷ [])) (sym e) (All-cons IsQuiet (Mark FullStop) [] tt (All-nil IsQuiet))
+    one_quiet : (w : Word) → w ≡ Punctuation FullStop → All IsQuiet (w ∷ [])
+    one_quiet w e = subst (λ (v : Word). All IsQuiet (v ∷ [])) (sym e) (All-cons IsQuiet (Punctuation FullStop) [] tt (All-nil IsQuiet))
 
-    behind_stop : (w : Word) (ts : List Located) (last : Result Located ConfigFault) → last ≡ Err halt → w ≡ Mark FullStop → Quiet (w ∷ words ts) ((token (at last ts seen) >>= stop) >>= judged)
+    behind_stop : (w : Word) (ts : List Located) (last : Result Located ConfigFault) → last ≡ Err halt → w ≡ Punctuation FullStop → Quiet (w ∷ words ts) ((token (at last ts seen) >>= stop) >>= judged)
     behind_stop w [] last e is = subst (λ (l : Result Located ConfigFault). Quiet (w ∷ []) ((token (at l [] seen) >>= stop) >>= judged)) (sym e) (λ h. one_quiet w is)
     behind_stop w (t ∷ ts) last e is = stop_quiet (w ∷ words (t ∷ ts)) t (at last ts seen) (is_end t.word)
 
-    at_stop : (t : Located) (ts : List Located) (last : Result Located ConfigFault) → last ≡ Err halt → (c : Bool) → is_mark FullStop t.word ≡ c → Quiet (words (t ∷ ts)) ((cond c (Ok (at last ts seen)) (fails BadShape t.at) >>= λ u. token u >>= stop) >>= judged)
+    at_stop : (t : Located) (ts : List Located) (last : Result Located ConfigFault) → last ≡ Err halt → (c : Bool) → is_symbol FullStop t.word ≡ c → Quiet (words (t ∷ ts)) ((cond c (Ok (at last ts seen)) (fails BadShape t.at) >>= λ u. token u >>= stop) >>= judged)
     at_stop t ts last e true is = behind_stop t.word ts last e (mark_is FullStop t.word is)
     at_stop t ts last e false is = λ h. absurd h
 
     end_quiet : (ts : List Located) (last : Result Located ConfigFault) → last ≡ Err halt → Quiet (words ts) (end_at (at last ts seen) >>= judged)
     unfolding end_at symbol_at
     end_quiet [] last e = subst (λ (l : Result Located ConfigFault). Quiet [] (end_at (at l [] seen) >>= judged)) (sym e) (λ h. All-nil IsQuiet)
-    end_quiet (t ∷ ts) last e = at_stop t ts last e (is_mark FullStop t.word) refl
+    end_quiet (t ∷ ts) last e = at_stop t ts last e (is_symbol FullStop t.word) refl
 
   -- ---- a file
 
@@ -74,17 +74,17 @@ module _ (bad : ℕ) (Bound : FaultKind → Type 0) where
     rest = ws;
     parts = refl;
     quiet = none;
-    begun = record { more = Mark OpenList ∷ Mark CloseList ∷ Mark FullStop ∷ []; x = []; is = ((Mark OpenList ∷ Mark CloseList ∷ [], refl, ([], refl, refl)), tt) };
+    begun = record { more = Punctuation OpenList ∷ Punctuation CloseList ∷ Punctuation FullStop ∷ []; x = []; is = ((Punctuation OpenList ∷ Punctuation CloseList ∷ [], refl, ([], refl, refl)), tt) };
   }
 
   list_kept : (ws : List Word) → Kept (AreSections bad Bound) ws → Kept KeptFile ws
   list_kept ws k =
       let b = k.begun in
-      record { named = k.named; rest = k.rest; parts = k.parts; quiet = k.quiet; begun = record { more = b.more ++ Mark FullStop ∷ []; x = b.x.0; is = ((k.named ++ b.more, sym (append_assoc k.named b.more (Mark FullStop ∷ [])), b.is.0), b.is.1) } }
+      record { named = k.named; rest = k.rest; parts = k.parts; quiet = k.quiet; begun = record { more = b.more ++ Punctuation FullStop ∷ []; x = b.x.0; is = ((k.named ++ b.more, sym (append_assoc k.named b.more (Punctuation FullStop ∷ [])), b.is.0), b.is.1) } }
 
   quiet_kept : {X : Type 0} (own : List Word) (xs : List Section × State) → (AreSections bad Bound) own xs → (ws : List Word) (r : Result X ConfigFault) → Quiet ws r → Falls (own ++ ws) r
   quiet_kept own xs is ws (Ok x) k = tt
-  quiet_kept own xs is ws (Err e) k = λ h. record { named = own; rest = ws; parts = refl; quiet = k h; begun = record { more = Mark FullStop ∷ []; x = xs.0; is = ((own, refl, is.0), is.1) } }
+  quiet_kept own xs is ws (Err e) k = λ h. record { named = own; rest = ws; parts = refl; quiet = k h; begun = record { more = Punctuation FullStop ∷ []; x = xs.0; is = ((own, refl, is.0), is.1) } }
 
   list_falls : (ws : List Word) (r : Result (List Section × State) ConfigFault) → Holds bad Bound by_pair (AreSections bad Bound) ws r → Falls ws (r >>= λ x. end_at x.1 >>= judged x.0 x.1.seen)
   list_falls ws (Ok x) k = subst (λ (l : List Word). Falls l (end_at x.1 >>= judged x.0 x.1.seen)) (sym k.whole) (quiet_kept k.own x k.is (words_in x.1) (end_at x.1 >>= judged x.0 x.1.seen) (end_quiet x.0 x.1.seen x.1.left.tokens x.1.left.last k.short.0))

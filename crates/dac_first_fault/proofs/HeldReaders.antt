@@ -11,11 +11,11 @@ use Rattle.dac_tokens.specs.declared.fault.FaultKind.{FaultKind}
 use Rattle.dac_tokens.specs.declared.fault.FaultKind.TheVariants.{BadShape, EmptyList, EmptyTuple, TwiceInList, TwiceApp, TooManyApps, TooManyNodes, NumberTooLarge, NameTooLong}
 use Rattle.dac_tokens.specs.declared.token.Symbol.TheVariants.{OpenList, CloseList, OpenTuple, CloseTuple, Comma}
 use Rattle.dac_tokens.specs.Gives.{◌>>=◌}
-use Rattle.dac_tokens.specs.Words.{Word, Mark, Name, Number, Text, End, Located}
+use Rattle.dac_tokens.specs.Words.{Word, Punctuation, Name, Number, Text, End, Located}
 use Rattle.dac_shapes.specs.Written.{App, Permission}
 use Rattle.dac_shapes.specs.Limits.{Seen, nothing, is_among, with_name, with_node, with_nodes, with_groups, listing, with_app, with_permission, AllMay, steps}
 use Rattle.dac_tokens.specs.Digits.{value_from}
-use Rattle.dac_shapes.specs.Shape.{State, fails, is_mark, token, symbol_at, atom_of, short_name_of, milliseconds_of, flag_of, app_name_of, node_of, names_at, item_at, items_at, groups_at, timeout_at, app_value_at, app_at, permission_value_at, permission_at, closed, room}
+use Rattle.dac_shapes.specs.Shape.{State, fails, is_symbol, token, symbol_at, atom_of, short_name_of, milliseconds_of, flag_of, app_name_of, node_of, names_at, item_at, items_at, groups_at, timeout_at, app_value_at, app_at, permission_value_at, permission_at, closed, room}
 use Rattle.dac_shapes.specs.Grammar.{Parted, IsNode, IsMs, IsFlag, IsPermission}
 use Rattle.dac_shapes.specs.laws.AgainLists.{at}
 use Rattle.dac_shapes.specs.laws.Names.{is_named}
@@ -84,13 +84,13 @@ module _ (bad : ℕ) (Bound : FaultKind → Type 0) where
   abbrev IsName : Word → List ℕ → Type 0
   IsName w name = w ≡ Name name
 
-  atom_by : (Q : Type 0) (w : Word) (place : ℕ) → Shows bad Bound Q (IsName w) (atom_of (record { word = w; at = place }))
+  atom_by : (Q : Type 0) (w : Word) (offset : ℕ) → Shows bad Bound Q (IsName w) (atom_of (record { word = w; at = offset }))
   unfolding atom_of
-  atom_by Q (Name name) place = refl
-  atom_by Q (Mark symbol) place = λ h. absurd h
-  atom_by Q (Number negative digits) place = λ h. absurd h
-  atom_by Q Text place = λ h. absurd h
-  atom_by Q End place = λ h. absurd h
+  atom_by Q (Name name) offset = refl
+  atom_by Q (Punctuation symbol) offset = λ h. absurd h
+  atom_by Q (Number negative digits) offset = λ h. absurd h
+  atom_by Q Text offset = λ h. absurd h
+  atom_by Q End offset = λ h. absurd h
 
   pub atom_shows : (Q : Type 0) (t : Located) → Shows bad Bound Q (IsName t.word) (atom_of t)
   atom_shows Q t = atom_by Q t.word t.at
@@ -105,11 +105,11 @@ module _ (bad : ℕ) (Bound : FaultKind → Type 0) where
       one_name : (name wanted : List ℕ) → t.word ≡ Name name → bytes_eq name wanted ≡ true → t.word ∷ [] ≡ Name wanted ∷ []
       one_name name wanted e is = ap (λ (w : Word). w ∷ []) (e ∙ ap Name (is_named name wanted is))
 
-  pub ms_shows : (Q : Type 0) (place : ℕ) (negative : Bool) (digits : List ℕ) → (negative ≡ false → 4294967296 ≤ value_from 0 digits → Stops bad Bound NumberTooLarge place → Q) → Shows bad Bound Q (IsMs (Number negative digits)) (milliseconds_of place negative (value_from 0 digits))
-  ms_shows Q place negative digits spoils =
+  pub ms_shows : (Q : Type 0) (offset : ℕ) (negative : Bool) (digits : List ℕ) → (negative ≡ false → 4294967296 ≤ value_from 0 digits → Stops bad Bound NumberTooLarge offset → Q) → Shows bad Bound Q (IsMs (Number negative digits)) (milliseconds_of offset negative (value_from 0 digits))
+  ms_shows Q offset negative digits spoils =
       let v = value_from 0 digits in
-      shows_if bad Bound Q (IsMs (Number negative digits)) (negative && not (eqb v 0)) (fails BadShape place) (cond (ltb v 4294967296) (Ok v) (fails NumberTooLarge place)) (λ below h. absurd h)
-      (λ above. shows_if bad Bound Q (IsMs (Number negative digits)) (ltb v 4294967296) (Ok v) (fails NumberTooLarge place) (λ small. (negative, digits, refl, refl, ltb-true v 4294967296 small, λ n. not_less negative (eqb v 0) v n above (λ z. eqb-true v 0 z)))
+      shows_if bad Bound Q (IsMs (Number negative digits)) (negative && not (eqb v 0)) (fails BadShape offset) (cond (ltb v 4294967296) (Ok v) (fails NumberTooLarge offset)) (λ below h. absurd h)
+      (λ above. shows_if bad Bound Q (IsMs (Number negative digits)) (ltb v 4294967296) (Ok v) (fails NumberTooLarge offset) (λ small. (negative, digits, refl, refl, ltb-true v 4294967296 small, λ n. not_less negative (eqb v 0) v n above (λ z. eqb-true v 0 z)))
       (λ large h. let least = ltb-false v 4294967296 large in spoils (not_negative negative v above least) least h))
 
   -- a name of at most MAX_NAME bytes, or a longer one that breaks the limit
@@ -168,7 +168,7 @@ module _ (bad : ℕ) (Bound : FaultKind → Type 0) where
       few name = cond (not (is_among name s.seen.met) && leb MAX_NODES (length s.seen.met)) (fails TooManyNodes t.at) (Ok (name, record s { seen = with_node s.seen name }))
 
       breaks : (name : List ℕ) → t.word ≡ Name name → t.at ≡ bad → NodeKeeps Bound repeats s.seen name → Held Node ws
-      breaks name e place keep = broken bad Bound Node t s.left.tokens alone name e place (record { more = []; x = (name, at (Err halt) [] (with_node s.seen name)); is = (ap (λ (w : Word). w ∷ []) e, keep, refl) })
+      breaks name e offset keep = broken bad Bound Node t s.left.tokens alone name e offset (record { more = []; x = (name, at (Err halt) [] (with_node s.seen name)); is = (ap (λ (w : Word). w ∷ []) e, keep, refl) })
 
       may : (name : List ℕ) → IsShortly t.word name → (not repeats && is_among name s.seen.listed) ≡ false → (not (is_among name s.seen.met) && leb MAX_NODES (length s.seen.met)) ≡ false → NodeKeeps Bound repeats s.seen name
       may name k once known = record { short = λ b. k.1; once = λ b e. unless_first repeats (is_among name s.seen.listed) once e; few = λ b e. leb-false MAX_NODES (length s.seen.met) (unless_first (is_among name s.seen.met) (leb MAX_NODES (length s.seen.met)) known e) }
@@ -181,26 +181,26 @@ module _ (bad : ℕ) (Bound : FaultKind → Type 0) where
   abbrev Item : Seen → List Word → List (List ℕ) × State → Type 0
   Item seen own x = Taken (IsLooseItem Bound) (NodesKeep Bound false) with_nodes seen own x
 
-  in_tuple : (seen : Seen) (vs : List Word) (ys : List (List ℕ) × State) (xs : List (List ℕ)) (inner : List Word) → vs ≡ inner ++ Mark CloseTuple ∷ [] → ys.0 ≡ xs → Parted IsNode inner xs → NodesKeep Bound false seen xs → ys.1.seen ≡ with_nodes seen xs → Item seen (Mark OpenTuple ∷ vs) ys
-  in_tuple seen vs ys xs inner e f p all after = subst (λ (l : List (List ℕ)). IsLooseItem Bound (Mark OpenTuple ∷ vs) l × NodesKeep Bound false seen l × (ys.1.seen ≡ with_nodes seen l)) (sym f) (inl (inr (inner, ap (λ (l : List Word). Mark OpenTuple ∷ l) e, p)), all, after)
+  in_tuple : (seen : Seen) (vs : List Word) (ys : List (List ℕ) × State) (xs : List (List ℕ)) (inner : List Word) → vs ≡ inner ++ Punctuation CloseTuple ∷ [] → ys.0 ≡ xs → Parted IsNode inner xs → NodesKeep Bound false seen xs → ys.1.seen ≡ with_nodes seen xs → Item seen (Punctuation OpenTuple ∷ vs) ys
+  in_tuple seen vs ys xs inner e f p all after = subst (λ (l : List (List ℕ)). IsLooseItem Bound (Punctuation OpenTuple ∷ vs) l × NodesKeep Bound false seen l × (ys.1.seen ≡ with_nodes seen l)) (sym f) (inl (inr (inner, ap (λ (l : List Word). Punctuation OpenTuple ∷ l) e, p)), all, after)
 
   abbrev InTuple : Seen → List Word → List (List ℕ) × State → Type 0
-  InTuple seen vs x = Item seen (Mark OpenTuple ∷ vs) x
+  InTuple seen vs x = Item seen (Punctuation OpenTuple ∷ vs) x
 
-  tuple_held : (t : Located) (seen : Seen) (ts : List Located) (last : Result Located ConfigFault) → (t.at ≡ bad → All IsQuiet (words (but_one ts))) → Over bad Bound ts last → Holds bad Bound by_pair (InTuple seen) (words ts) (token (at last ts seen) >>= λ first. cond (is_mark CloseTuple first.0.word) (fails EmptyTuple t.at) (names_at false CloseTuple first.0 first.1))
-  tuple_held t seen [] last quiet over = subst (λ (l : Result Located ConfigFault). Holds bad Bound by_pair (InTuple seen) [] (token (at l [] seen) >>= λ first. cond (is_mark CloseTuple first.0.word) (fails EmptyTuple t.at) (names_at false CloseTuple first.0 first.1))) (sym over.0) (λ h. inl (All-nil IsQuiet))
+  tuple_held : (t : Located) (seen : Seen) (ts : List Located) (last : Result Located ConfigFault) → (t.at ≡ bad → All IsQuiet (words (but_one ts))) → Over bad Bound ts last → Holds bad Bound by_pair (InTuple seen) (words ts) (token (at last ts seen) >>= λ first. cond (is_symbol CloseTuple first.0.word) (fails EmptyTuple t.at) (names_at false CloseTuple first.0 first.1))
+  tuple_held t seen [] last quiet over = subst (λ (l : Result Located ConfigFault). Holds bad Bound by_pair (InTuple seen) [] (token (at l [] seen) >>= λ first. cond (is_symbol CloseTuple first.0.word) (fails EmptyTuple t.at) (names_at false CloseTuple first.0 first.1))) (sym over.0) (λ h. inl (All-nil IsQuiet))
   tuple_held t seen (f ∷ ts) last quiet over =
-      held_if bad Bound by_pair (InTuple seen) (f.word ∷ words ts) (is_mark CloseTuple f.word) (fails EmptyTuple t.at) (names_at false CloseTuple f (at last ts seen))
-      (λ none h. spoilt bad Bound (InTuple seen) f ts (quiet h.0) (record { more = []; x = ([], at (Err halt) [] seen); is = (inr (h.1, ap (λ (w : Word). Mark OpenTuple ∷ w ∷ []) (mark_is CloseTuple f.word none), refl), tt, refl) }))
+      held_if bad Bound by_pair (InTuple seen) (f.word ∷ words ts) (is_symbol CloseTuple f.word) (fails EmptyTuple t.at) (names_at false CloseTuple f (at last ts seen))
+      (λ none h. spoilt bad Bound (InTuple seen) f ts (quiet h.0) (record { more = []; x = ([], at (Err halt) [] seen); is = (inr (h.1, ap (λ (w : Word). Punctuation OpenTuple ∷ w ∷ []) (mark_is CloseTuple f.word none), refl), tt, refl) }))
       (λ some. held_to bad Bound by_pair (IsHeldRun bad Bound IsNode with_node (λ _. NodeKeeps Bound false) (λ _. node_of false) Any (λ _ _ _ _ _. tt) (λ _ t s alone short _. node_held false t s alone short) CloseTuple [] seen) (InTuple seen) (λ vs ys r. in_tuple seen vs ys r.0 r.1 r.2 r.3 r.4 r.5 r.6)
       (f.word ∷ words ts) (names_at false CloseTuple f (at last ts seen)) (list_held bad Bound IsNode with_node (λ _. NodeKeeps Bound false) (λ _. node_of false) Any (λ _ _ _ _ _. tt) (λ _ t s alone short _. node_held false t s alone short) CloseTuple (room (at last ts seen)) [] f (at last ts seen) over.1.0 (over.0, over.1.1) tt))
 
   item_held : (t : Located) (s : State) → Alone bad Bound t s.left.tokens → IsOver bad Bound s → Holds bad Bound by_pair (Item s.seen) (t.word ∷ words_in s) (item_at t s)
   unfolding item_at
   item_held t s alone short =
-      let tuple : Result (List (List ℕ) × State) ConfigFault = token s >>= λ first. cond (is_mark CloseTuple first.0.word) (fails EmptyTuple t.at) (names_at false CloseTuple first.0 first.1) in
-      held_if bad Bound by_pair (Item s.seen) (t.word ∷ words_in s) (is_mark OpenTuple t.word) tuple (node_of false t s >>= λ name. Ok (name.0 ∷ [], name.1))
-      (λ e. subst (λ (w : Word). Holds bad Bound by_pair (Item s.seen) (w ∷ words_in s) tuple) (sym (mark_is OpenTuple t.word e)) (behind_mark bad Bound by_pair (Item s.seen) OpenTuple tt (words_in s) tuple (tuple_held t s.seen s.left.tokens s.left.last (λ place. subst (λ (w : Word). QuietBehind w s.left.tokens) (mark_is OpenTuple t.word e) (alone place)) short)))
+      let tuple : Result (List (List ℕ) × State) ConfigFault = token s >>= λ first. cond (is_symbol CloseTuple first.0.word) (fails EmptyTuple t.at) (names_at false CloseTuple first.0 first.1) in
+      held_if bad Bound by_pair (Item s.seen) (t.word ∷ words_in s) (is_symbol OpenTuple t.word) tuple (node_of false t s >>= λ name. Ok (name.0 ∷ [], name.1))
+      (λ e. subst (λ (w : Word). Holds bad Bound by_pair (Item s.seen) (w ∷ words_in s) tuple) (sym (mark_is OpenTuple t.word e)) (behind_mark bad Bound by_pair (Item s.seen) OpenTuple tt (words_in s) tuple (tuple_held t s.seen s.left.tokens s.left.last (λ offset. subst (λ (w : Word). QuietBehind w s.left.tokens) (mark_is OpenTuple t.word e) (alone offset)) short)))
       (λ e. made_held (Taken IsNode (NodeKeeps Bound false) with_node s.seen) (Item s.seen) (λ name. name ∷ []) (λ own name u k. (inl (inl (name, k.0, refl)), (k.1, tt), k.2)) (t.word ∷ words_in s) (node_of false t s) (node_held false t s alone short))
 
   -- the names of a node list begin anew
@@ -213,27 +213,27 @@ module _ (bad : ℕ) (Bound : FaultKind → Type 0) where
   abbrev NodeList : Seen → List Word → List (List (List ℕ)) × State → Type 0
   NodeList seen own x = Taken (IsLooseNodeList Bound) MayList with_list seen own x
 
-  in_list : (seen : Seen) (vs : List Word) (ys : List (List (List ℕ)) × State) (xs : List (List (List ℕ))) (inner : List Word) → vs ≡ inner ++ Mark CloseList ∷ [] → ys.0 ≡ xs → Parted (IsLooseItem Bound) inner xs → MayList seen xs → ys.1.seen ≡ with_list seen xs → NodeList seen (Mark OpenList ∷ vs) ys
-  in_list seen vs ys xs inner e f p all after = subst (λ (l : List (List (List ℕ))). IsLooseNodeList Bound (Mark OpenList ∷ vs) l × MayList seen l × (ys.1.seen ≡ with_list seen l)) (sym f) (inl (inner, ap (λ (l : List Word). Mark OpenList ∷ l) e, p), all, after)
+  in_list : (seen : Seen) (vs : List Word) (ys : List (List (List ℕ)) × State) (xs : List (List (List ℕ))) (inner : List Word) → vs ≡ inner ++ Punctuation CloseList ∷ [] → ys.0 ≡ xs → Parted (IsLooseItem Bound) inner xs → MayList seen xs → ys.1.seen ≡ with_list seen xs → NodeList seen (Punctuation OpenList ∷ vs) ys
+  in_list seen vs ys xs inner e f p all after = subst (λ (l : List (List (List ℕ))). IsLooseNodeList Bound (Punctuation OpenList ∷ vs) l × MayList seen l × (ys.1.seen ≡ with_list seen l)) (sym f) (inl (inner, ap (λ (l : List Word). Punctuation OpenList ∷ l) e, p), all, after)
 
   abbrev InList : Seen → List Word → List (List (List ℕ)) × State → Type 0
-  InList seen vs x = NodeList seen (Mark OpenList ∷ vs) x
+  InList seen vs x = NodeList seen (Punctuation OpenList ∷ vs) x
 
-  opened_held : (t : Located) (seen : Seen) (ts : List Located) (last : Result Located ConfigFault) → (t.at ≡ bad → All IsQuiet (words (but_one ts))) → Over bad Bound ts last → Holds bad Bound by_pair (InList seen) (words ts) (token (at last ts seen) >>= λ first. cond (is_mark CloseList first.0.word) (fails EmptyList t.at) (items_at first.0 (record first.1 { seen = listing first.1.seen })))
-  opened_held t seen [] last quiet over = subst (λ (l : Result Located ConfigFault). Holds bad Bound by_pair (InList seen) [] (token (at l [] seen) >>= λ first. cond (is_mark CloseList first.0.word) (fails EmptyList t.at) (items_at first.0 (record first.1 { seen = listing first.1.seen })))) (sym over.0) (λ h. inl (All-nil IsQuiet))
+  opened_held : (t : Located) (seen : Seen) (ts : List Located) (last : Result Located ConfigFault) → (t.at ≡ bad → All IsQuiet (words (but_one ts))) → Over bad Bound ts last → Holds bad Bound by_pair (InList seen) (words ts) (token (at last ts seen) >>= λ first. cond (is_symbol CloseList first.0.word) (fails EmptyList t.at) (items_at first.0 (record first.1 { seen = listing first.1.seen })))
+  opened_held t seen [] last quiet over = subst (λ (l : Result Located ConfigFault). Holds bad Bound by_pair (InList seen) [] (token (at l [] seen) >>= λ first. cond (is_symbol CloseList first.0.word) (fails EmptyList t.at) (items_at first.0 (record first.1 { seen = listing first.1.seen })))) (sym over.0) (λ h. inl (All-nil IsQuiet))
   opened_held t seen (f ∷ ts) last quiet over =
-      held_if bad Bound by_pair (InList seen) (f.word ∷ words ts) (is_mark CloseList f.word) (fails EmptyList t.at) (items_at f (at last ts (listing seen)))
-      (λ none h. spoilt bad Bound (InList seen) f ts (quiet h.0) (record { more = []; x = ([], at (Err halt) [] (listing seen)); is = (inr (h.1, ap (λ (w : Word). Mark OpenList ∷ w ∷ []) (mark_is CloseList f.word none), refl), tt, refl) }))
+      held_if bad Bound by_pair (InList seen) (f.word ∷ words ts) (is_symbol CloseList f.word) (fails EmptyList t.at) (items_at f (at last ts (listing seen)))
+      (λ none h. spoilt bad Bound (InList seen) f ts (quiet h.0) (record { more = []; x = ([], at (Err halt) [] (listing seen)); is = (inr (h.1, ap (λ (w : Word). Punctuation OpenList ∷ w ∷ []) (mark_is CloseList f.word none), refl), tt, refl) }))
       (λ some. held_to bad Bound by_pair (IsHeldRun bad Bound (IsLooseItem Bound) with_nodes (λ _. NodesKeep Bound false) (λ _. item_at) Any (λ _ _ _ _ _. tt) (λ _ t s alone short _. item_held t s alone short) CloseList [] (listing seen)) (InList seen) (λ vs ys r. in_list seen vs ys r.0 r.1 r.2 r.3 r.4 r.5 r.6)
       (f.word ∷ words ts) (items_at f (at last ts (listing seen))) (list_held bad Bound (IsLooseItem Bound) with_nodes (λ _. NodesKeep Bound false) (λ _. item_at) Any (λ _ _ _ _ _. tt) (λ _ t s alone short _. item_held t s alone short) CloseList (room (at last ts seen)) [] f (at last ts (listing seen)) over.1.0 (over.0, over.1.1) tt))
 
   groups_held : (t : Located) (s : State) → Alone bad Bound t s.left.tokens → IsOver bad Bound s → Holds bad Bound by_pair (NodeList s.seen) (t.word ∷ words_in s) (groups_at t s)
   unfolding groups_at
   groups_held t s alone short =
-      let list : Result (List (List (List ℕ)) × State) ConfigFault = token s >>= λ first. cond (is_mark CloseList first.0.word) (fails EmptyList t.at) (items_at first.0 (record first.1 { seen = listing first.1.seen })) in
-      held_if bad Bound by_pair (NodeList s.seen) (t.word ∷ words_in s) (is_mark OpenList t.word) list (fails BadShape t.at)
+      let list : Result (List (List (List ℕ)) × State) ConfigFault = token s >>= λ first. cond (is_symbol CloseList first.0.word) (fails EmptyList t.at) (items_at first.0 (record first.1 { seen = listing first.1.seen })) in
+      held_if bad Bound by_pair (NodeList s.seen) (t.word ∷ words_in s) (is_symbol OpenList t.word) list (fails BadShape t.at)
       (λ e. subst (λ (w : Word). Holds bad Bound by_pair (NodeList s.seen) (w ∷ words_in s) list) (sym (mark_is OpenList t.word e))
-      (behind_mark bad Bound by_pair (NodeList s.seen) OpenList tt (words_in s) list (opened_held t s.seen s.left.tokens s.left.last (λ place. subst (λ (w : Word). QuietBehind w s.left.tokens) (mark_is OpenList t.word e) (alone place)) short))) (λ e h. absurd h)
+      (behind_mark bad Bound by_pair (NodeList s.seen) OpenList tt (words_in s) list (opened_held t s.seen s.left.tokens s.left.last (λ offset. subst (λ (w : Word). QuietBehind w s.left.tokens) (mark_is OpenList t.word e) (alone offset)) short))) (λ e h. absurd h)
 
   -- ---- applications
 
@@ -245,27 +245,27 @@ module _ (bad : ℕ) (Bound : FaultKind → Type 0) where
   Time seen own x = IsLooseTimeout Bound own x.0 × (x.2.seen ≡ seen)
 
   abbrev of : Word → ℕ → Located
-  of w place = record { word = w; at = place }
+  of w offset = record { word = w; at = offset }
 
   module _ (w : Word) (seen : Seen) where
     number_begun : (n : ℕ) → IsLooseMs Bound w n → Begun (Time seen) (w ∷ [])
-    number_begun n is = record { more = Mark Comma ∷ []; x = (n, of w 0, at (Err halt) [] seen); is = (inr (w, refl, is), refl) }
+    number_begun n is = record { more = Punctuation Comma ∷ []; x = (n, of w 0, at (Err halt) [] seen); is = (inr (w, refl, is), refl) }
 
-  timeout_held : (w : Word) (place : ℕ) (s : State) → Over bad Bound (of w place ∷ s.left.tokens) s.left.last → Holds bad Bound by_first (Time s.seen) (w ∷ words_in s) (timeout_at (of w place) s)
+  timeout_held : (w : Word) (offset : ℕ) (s : State) → Over bad Bound (of w offset ∷ s.left.tokens) s.left.last → Holds bad Bound by_first (Time s.seen) (w ∷ words_in s) (timeout_at (of w offset) s)
   unfolding timeout_at
-  timeout_held (Number negative digits) place s over =
-      held_look bad Bound (IsMs w) by_first (Time s.seen) (w ∷ words_in s) (milliseconds_of place negative (value_from 0 digits)) (λ n. symbol_at Comma s >>= λ comma. token comma >>= λ next. Ok (n, next.0, next.1))
-      (ms_shows (Held (Time s.seen) (w ∷ words_in s)) place negative digits (λ plus large h. spoilt bad Bound (Time s.seen) (of w place) s.left.tokens (over.1.0 h.0) (number_begun w s.seen (value_from 0 digits) (inr (h.1, digits, ap (λ (b : Bool). Number b digits) plus, refl, large)))))
+  timeout_held (Number negative digits) offset s over =
+      held_look bad Bound (IsMs w) by_first (Time s.seen) (w ∷ words_in s) (milliseconds_of offset negative (value_from 0 digits)) (λ n. symbol_at Comma s >>= λ comma. token comma >>= λ next. Ok (n, next.0, next.1))
+      (ms_shows (Held (Time s.seen) (w ∷ words_in s)) offset negative digits (λ plus large h. spoilt bad Bound (Time s.seen) (of w offset) s.left.tokens (over.1.0 h.0) (number_begun w s.seen (value_from 0 digits) (inr (h.1, digits, ap (λ (b : Bool). Number b digits) plus, refl, large)))))
       (λ n is. behind_names bad Bound by_first (Time s.seen) (w ∷ []) (number_begun w s.seen n (inl is)) (words_in s) (symbol_at Comma s >>= λ comma. token comma >>= λ next. Ok (n, next.0, next.1))
       (symbol_held bad Bound by_first (λ vs x. Time s.seen (w ∷ vs) x) Comma (inl tt) s (λ comma. token comma >>= λ next. Ok (n, next.0, next.1)) (over.0, over.1.1)
-      (λ ts last e. token_held bad Bound by_first (λ vs x. Time s.seen (w ∷ Mark Comma ∷ vs) x) (at last ts s.seen) (λ next. Ok (n, next.0, next.1)) e (λ t ts last alone e. record { own = []; whole = refl; is = (inr (w, refl, inl is), refl); short = (e.0, (alone, e.1)) }))))
+      (λ ts last e. token_held bad Bound by_first (λ vs x. Time s.seen (w ∷ Punctuation Comma ∷ vs) x) (at last ts s.seen) (λ next. Ok (n, next.0, next.1)) e (λ t ts last alone e. record { own = []; whole = refl; is = (inr (w, refl, inl is), refl); short = (e.0, (alone, e.1)) }))))
     where
       w : Word
       w = Number negative digits
-  timeout_held (Mark symbol) place s over = record { own = []; whole = refl; is = (inl (refl, refl), refl); short = over }
-  timeout_held (Name name) place s over = record { own = []; whole = refl; is = (inl (refl, refl), refl); short = over }
-  timeout_held Text place s over = record { own = []; whole = refl; is = (inl (refl, refl), refl); short = over }
-  timeout_held End place s over = record { own = []; whole = refl; is = (inl (refl, refl), refl); short = over }
+  timeout_held (Punctuation symbol) offset s over = record { own = []; whole = refl; is = (inl (refl, refl), refl); short = over }
+  timeout_held (Name name) offset s over = record { own = []; whole = refl; is = (inl (refl, refl), refl); short = over }
+  timeout_held Text offset s over = record { own = []; whole = refl; is = (inl (refl, refl), refl); short = over }
+  timeout_held End offset s over = record { own = []; whole = refl; is = (inl (refl, refl), refl); short = over }
 
   module _ (before : List App) (seen : Seen) (good : Good seen) where
     abbrev IsNamed : List ℕ → List Word → App → Seen → Type 0
@@ -283,7 +283,7 @@ module _ (bad : ℕ) (Bound : FaultKind → Type 0) where
       only n = app_with n ((good.0 ∷ []) ∷ [])
 
       abbrev only_words : List Word
-      only_words = Mark OpenList ∷ Name good.0 ∷ Mark CloseList ∷ []
+      only_words = Punctuation OpenList ∷ Name good.0 ∷ Punctuation CloseList ∷ []
 
       only_named : (own : List Word) (n : ℕ) → IsLooseTimeout Bound own n → IsNamed name (own ++ only_words) (only n) (with_app seen (only n))
       only_named own n is = (refl, (own, only_words, refl, is, inl (Name good.0 ∷ [], refl, inl (inl (good.0, refl, refl)))), may_app n ((good.0 ∷ []) ∷ []) ((good.1, tt), tt), refl)
@@ -303,13 +303,13 @@ module _ (bad : ℕ) (Bound : FaultKind → Type 0) where
           (λ own x k. record { more = only_words; x = (only x.0, at (Err halt) [] (with_app seen (only x.0))); is = only_named own x.0 k.0 }) (t.word ∷ words ts) (timeout_at t (at last ts seen)) (timeout_held t.word t.at (at last ts seen) (e.0, (alone, e.1))) (λ own x k short. list_behind own x k short))
 
       abbrev Behind : List Word → App × State → Type 0
-      Behind vs x = Taken (IsLooseApp Bound) (AppKeeps Bound before) with_app seen (Mark OpenTuple ∷ w ∷ Mark Comma ∷ vs) x
+      Behind vs x = Taken (IsLooseApp Bound) (AppKeeps Bound before) with_app seen (Punctuation OpenTuple ∷ w ∷ Punctuation Comma ∷ vs) x
 
       is_app : (vs : List Word) (x : App × State) → IsHeldClosed (IsNamed name) vs x → Behind vs x
       is_app vs x c = ((c.0, pair_is w x.0.name vs c.0 (fine.is ∙ ap Name (sym c.2.0)) c.1, c.2.1), c.2.2, c.2.3)
 
       filled_app : Begun Behind []
-      filled_app = record { more = only_words ++ Mark CloseTuple ∷ []; x = (only 0, at (Err halt) [] (with_app seen (only 0))); is = is_app (only_words ++ Mark CloseTuple ∷ []) (only 0, at (Err halt) [] (with_app seen (only 0))) (only_words, refl, only_named [] 0 (inl (refl, refl))) }
+      filled_app = record { more = only_words ++ Punctuation CloseTuple ∷ []; x = (only 0, at (Err halt) [] (with_app seen (only 0))); is = is_app (only_words ++ Punctuation CloseTuple ∷ []) (only 0, at (Err halt) [] (with_app seen (only 0))) (only_words, refl, only_named [] 0 (inl (refl, refl))) }
 
       app_rest_held : (ts : List Located) (last : Result Located ConfigFault) → Over bad Bound ts last → Holds bad Bound by_pair Behind (words ts) (closed (app_value_at name) (at last ts seen))
       app_rest_held ts last e = held_to bad Bound by_pair (IsHeldClosed (IsNamed name)) Behind is_app (words ts) (closed (app_value_at name) (at last ts seen)) (closed_held bad Bound (IsNamed name) (app_value_at name) (at last ts seen) (app_value_held ts last e))
@@ -336,7 +336,7 @@ module _ (bad : ℕ) (Bound : FaultKind → Type 0) where
     IsGiven own p after = (p.name ≡ name) × IsFlag own p.value × (after ≡ seen)
 
     abbrev Allowed : List Word → Permission × State → Type 0
-    Allowed vs x = Taken IsPermission (PermissionKeeps Bound []) with_permission seen (Mark OpenTuple ∷ w ∷ Mark Comma ∷ vs) x
+    Allowed vs x = Taken IsPermission (PermissionKeeps Bound []) with_permission seen (Punctuation OpenTuple ∷ w ∷ Punctuation Comma ∷ vs) x
 
     permission_value_held : (ts : List Located) (last : Result Located ConfigFault) → Over bad Bound ts last → Holds bad Bound by_pair (λ own x. IsGiven own x.0 x.1.seen) (words ts) (permission_value_at name (at last ts seen))
     unfolding permission_value_at
@@ -350,7 +350,7 @@ module _ (bad : ℕ) (Bound : FaultKind → Type 0) where
     filled_permission : Begun Allowed []
     filled_permission =
         let p : Permission × State = (record { name = name; value = true }, at (Err halt) [] seen) in
-        record { more = Name (codes "true") ∷ Mark CloseTuple ∷ []; x = p; is = is_permission (Name (codes "true") ∷ Mark CloseTuple ∷ []) p (Name (codes "true") ∷ [], refl, (refl, refl, refl)) }
+        record { more = Name (codes "true") ∷ Punctuation CloseTuple ∷ []; x = p; is = is_permission (Name (codes "true") ∷ Punctuation CloseTuple ∷ []) p (Name (codes "true") ∷ [], refl, (refl, refl, refl)) }
 
     permission_rest_held : (ts : List Located) (last : Result Located ConfigFault) → Over bad Bound ts last → Holds bad Bound by_pair Allowed (words ts) (closed (permission_value_at name) (at last ts seen))
     permission_rest_held ts last e = held_to bad Bound by_pair (IsHeldClosed IsGiven) Allowed is_permission (words ts) (closed (permission_value_at name) (at last ts seen)) (closed_held bad Bound IsGiven (permission_value_at name) (at last ts seen) (permission_value_held ts last e))

@@ -7,14 +7,14 @@ use Rattle.dac_tokens.specs.declared.fault.FaultKind.TheVariants.{BadShape, Unsu
 use Rattle.dac_tokens.specs.declared.token.Symbol.{Symbol}
 use Rattle.dac_tokens.specs.declared.token.Symbol.TheVariants.{OpenList, CloseList, OpenTuple, CloseTuple, Comma, FullStop}
 use Rattle.dac_tokens.specs.Gives.{◌>>=◌}
-use Rattle.dac_tokens.specs.Words.{Word, Mark, Name, Number, Text, End, Located}
+use Rattle.dac_tokens.specs.Words.{Word, Punctuation, Name, Number, Text, End, Located}
 use Rattle.dac_shapes.specs.declared.param.ParamName.{ParamName}
 use Rattle.dac_shapes.specs.declared.param.ParamName.TheVariants as named
 use Rattle.dac_shapes.specs.declared.draft.SyncWait.TheVariants.{Forever, Ms}
 use Rattle.dac_shapes.specs.Written.{Param, Distributed, Permissions, Mandatory, Optional, Timeout, Section, Kernel, spelled, name_of}
 use Rattle.dac_shapes.specs.Limits.{Seen, nothing, has_param, has_kernel, with_node, with_app, with_permission, with_param, with_section, steps, AllMay}
 use Rattle.dac_tokens.specs.Digits.{value_from}
-use Rattle.dac_shapes.specs.Shape.{State, fails, is_mark, is_text, token, room, atom_of, list_of, app_at, permission_at, node_of, wait_of, milliseconds_of, passed_at, terms_at, terms_in, texts_at, term_by, term_at, param_named, first_param, param_name_of, param_value_at, param_rest_at, param_at, names_kernel, kernel_at, section_rest_at, section_at, pair_at, closed}
+use Rattle.dac_shapes.specs.Shape.{State, fails, is_symbol, is_text, token, room, atom_of, list_of, app_at, permission_at, node_of, wait_of, milliseconds_of, passed_at, terms_at, terms_in, texts_at, term_by, term_at, param_named, first_param, param_name_of, param_value_at, param_rest_at, param_at, names_kernel, kernel_at, section_rest_at, section_at, pair_at, closed}
 use Rattle.dac_shapes.specs.Grammar.{IsListOf, IsNode, IsPermission, IsMs}
 use Rattle.dac_shapes.specs.laws.AgainLists.{at}
 use Rattle.dac_shapes.specs.laws.Names.{is_named, param_is, same_seen}
@@ -49,8 +49,8 @@ module _ (bad : ℕ) (Bound : FaultKind → Type 0) where
   stays_if state seen true r q a b = a
   stays_if state seen false r q a b = b
 
-  no_stay : {X : Type 0} (state : X → State) (seen : Seen) (place : ℕ) → Stays {X = X} state seen (fails BadShape place)
-  no_stay state seen place = λ h. absurd h
+  no_stay : {X : Type 0} (state : X → State) (seen : Seen) (offset : ℕ) → Stays {X = X} state seen (fails BadShape offset)
+  no_stay state seen offset = λ h. absurd h
 
   token_same : (seen : Seen) (s : State) → Steady seen s → Stays behind seen (token s)
   token_same seen s e = by s.left.tokens s.left.last e.1
@@ -69,27 +69,27 @@ module _ (bad : ℕ) (Bound : FaultKind → Type 0) where
     unfolding terms_at
     terms_stay close zero t s e = no_stay behind seen t.at
     terms_stay close (suc n) t s e =
-        stays_then behind behind seen (pass t s) (λ b. cond (is_mark close b.0.word) (token b.1) (cond (is_mark Comma b.0.word) (token b.1 >>= λ next. terms_at pass close n next.0 next.1) (fails BadShape b.0.at))) (passes t s e)
-        (λ b k. stays_if behind seen (is_mark close b.0.word) (token b.1) (cond (is_mark Comma b.0.word) (token b.1 >>= λ next. terms_at pass close n next.0 next.1) (fails BadShape b.0.at)) (token_same seen b.1 k)
-        (stays_if behind seen (is_mark Comma b.0.word) (token b.1 >>= λ next. terms_at pass close n next.0 next.1) (fails BadShape b.0.at) (stays_then behind behind seen (token b.1) (λ next. terms_at pass close n next.0 next.1) (token_same seen b.1 k) (λ next k. terms_stay close n next.0 next.1 k)) (no_stay behind seen b.0.at)))
+        stays_then behind behind seen (pass t s) (λ b. cond (is_symbol close b.0.word) (token b.1) (cond (is_symbol Comma b.0.word) (token b.1 >>= λ next. terms_at pass close n next.0 next.1) (fails BadShape b.0.at))) (passes t s e)
+        (λ b k. stays_if behind seen (is_symbol close b.0.word) (token b.1) (cond (is_symbol Comma b.0.word) (token b.1 >>= λ next. terms_at pass close n next.0 next.1) (fails BadShape b.0.at)) (token_same seen b.1 k)
+        (stays_if behind seen (is_symbol Comma b.0.word) (token b.1 >>= λ next. terms_at pass close n next.0 next.1) (fails BadShape b.0.at) (stays_then behind behind seen (token b.1) (λ next. terms_at pass close n next.0 next.1) (token_same seen b.1 k) (λ next k. terms_stay close n next.0 next.1 k)) (no_stay behind seen b.0.at)))
 
     in_stay : (close : Symbol) (n : ℕ) (s : State) → Steady seen s → Stays behind seen (terms_in pass close n s)
     unfolding terms_in
-    in_stay close n s e = stays_then behind behind seen (token s) (λ first. cond (is_mark close first.0.word) (token first.1) (terms_at pass close n first.0 first.1)) (token_same seen s e)
-        (λ f k. stays_if behind seen (is_mark close f.0.word) (token f.1) (terms_at pass close n f.0 f.1) (token_same seen f.1 k) (terms_stay close n f.0 f.1 k))
+    in_stay close n s e = stays_then behind behind seen (token s) (λ first. cond (is_symbol close first.0.word) (token first.1) (terms_at pass close n first.0 first.1)) (token_same seen s e)
+        (λ f k. stays_if behind seen (is_symbol close f.0.word) (token f.1) (terms_at pass close n f.0 f.1) (token_same seen f.1 k) (terms_stay close n f.0 f.1 k))
 
-    term_by_stays : (w : Word) (place n : ℕ) (s : State) → Steady seen s → Stays behind seen (term_by pass n (record { word = w; at = place }) s)
+    term_by_stays : (w : Word) (offset n : ℕ) (s : State) → Steady seen s → Stays behind seen (term_by pass n (record { word = w; at = offset }) s)
     unfolding term_by
-    term_by_stays (Name name) place n s e = token_same seen s e
-    term_by_stays (Number negative digits) place n s e = token_same seen s e
-    term_by_stays Text place n s e = texts_stay seen n s e
-    term_by_stays (Mark OpenList) place n s e = in_stay CloseList n s e
-    term_by_stays (Mark OpenTuple) place n s e = in_stay CloseTuple n s e
-    term_by_stays (Mark CloseList) place n s e = no_stay behind seen place
-    term_by_stays (Mark CloseTuple) place n s e = no_stay behind seen place
-    term_by_stays (Mark Comma) place n s e = no_stay behind seen place
-    term_by_stays (Mark FullStop) place n s e = no_stay behind seen place
-    term_by_stays End place n s e = no_stay behind seen place
+    term_by_stays (Name name) offset n s e = token_same seen s e
+    term_by_stays (Number negative digits) offset n s e = token_same seen s e
+    term_by_stays Text offset n s e = texts_stay seen n s e
+    term_by_stays (Punctuation OpenList) offset n s e = in_stay CloseList n s e
+    term_by_stays (Punctuation OpenTuple) offset n s e = in_stay CloseTuple n s e
+    term_by_stays (Punctuation CloseList) offset n s e = no_stay behind seen offset
+    term_by_stays (Punctuation CloseTuple) offset n s e = no_stay behind seen offset
+    term_by_stays (Punctuation Comma) offset n s e = no_stay behind seen offset
+    term_by_stays (Punctuation FullStop) offset n s e = no_stay behind seen offset
+    term_by_stays End offset n s e = no_stay behind seen offset
 
   term_stays : (seen : Seen) (n : ℕ) (t : Located) (s : State) → Steady seen s → Stays behind seen (term_at n t s)
   unfolding term_at
@@ -99,9 +99,9 @@ module _ (bad : ℕ) (Bound : FaultKind → Type 0) where
   passed_stays : (s : State) → IsOver bad Bound s → Stays (λ u. u) s.seen (passed_at s)
   unfolding passed_at
   passed_stays s over =
-      stays_then behind (λ u. u) s.seen (token s) (λ first. term_at (suc (room s)) first.0 first.1 >>= λ b. cond (is_mark CloseTuple b.0.word) (Ok b.1) (fails BadShape b.0.at)) (token_same s.seen s (refl, over))
-      (λ f k. stays_then behind (λ u. u) s.seen (term_at (suc (room s)) f.0 f.1) (λ b. cond (is_mark CloseTuple b.0.word) (Ok b.1) (fails BadShape b.0.at)) (term_stays s.seen (suc (room s)) f.0 f.1 k)
-      (λ b k. stays_if (λ u. u) s.seen (is_mark CloseTuple b.0.word) (Ok b.1) (fails BadShape b.0.at) k (no_stay (λ u. u) s.seen b.0.at)))
+      stays_then behind (λ u. u) s.seen (token s) (λ first. term_at (suc (room s)) first.0 first.1 >>= λ b. cond (is_symbol CloseTuple b.0.word) (Ok b.1) (fails BadShape b.0.at)) (token_same s.seen s (refl, over))
+      (λ f k. stays_then behind (λ u. u) s.seen (term_at (suc (room s)) f.0 f.1) (λ b. cond (is_symbol CloseTuple b.0.word) (Ok b.1) (fails BadShape b.0.at)) (term_stays s.seen (suc (room s)) f.0 f.1 k)
+      (λ b k. stays_if (λ u. u) s.seen (is_symbol CloseTuple b.0.word) (Ok b.1) (fails BadShape b.0.at) k (no_stay (λ u. u) s.seen b.0.at)))
 
   -- what is made of a term that was passed over
   module _ {A : Type 0} (Is : List Word → A × State → Type 0) (seen : Seen) (y : A) (so : (vs : List Word) (u : State) → IsPassed vs → u.seen ≡ seen → Is vs (y, u)) where
@@ -123,9 +123,9 @@ module _ (bad : ℕ) (Bound : FaultKind → Type 0) where
   Says before w o = (name : List ℕ) × (w ≡ Name name) × IsFor name o × IsNext before o
 
   module _ (Q : Type 0) where
-    first_shows : (before : List Param) (w : Word) (place : ℕ) (name : List ℕ) → w ≡ Name name → (o : Option ParamName) → param_named name ≡ o → Shows bad Bound Q (Says before w) (first_param before place o)
-    first_shows before w place name e None is = (name, e, unknown_is name is, tt)
-    first_shows before w place name e (Some known) is = shows_if bad Bound Q (Says before w) (has_param known before) (fails BadShape place) (Ok (Some known)) (λ twice h. absurd h) (λ once. (name, e, param_is name known is, λ b. once))
+    first_shows : (before : List Param) (w : Word) (offset : ℕ) (name : List ℕ) → w ≡ Name name → (o : Option ParamName) → param_named name ≡ o → Shows bad Bound Q (Says before w) (first_param before offset o)
+    first_shows before w offset name e None is = (name, e, unknown_is name is, tt)
+    first_shows before w offset name e (Some known) is = shows_if bad Bound Q (Says before w) (has_param known before) (fails BadShape offset) (Ok (Some known)) (λ twice h. absurd h) (λ once. (name, e, param_is name known is, λ b. once))
 
     param_shows : (before : List Param) (t : Located) → Shows bad Bound Q (Says before t.word) (param_name_of before t)
     unfolding param_name_of
@@ -136,15 +136,15 @@ module _ (bad : ℕ) (Bound : FaultKind → Type 0) where
   Once twice = Bound BadShape → twice ≡ false
 
   -- how long to wait
-  module _ (Q : Type 0) (w : Word) (place : ℕ) (spoils : (digits : List ℕ) → w ≡ Number false digits → 4294967296 ≤ value_from 0 digits → Stops bad Bound NumberTooLarge place → Q) where
-    wait_by : (v : Word) → w ≡ v → Shows bad Bound Q (λ wait. IsLooseWait Bound (v ∷ []) wait) (wait_of (record { word = v; at = place }))
+  module _ (Q : Type 0) (w : Word) (offset : ℕ) (spoils : (digits : List ℕ) → w ≡ Number false digits → 4294967296 ≤ value_from 0 digits → Stops bad Bound NumberTooLarge offset → Q) where
+    wait_by : (v : Word) → w ≡ v → Shows bad Bound Q (λ wait. IsLooseWait Bound (v ∷ []) wait) (wait_of (record { word = v; at = offset }))
     unfolding wait_of
     wait_by (Number negative digits) e =
-        shows_then bad Bound Q (IsMs (Number negative digits)) (λ wait. IsLooseWait Bound (Number negative digits ∷ []) wait) (milliseconds_of place negative (value_from 0 digits)) (λ n. Ok (Ms n))
-        (ms_shows bad Bound Q place negative digits (λ plus large h. spoils digits (e ∙ ap (λ (b : Bool). Number b digits) plus) large h)) (λ n is. (Number negative digits, refl, inl is))
+        shows_then bad Bound Q (IsMs (Number negative digits)) (λ wait. IsLooseWait Bound (Number negative digits ∷ []) wait) (milliseconds_of offset negative (value_from 0 digits)) (λ n. Ok (Ms n))
+        (ms_shows bad Bound Q offset negative digits (λ plus large h. spoils digits (e ∙ ap (λ (b : Bool). Number b digits) plus) large h)) (λ n is. (Number negative digits, refl, inl is))
     wait_by (Name name) e =
-        shows_if bad Bound Q (λ wait. IsLooseWait Bound (Name name ∷ []) wait) (bytes_eq name (codes "infinity")) (Ok Forever) (fails BadShape place) (λ is. ap (λ (n : List ℕ). Name n ∷ []) (is_named name (codes "infinity") is)) (λ other h. absurd h)
-    wait_by (Mark symbol) e = λ h. absurd h
+        shows_if bad Bound Q (λ wait. IsLooseWait Bound (Name name ∷ []) wait) (bytes_eq name (codes "infinity")) (Ok Forever) (fails BadShape offset) (λ is. ap (λ (n : List ℕ). Name n ∷ []) (is_named name (codes "infinity") is)) (λ other h. absurd h)
+    wait_by (Punctuation symbol) e = λ h. absurd h
     wait_by Text e = λ h. absurd h
     wait_by End e = λ h. absurd h
 
@@ -193,7 +193,7 @@ module _ (bad : ℕ) (Bound : FaultKind → Type 0) where
     Some_value name = Begun (λ own (x : Param × State). IsValue name own x.0 x.1.seen) []
 
     abbrev empty_list : List Word
-    empty_list = Mark OpenList ∷ Mark CloseList ∷ []
+    empty_list = Punctuation OpenList ∷ Punctuation CloseList ∷ []
 
     same : State
     same = at (Err halt) [] seen
@@ -209,7 +209,7 @@ module _ (bad : ℕ) (Bound : FaultKind → Type 0) where
     -- ---- parameters
 
     abbrev In : Word → List Word → Param × State → Type 0
-    In w vs x = IsOne (Mark OpenTuple ∷ w ∷ Mark Comma ∷ vs) x
+    In w vs x = IsOne (Punctuation OpenTuple ∷ w ∷ Punctuation Comma ∷ vs) x
 
     known_in : (w : Word) (known : ParamName) → w ≡ Name (spelled known) → (vs : List Word) (x : Param × State) → IsHeldClosed (IsValue known) vs x → In w vs x
     known_in w known e vs x c = (subst (λ (l : List Word). IsLooseParam Bound l x.0) (sym (pair_is w (spelled known) vs c.0 e c.1)) c.2.0, c.2.1, c.2.2)
@@ -224,8 +224,8 @@ module _ (bad : ℕ) (Bound : FaultKind → Type 0) where
     unfolding same
     filled_param w (Some known) says =
         let v = some_value known says.3 in
-        record { more = v.more ++ Mark CloseTuple ∷ []; x = v.x; is = known_in w known (says.1 ∙ ap Name says.2) (v.more ++ Mark CloseTuple ∷ []) v.x (v.more, refl, v.is) }
-    filled_param w None says = record { more = Name [] ∷ Mark CloseTuple ∷ []; x = (Param.Other, same); is = other_in w says.0 says.1 says.2 (Name [] ∷ Mark CloseTuple ∷ []) same (Name [] ∷ [], refl, a_term) refl }
+        record { more = v.more ++ Punctuation CloseTuple ∷ []; x = v.x; is = known_in w known (says.1 ∙ ap Name says.2) (v.more ++ Punctuation CloseTuple ∷ []) v.x (v.more, refl, v.is) }
+    filled_param w None says = record { more = Name [] ∷ Punctuation CloseTuple ∷ []; x = (Param.Other, same); is = other_in w says.0 says.1 says.2 (Name [] ∷ Punctuation CloseTuple ∷ []) same (Name [] ∷ [], refl, a_term) refl }
 
     param_rest_held : (w : Word) (o : Option ParamName) → Says before w o → (ts : List Located) (last : Result Located ConfigFault) → Over bad Bound ts last → Holds bad Bound by_pair (In w) (words ts) (param_rest_at o (at last ts seen))
     unfolding param_rest_at
@@ -269,7 +269,7 @@ module _ (bad : ℕ) (Bound : FaultKind → Type 0) where
     IsKernel own x after = IsLooseSection Bound (pair_of (codes "kernel") own) x × SectionKeeps Bound before seen x × (after ≡ with_section seen x)
 
     abbrev Within : Word → List Word → Section × State → Type 0
-    Within w vs x = Taken (IsLooseSection Bound) (SectionKeeps Bound before) with_section seen (Mark OpenTuple ∷ w ∷ Mark Comma ∷ vs) x
+    Within w vs x = Taken (IsLooseSection Bound) (SectionKeeps Bound before) with_section seen (Punctuation OpenTuple ∷ w ∷ Punctuation Comma ∷ vs) x
 
     kernel_held : Once (has_kernel before) → (ts : List Located) (last : Result Located ConfigFault) → Over bad Bound ts last → Holds bad Bound by_pair (λ own x. IsKernel own x.0 x.1.seen) (words ts) (kernel_at (at last ts seen))
     unfolding kernel_at
@@ -287,9 +287,9 @@ module _ (bad : ℕ) (Bound : FaultKind → Type 0) where
     unfolding same
     filled_section w true says =
         let x : Section × State = (Kernel [], at (Err halt) [] seen) in
-        let inner : List Word = Mark OpenList ∷ Mark CloseList ∷ [] in
-        record { more = inner ++ Mark CloseTuple ∷ []; x = x; is = kernel_in w (says.1 ∙ ap Name says.2.0) (inner ++ Mark CloseTuple ∷ []) x (inner, refl, ((inner, refl, ([], refl, refl)), record { once = says.2.1; params = tt }, refl)) }
-    filled_section w false says = record { more = Name [] ∷ Mark CloseTuple ∷ []; x = (Section.Other, at (Err halt) [] seen); is = section_in w says.0 says.1 says.2 (Name [] ∷ Mark CloseTuple ∷ []) (at (Err halt) [] seen) (Name [] ∷ [], refl, a_term) refl }
+        let inner : List Word = Punctuation OpenList ∷ Punctuation CloseList ∷ [] in
+        record { more = inner ++ Punctuation CloseTuple ∷ []; x = x; is = kernel_in w (says.1 ∙ ap Name says.2.0) (inner ++ Punctuation CloseTuple ∷ []) x (inner, refl, ((inner, refl, ([], refl, refl)), record { once = says.2.1; params = tt }, refl)) }
+    filled_section w false says = record { more = Name [] ∷ Punctuation CloseTuple ∷ []; x = (Section.Other, at (Err halt) [] seen); is = section_in w says.0 says.1 says.2 (Name [] ∷ Punctuation CloseTuple ∷ []) (at (Err halt) [] seen) (Name [] ∷ [], refl, a_term) refl }
 
     section_rest_held : (w : Word) (k : Bool) → Tells before w k → (ts : List Located) (last : Result Located ConfigFault) → Over bad Bound ts last → Holds bad Bound by_pair (Within w) (words ts) (section_rest_at k (at last ts seen))
     unfolding section_rest_at

@@ -7,7 +7,7 @@ use Rattle.dac_tokens.specs.declared.token.Symbol.TheVariants.{OpenList, CloseLi
 use Rattle.dac_tokens.specs.Gives.{◌>>=◌}
 use Rattle.dac_tokens.specs.Words.{End, Located}
 use Rattle.dac_shapes.specs.Limits.{Seen}
-use Rattle.dac_shapes.specs.Shape.{State, fails, is_mark, token, more_at, comma_list, list_of, room}
+use Rattle.dac_shapes.specs.Shape.{State, fails, is_symbol, token, more_at, comma_list, list_of, room}
 use Rattle.dac_shapes.specs.laws.AgainLists.{at}
 use Rattle.dac_first_fault.specs.FirstFault.{Itself}
 use Rattle.dac_first_fault.proofs.Outcomes.{Wants, Takes, Outcome, Took, Failed, Asked, further, Always, Plain, Reader, Gives, IsReader, Wanting}
@@ -18,18 +18,18 @@ pub regroup : {A B C : Type 0} (r : Result A ConfigFault) (f : A → Result B Co
 regroup (Ok x) f g = refl
 regroup (Err e) f g = refl
 
--- ---- a comma, or the closing mark
+-- ---- a comma, or the closing symbol
 
 module _ (close : Symbol) (c : Located) (last : Result Located ConfigFault) (rest : List Located) (seen : Seen) where
-  more_comma : is_mark Comma c.word ≡ true → more_at close (at last (c ∷ rest) seen) ≡ Ok (true, at last rest seen)
+  more_comma : is_symbol Comma c.word ≡ true → more_at close (at last (c ∷ rest) seen) ≡ Ok (true, at last rest seen)
   unfolding more_at
   more_comma e = rw e refl
 
-  more_close : is_mark Comma c.word ≡ false → is_mark close c.word ≡ true → more_at close (at last (c ∷ rest) seen) ≡ Ok (false, at last rest seen)
+  more_close : is_symbol Comma c.word ≡ false → is_symbol close c.word ≡ true → more_at close (at last (c ∷ rest) seen) ≡ Ok (false, at last rest seen)
   unfolding more_at
   more_close e f = rw (e, f) refl
 
-  more_fails : is_mark Comma c.word ≡ false → is_mark close c.word ≡ false → more_at close (at last (c ∷ rest) seen) ≡ fails BadShape c.at
+  more_fails : is_symbol Comma c.word ≡ false → is_symbol close c.word ≡ false → more_at close (at last (c ∷ rest) seen) ≡ fails BadShape c.at
   unfolding more_at
   more_fails e f = rw (e, f) refl
 
@@ -97,7 +97,7 @@ module _ {A : Type 0} (read : List A → Located → State → Result (A × Stat
     wants_more : Wants Fits Plain (run before) t.a seen
     wants_more = record { more = λ n p le. stops n (Err p) le p (more_none close p t.after); end = λ n u is le. stops n (Ok u) le (record { kind = BadShape; at = u.at }) (more_end close u t.after is) }
 
-    leads : (c : Located) → is_mark Comma c.word ≡ true → (n : ℕ) (last : Result Located ConfigFault) (rest : List Located) → length ((t.a ++ c ∷ []) ++ rest) ≤ n
+    leads : (c : Located) → is_symbol Comma c.word ≡ true → (n : ℕ) (last : Result Located ConfigFault) (rest : List Located) → length ((t.a ++ c ∷ []) ++ rest) ≤ n
         → (m : ℕ) × (length rest ≤ m) × (run before n (at last ((t.a ++ c ∷ []) ++ rest) seen) ≡ run (before ++ t.x ∷ []) m (at last rest t.after))
     leads c is zero last rest le = absurd (omega (arith, length-append (t.a ++ c ∷ []) rest, length-append t.a (c ∷ [])))
     leads c is (suc m) last rest le = (
@@ -107,24 +107,24 @@ module _ {A : Type 0} (read : List A → Located → State → Result (A × Stat
           ∙ ap (λ r. r >>= λ more. cond more.0 (token more.1 >>= λ next. comma_list read close m (before ++ t.x ∷ []) next.0 next.1) (Ok (before ++ t.x ∷ [], more.1))) (more_comma close c last rest t.after is),
     )
 
-    closes : (c : Located) → is_mark Comma c.word ≡ false → is_mark close c.word ≡ true → (n : ℕ) (last : Result Located ConfigFault) (rest : List Located) → length ((t.a ++ c ∷ []) ++ rest) ≤ n → run before n (at last ((t.a ++ c ∷ []) ++ rest) seen) ≡ Ok (before ++ t.x ∷ [], at last rest t.after)
+    closes : (c : Located) → is_symbol Comma c.word ≡ false → is_symbol close c.word ≡ true → (n : ℕ) (last : Result Located ConfigFault) (rest : List Located) → length ((t.a ++ c ∷ []) ++ rest) ≤ n → run before n (at last ((t.a ++ c ∷ []) ++ rest) seen) ≡ Ok (before ++ t.x ∷ [], at last rest t.after)
     closes c is f zero last rest le = absurd (omega (arith, length-append (t.a ++ c ∷ []) rest, length-append t.a (c ∷ [])))
     closes c is f (suc m) last rest le = ap (λ (l : List Located). run before (suc m) (at last l seen)) (append_assoc t.a (c ∷ []) rest) ∙ goes_on m last c rest
         ∙ ap (λ r. r >>= λ more. cond more.0 (token more.1 >>= λ next. comma_list read close m (before ++ t.x ∷ []) next.0 next.1) (Ok (before ++ t.x ∷ [], more.1))) (more_close close c last rest t.after is f)
 
-    refuses : (c : Located) → is_mark Comma c.word ≡ false → is_mark close c.word ≡ false → (n : ℕ) (last : Result Located ConfigFault) (rest : List Located) → length (t.a ++ c ∷ rest) ≤ n → run before n (at last (t.a ++ c ∷ rest) seen) ≡ fails BadShape c.at
+    refuses : (c : Located) → is_symbol Comma c.word ≡ false → is_symbol close c.word ≡ false → (n : ℕ) (last : Result Located ConfigFault) (rest : List Located) → length (t.a ++ c ∷ rest) ≤ n → run before n (at last (t.a ++ c ∷ rest) seen) ≡ fails BadShape c.at
     refuses c is f zero last rest le = absurd (omega (arith, length-append t.a (c ∷ rest)))
     refuses c is f (suc m) last rest le = goes_on m last c rest
         ∙ ap (λ r. r >>= λ more. cond more.0 (token more.1 >>= λ next. comma_list read close m (before ++ t.x ∷ []) next.0 next.1) (Ok (before ++ t.x ∷ [], more.1))) (more_fails close c last rest t.after is f)
 
-    by_mark : (c : Located) (b : List Located) (x y : Bool) → is_mark Comma c.word ≡ x → is_mark close c.word ≡ y → Outcome Fits Plain (run (before ++ t.x ∷ [])) b t.after → Outcome Fits Plain (run before) (t.a ++ c ∷ b) seen
+    by_mark : (c : Located) (b : List Located) (x y : Bool) → is_symbol Comma c.word ≡ x → is_symbol close c.word ≡ y → Outcome Fits Plain (run (before ++ t.x ∷ [])) b t.after → Outcome Fits Plain (run before) (t.a ++ c ∷ b) seen
     by_mark c b true y is f next = subst (λ (l : List Located). Outcome Fits Plain (run before) l seen) (append_assoc t.a (c ∷ []) b) (further Fits Fits Plain (run before) (run (before ++ t.x ∷ [])) (t.a ++ c ∷ []) seen t.after (leads c is) b next)
     by_mark c b false true is f next = Took (record { a = t.a ++ c ∷ []; b = b; x = before ++ t.x ∷ []; after = t.after; whole = sym (append_assoc t.a (c ∷ []) b); some = omega (arith, length-append t.a (c ∷ [])); goes = closes c is f })
     by_mark c b false false is f next = Failed (record { a = t.a; l = c; b = b; e = record { kind = BadShape; at = c.at }; whole = refl; goes = refuses c is f; stands = Itself refl tt; wants = wants_more })
 
     one_taken : (b : List Located) → ((c : Located) (rest : List Located) → b ≡ c ∷ rest → Outcome Fits Plain (run (before ++ t.x ∷ [])) rest t.after) → Outcome Fits Plain (run before) (t.a ++ b) seen
     one_taken [] next = subst (λ (l : List Located). Outcome Fits Plain (run before) l seen) (sym (append-nil t.a)) (Asked wants_more)
-    one_taken (c ∷ b) next = by_mark c b (is_mark Comma c.word) (is_mark close c.word) refl refl (next c b refl)
+    one_taken (c ∷ b) next = by_mark c b (is_symbol Comma c.word) (is_symbol close c.word) refl refl (next c b refl)
 
   step : (before : List A) (us : List Located) (seen : Seen) → Gives (one before) us seen → ((before : List A) (rest : List Located) (seen : Seen) → length rest < length us → Outcome Fits Plain (run before) rest seen) → Outcome Fits Plain (run before) us seen
   step before us seen (Took t) next =
@@ -169,21 +169,21 @@ module _ {A : Type 0} (read : List A → Located → State → Result (A × Stat
 module _ {A : Type 0} (read : List A → Located → State → Result (A × State) ConfigFault) (reads : (before : List A) → IsReader (λ s. token s >>= λ q. read before q.0 q.1))
     (ends : (before : List A) (t : Located) (s : State) → t.word ≡ End → read before t s ≡ fails BadShape t.at) where
   abbrev opened : Reader (List A)
-  opened s = token s >>= λ first. cond (is_mark CloseList first.0.word) (Ok ([], first.1)) (comma_list read CloseList (room first.1) [] first.0 first.1)
+  opened s = token s >>= λ first. cond (is_symbol CloseList first.0.word) (Ok ([], first.1)) (comma_list read CloseList (room first.1) [] first.0 first.1)
 
-  opened_end : (t : Located) (s : State) → t.word ≡ End → cond (is_mark CloseList t.word) (Ok ([], s)) (comma_list read CloseList (room s) [] t s) ≡ fails BadShape t.at
-  opened_end t s w = let no : is_mark CloseList t.word ≡ false = ap (is_mark CloseList) w in rw no (whole_end read CloseList reads ends t s w)
+  opened_end : (t : Located) (s : State) → t.word ≡ End → cond (is_symbol CloseList t.word) (Ok ([], s)) (comma_list read CloseList (room s) [] t s) ≡ fails BadShape t.at
+  opened_end t s w = let no : is_symbol CloseList t.word ≡ false = ap (is_symbol CloseList) w in rw no (whole_end read CloseList reads ends t s w)
 
   opened_wants : (seen : Seen) → Wanting opened [] seen
-  opened_wants seen = wants_token (λ first. cond (is_mark CloseList first.0.word) (Ok ([], first.1)) (comma_list read CloseList (room first.1) [] first.0 first.1)) opened_end seen
+  opened_wants seen = wants_token (λ first. cond (is_symbol CloseList first.0.word) (Ok ([], first.1)) (comma_list read CloseList (room first.1) [] first.0 first.1)) opened_end seen
 
-  opened_by : (t : Located) (b : List Located) (seen : Seen) (c : Bool) → is_mark CloseList t.word ≡ c → Gives opened (t ∷ b) seen
+  opened_by : (t : Located) (b : List Located) (seen : Seen) (c : Bool) → is_symbol CloseList t.word ≡ c → Gives opened (t ∷ b) seen
   opened_by t b seen true e = first_taken opened t b seen [] seen (λ last rest. rw e refl)
   opened_by t b seen false e = as_list read CloseList reads ends opened t b seen seen (λ last rest. rw e refl) (opened_wants seen)
 
   opened_reader : IsReader opened
   opened_reader [] seen = Asked (opened_wants seen)
-  opened_reader (t ∷ b) seen = opened_by t b seen (is_mark CloseList t.word) refl
+  opened_reader (t ∷ b) seen = opened_by t b seen (is_symbol CloseList t.word) refl
 
   pub bracketed_reader : IsReader (list_of read)
   unfolding list_of

@@ -45,7 +45,7 @@ module _ {I A : Type 0} (Room : I → ℕ → Type 0) (AtEnd : Located → Resul
     Asked : Wants Room AtEnd read us seen → Outcome
 
 stands_behind : (a before : List Located) (t : Located) (e : ConfigFault) → StandsAt before t e → StandsAt (a ++ before) t e
-stands_behind a before t e (Itself place kind) = Itself place kind
+stands_behind a before t e (Itself offset kind) = Itself offset kind
 stands_behind a before t e (InList front o is w v k) = InList (a ++ front) o (ap (λ (l : List Located). a ++ l) is ∙ sym (append_assoc a front (o ∷ []))) w v k
 stands_behind a before t e (InTuple front o is w v k) = InTuple (a ++ front) o (ap (λ (l : List Located). a ++ l) is ∙ sym (append_assoc a front (o ∷ []))) w v k
 

@@ -6,27 +6,27 @@ use Rattle.dac_tokens.specs.declared.fault.FaultKind.TheVariants.{BadShape, Twic
 use Rattle.dac_tokens.specs.declared.token.Symbol.{Symbol}
 use Rattle.dac_tokens.specs.declared.token.Symbol.TheVariants.{OpenList, CloseList, OpenTuple, CloseTuple, Comma}
 use Rattle.dac_tokens.specs.Gives.{◌>>=◌}
-use Rattle.dac_tokens.specs.Words.{Word, Mark, Name, Located}
+use Rattle.dac_tokens.specs.Words.{Word, Punctuation, Name, Located}
 use Rattle.dac_shapes.specs.Limits.{Seen, AllMay, steps}
-use Rattle.dac_shapes.specs.Shape.{State, is_mark, token, symbol_at, more_at, comma_list, list_of, pair_at, closed, room}
+use Rattle.dac_shapes.specs.Shape.{State, is_symbol, token, symbol_at, more_at, comma_list, list_of, pair_at, closed, room}
 use Rattle.dac_shapes.specs.Grammar.{Parted, IsListOf, IsPair}
 use Rattle.dac_shapes.specs.laws.AgainLists.{words_of, cons_is, split, cut, none, ended, inside, Begins, at, symbol_again}
 
--- a fault of a limit or shape that isn't kept, and if it is BadShape, not at such a place
+-- a fault of a limit or shape that isn't kept, and if it is BadShape, not at such an offset
 abbrev pub Unkept : (ℕ → Type 0) → (FaultKind → Type 0) → FaultKind → ℕ → Type 0
-Unkept Bad Kept BadShape place = (Bad place → ⊥) × (Kept BadShape → ⊥)
-Unkept Bad Kept TwiceApp place = Kept TwiceApp → ⊥
-Unkept Bad Kept TwiceInList place = Kept TwiceInList → ⊥
-Unkept Bad Kept TooManyApps place = Kept TooManyApps → ⊥
-Unkept Bad Kept TooManyNodes place = Kept TooManyNodes → ⊥
-Unkept Bad Kept NameTooLong place = Kept NameTooLong → ⊥
-Unkept Bad Kept EmptyList place = Kept EmptyList → ⊥
-Unkept Bad Kept EmptyTuple place = Kept EmptyTuple → ⊥
-Unkept Bad Kept NumberTooLarge place = Kept NumberTooLarge → ⊥
-Unkept Bad Kept Unsupported place = Kept Unsupported → ⊥
-Unkept Bad Kept _ place = ⊥
+Unkept Bad Kept BadShape offset = (Bad offset → ⊥) × (Kept BadShape → ⊥)
+Unkept Bad Kept TwiceApp offset = Kept TwiceApp → ⊥
+Unkept Bad Kept TwiceInList offset = Kept TwiceInList → ⊥
+Unkept Bad Kept TooManyApps offset = Kept TooManyApps → ⊥
+Unkept Bad Kept TooManyNodes offset = Kept TooManyNodes → ⊥
+Unkept Bad Kept NameTooLong offset = Kept NameTooLong → ⊥
+Unkept Bad Kept EmptyList offset = Kept EmptyList → ⊥
+Unkept Bad Kept EmptyTuple offset = Kept EmptyTuple → ⊥
+Unkept Bad Kept NumberTooLarge offset = Kept NumberTooLarge → ⊥
+Unkept Bad Kept Unsupported offset = Kept Unsupported → ⊥
+Unkept Bad Kept _ offset = ⊥
 
--- no name stands at such a place
+-- no name stands at such an offset
 abbrev pub Fine : (ℕ → Type 0) → List Located → Type 0
 Fine Bad [] = Unit {0}
 Fine Bad (t ∷ ts) = ((name : List ℕ) → t.word ≡ Name name → Bad t.at → ⊥) × Fine Bad ts
@@ -79,7 +79,7 @@ module _ (last : Result Located ConfigFault) (Bad : ℕ → Type 0) (Kept : Faul
     parted_begins ws (x ∷ []) p = begins ws x p
     parted_begins ws (x ∷ y ∷ ys) p =
         let f = begins p.0 x p.3 in
-        record { head = f.head; tail = f.tail ++ Mark Comma ∷ p.1; whole = p.2 ∙ ap (λ (l : List Word). l ++ Mark Comma ∷ p.1) f.whole; no_list = f.no_list; no_tuple = f.no_tuple }
+        record { head = f.head; tail = f.tail ++ Punctuation Comma ∷ p.1; whole = p.2 ∙ ap (λ (l : List Word). l ++ Punctuation Comma ∷ p.1) f.whole; no_list = f.no_list; no_tuple = f.no_tuple }
 
     -- what stands behind the first thing: a comma, a token and more
     record Behind (ts : List Located) (t : Located) (x : A) (y : A) (ys : List A) : Type 0 where
@@ -89,16 +89,16 @@ module _ (last : Result Located ConfigFault) (Bad : ℕ → Type 0) (Kept : Faul
       pub rest : List Located
       pub whole : ts ≡ front ++ comma ∷ next ∷ rest
       pub first : Is (words_of (t ∷ front)) x
-      pub is_comma : comma.word ≡ Mark Comma
+      pub is_comma : comma.word ≡ Punctuation Comma
       pub others : Parted Is (words_of (next ∷ rest)) (y ∷ ys)
 
     behind : (t : Located) (ts : List Located) (x y : A) (ys : List A) → Parted Is (words_of (t ∷ ts)) (x ∷ y ∷ ys) → Behind ts t x y ys
     behind t ts x y ys p =
         let f = begins p.0 x p.3 in
-        let e = cons_is t.word f.head (words_of ts) (f.tail ++ Mark Comma ∷ p.1) (p.2 ∙ ap (λ (l : List Word). l ++ Mark Comma ∷ p.1) f.whole) in
-        let s = split ts f.tail (Mark Comma ∷ p.1) e.1 in
+        let e = cons_is t.word f.head (words_of ts) (f.tail ++ Punctuation Comma ∷ p.1) (p.2 ∙ ap (λ (l : List Word). l ++ Punctuation Comma ∷ p.1) f.whole) in
+        let s = split ts f.tail (Punctuation Comma ∷ p.1) e.1 in
         let here : p.0 ≡ words_of (t ∷ s.front) = f.whole ∙ sym (ap (λ (w : Word). w ∷ words_of s.front) e.0 ∙ ap (λ (l : List Word). f.head ∷ l) s.first) in
-        let c = cut s.rest (Mark Comma) p.1 s.second in
+        let c = cut s.rest (Punctuation Comma) p.1 s.second in
         let g = parted_begins p.1 (y ∷ ys) p.4 in
         let d = cut c.tail g.head g.tail (c.rest ∙ g.whole) in
         let after : p.1 ≡ words_of (d.head ∷ d.tail) = sym c.rest ∙ ap words_of d.whole in
@@ -115,7 +115,7 @@ module _ (last : Result Located ConfigFault) (Bad : ℕ → Type 0) (Kept : Faul
 
     module _ (read : List A → Located → State → Result (A × State) ConfigFault) (step : Seen → A → Seen) (Keep : List A → Seen → A → Type 0)
         (met : (before : List A) (t : Located) (ts us : List Located) (seen : Seen) (x : A) → Is (words_of (t ∷ ts)) x → Fine Bad (t ∷ ts) → Keep before seen x → Met last Bad Kept x us (step seen x) (read before t (at last (ts ++ us) seen))) where
-      module _ (close : Symbol) (not_comma : is_mark Comma (Mark close) ≡ false) (is_close : is_mark close (Mark close) ≡ true) where
+      module _ (close : Symbol) (not_comma : is_symbol Comma (Punctuation close) ≡ false) (is_close : is_symbol close (Punctuation close) ≡ true) where
         abbrev goes_on : ℕ → List A → A × State → Result (List A × State) ConfigFault
         goes_on n before one = more_at close one.1 >>= λ more. cond more.0 (token more.1 >>= λ next. comma_list read close n (before ++ one.0 ∷ []) next.0 next.1) (Ok (before ++ one.0 ∷ [], more.1))
 
@@ -123,15 +123,15 @@ module _ (last : Result Located ConfigFault) (Bad : ℕ → Type 0) (Kept : Faul
         unfolding comma_list
         list_step n before t s = refl
 
-        goes_comma : (n : ℕ) (before : List A) (x : A) (k t : Located) (us : List Located) (seen : Seen) → k.word ≡ Mark Comma → goes_on n before (x, at last (k ∷ t ∷ us) seen) ≡ comma_list read close n (before ++ x ∷ []) t (at last us seen)
+        goes_comma : (n : ℕ) (before : List A) (x : A) (k t : Located) (us : List Located) (seen : Seen) → k.word ≡ Punctuation Comma → goes_on n before (x, at last (k ∷ t ∷ us) seen) ≡ comma_list read close n (before ++ x ∷ []) t (at last us seen)
         unfolding more_at
         goes_comma n before x k t us seen e = rw e refl
 
-        goes_close : (n : ℕ) (before : List A) (x : A) (c : Located) (us : List Located) (seen : Seen) → c.word ≡ Mark close → goes_on n before (x, at last (c ∷ us) seen) ≡ Ok (before ++ x ∷ [], at last us seen)
+        goes_close : (n : ℕ) (before : List A) (x : A) (c : Located) (us : List Located) (seen : Seen) → c.word ≡ Punctuation close → goes_on n before (x, at last (c ∷ us) seen) ≡ Ok (before ++ x ∷ [], at last us seen)
         unfolding more_at
         goes_close n before x c us seen e = rw (e, not_comma, is_close) refl
 
-        pub list_met : (n : ℕ) (before : List A) (t : Located) (ts : List Located) (c : Located) (us : List Located) (seen : Seen) (xs : List A) → length ts < n → Parted Is (words_of (t ∷ ts)) xs → Fine Bad (t ∷ ts) → AllMay step Keep before seen xs → c.word ≡ Mark close
+        pub list_met : (n : ℕ) (before : List A) (t : Located) (ts : List Located) (c : Located) (us : List Located) (seen : Seen) (xs : List A) → length ts < n → Parted Is (words_of (t ∷ ts)) xs → Fine Bad (t ∷ ts) → AllMay step Keep before seen xs → c.word ≡ Punctuation close
             → Met last Bad Kept (before ++ xs) us (steps step seen xs) (comma_list read close n before t (at last (ts ++ c ∷ us) seen))
         list_met zero before t ts c us seen xs lt p fine keep e = absurd (omega arith)
         list_met (suc n) before t ts c us seen [] lt p fine keep e = absurd p
@@ -159,26 +159,26 @@ module _ (last : Result Located ConfigFault) (Bad : ℕ → Type 0) (Kept : Faul
             (list_met n (before ++ x ∷ []) b.next b.rest c us mid (y ∷ ys) shorter b.others (fine_rest Bad (t ∷ b.front) (b.comma ∷ b.next ∷ b.rest) parts).1 keep.1 e))))
 
         -- with all the room that there is
-        pub whole_met : (t : Located) (ts : List Located) (c : Located) (us : List Located) (seen : Seen) (xs : List A) → Parted Is (words_of (t ∷ ts)) xs → Fine Bad (t ∷ ts) → AllMay step Keep [] seen xs → c.word ≡ Mark close
+        pub whole_met : (t : Located) (ts : List Located) (c : Located) (us : List Located) (seen : Seen) (xs : List A) → Parted Is (words_of (t ∷ ts)) xs → Fine Bad (t ∷ ts) → AllMay step Keep [] seen xs → c.word ≡ Punctuation close
             → Met last Bad Kept xs us (steps step seen xs) (comma_list read close (room (at last (ts ++ c ∷ us) seen)) [] t (at last (ts ++ c ∷ us) seen))
         whole_met t ts c us seen xs p fine keep e = list_met (room (at last (ts ++ c ∷ us) seen)) [] t ts c us seen xs (omega (arith, length-append ts (c ∷ us))) p fine keep e
 
-      empty_is : (o c : Located) (us : List Located) (seen : Seen) → o.word ≡ Mark OpenList → c.word ≡ Mark CloseList → list_of read (at last (o ∷ c ∷ us) seen) ≡ Ok ([], at last us seen)
+      empty_is : (o c : Located) (us : List Located) (seen : Seen) → o.word ≡ Punctuation OpenList → c.word ≡ Punctuation CloseList → list_of read (at last (o ∷ c ∷ us) seen) ≡ Ok ([], at last us seen)
       unfolding list_of
       empty_is o c us seen a b = rw (symbol_again last OpenList o (c ∷ us) seen refl a, b) refl
 
-      filled_is : (o f : Located) (ts : List Located) (seen : Seen) → o.word ≡ Mark OpenList → is_mark CloseList f.word ≡ false → list_of read (at last (o ∷ f ∷ ts) seen) ≡ comma_list read CloseList (room (at last ts seen)) [] f (at last ts seen)
+      filled_is : (o f : Located) (ts : List Located) (seen : Seen) → o.word ≡ Punctuation OpenList → is_symbol CloseList f.word ≡ false → list_of read (at last (o ∷ f ∷ ts) seen) ≡ comma_list read CloseList (room (at last ts seen)) [] f (at last ts seen)
       unfolding list_of
       filled_is o f ts seen a b = rw (symbol_again last OpenList o (f ∷ ts) seen refl a, b) refl
 
       pub bracketed_met : (ts us : List Located) (seen : Seen) (xs : List A) → IsListOf Is (words_of ts) xs → Fine Bad ts → AllMay step Keep [] seen xs → Met last Bad Kept xs us (steps step seen xs) (list_of read (at last (ts ++ us) seen))
       bracketed_met ts us seen [] is fine keep =
-          let i = inside ts (Mark OpenList) is.0 (Mark CloseList) is.1 in
+          let i = inside ts (Punctuation OpenList) is.0 (Punctuation CloseList) is.1 in
           let empty : i.mid ≡ [] = none i.mid (i.is ∙ is.2) in
           let apart : ts ++ us ≡ i.open_at ∷ i.close_at ∷ us = ap (λ (l : List Located). l ++ us) (i.whole ∙ ap (λ (l : List Located). i.open_at ∷ (l ++ i.close_at ∷ [])) empty) in
           met_is [] us seen (list_of read (at last (ts ++ us) seen)) (Ok ([], at last us seen)) (ap (λ (l : List Located). list_of read (at last l seen)) apart ∙ empty_is i.open_at i.close_at us seen i.opens i.closes) refl
       bracketed_met ts us seen (x ∷ xs) is fine keep =
-          let i = inside ts (Mark OpenList) is.0 (Mark CloseList) is.1 in
+          let i = inside ts (Punctuation OpenList) is.0 (Punctuation CloseList) is.1 in
           let b = parted_begins is.0 (x ∷ xs) is.2 in
           let f = cut i.mid b.head b.tail (i.is ∙ b.whole) in
           let parts : ts ≡ i.open_at ∷ ((f.head ∷ f.tail) ++ i.close_at ∷ []) = i.whole ∙ ap (λ (l : List Located). i.open_at ∷ (l ++ i.close_at ∷ [])) f.whole in
@@ -186,15 +186,15 @@ module _ (last : Result Located ConfigFault) (Bad : ℕ → Type 0) (Kept : Faul
           let apart : ts ++ us ≡ i.open_at ∷ f.head ∷ vs = ap (λ (l : List Located). l ++ us) parts ∙ ap (λ (l : List Located). i.open_at ∷ f.head ∷ l) (append_assoc f.tail (i.close_at ∷ []) us) in
           let inner : is.0 ≡ words_of (f.head ∷ f.tail) = sym i.is ∙ ap words_of f.whole in
           let mid : Fine Bad (f.head ∷ f.tail) = fine_front Bad (f.head ∷ f.tail) (i.close_at ∷ []) (subst (λ (l : List Located). Fine Bad l) parts fine).1 in
-          met_is (x ∷ xs) us (steps step seen (x ∷ xs)) (list_of read (at last (ts ++ us) seen)) (comma_list read CloseList (room (at last vs seen)) [] f.head (at last vs seen)) (ap (λ (l : List Located). list_of read (at last l seen)) apart ∙ filled_is i.open_at f.head vs seen i.opens (ap (is_mark CloseList) f.is ∙ b.no_list))
+          met_is (x ∷ xs) us (steps step seen (x ∷ xs)) (list_of read (at last (ts ++ us) seen)) (comma_list read CloseList (room (at last vs seen)) [] f.head (at last vs seen)) (ap (λ (l : List Located). list_of read (at last l seen)) apart ∙ filled_is i.open_at f.head vs seen i.opens (ap (is_symbol CloseList) f.is ∙ b.no_list))
           (whole_met CloseList refl refl f.head f.tail i.close_at us seen (x ∷ xs) (subst (λ (l : List Word). Parted Is l (x ∷ xs)) inner is.2) mid keep i.closes)
 
   -- ---- a value and the brace that closes its pair, and a pair
 
   module _ {A : Type 0} (value : State → Result (A × State) ConfigFault) (inner : List Word) (x : A) (seen after : Seen) (valued : (vs us : List Located) → words_of vs ≡ inner → Fine Bad vs → Met last Bad Kept x us after (value (at last (vs ++ us) seen))) where
-    pub closed_met : (vs us : List Located) → words_of vs ≡ inner ++ Mark CloseTuple ∷ [] → Fine Bad vs → Met last Bad Kept x us after (closed value (at last (vs ++ us) seen))
+    pub closed_met : (vs us : List Located) → words_of vs ≡ inner ++ Punctuation CloseTuple ∷ [] → Fine Bad vs → Met last Bad Kept x us after (closed value (at last (vs ++ us) seen))
     closed_met vs us e fine =
-        let c = ended vs inner (Mark CloseTuple) e in
+        let c = ended vs inner (Punctuation CloseTuple) e in
         let next : A × State → Result (A × State) ConfigFault = λ one. symbol_at CloseTuple one.1 >>= λ close. Ok (one.0, close) in
         let s = at last (c.front ++ c.end ∷ us) seen in
         met_is x us after (closed value (at last (vs ++ us) seen)) (value s >>= next) (ap (λ (l : List Located). closed value (at last l seen)) (ap (λ (l : List Located). l ++ us) c.whole ∙ append_assoc c.front (c.end ∷ []) us))
@@ -202,17 +202,17 @@ module _ (last : Result Located ConfigFault) (Bad : ℕ → Type 0) (Kept : Faul
         (met_is x us after (next (x, at last (c.end ∷ us) after)) (Ok (x, at last us after)) (ap (λ (r : Result State ConfigFault). r >>= λ close. Ok (x, close)) (symbol_again last CloseTuple c.end us after refl c.is)) refl))
 
   module _ {K A : Type 0} (name_of : Located → Result K ConfigFault) (rest : K → State → Result (A × State) ConfigFault) (name : List ℕ) (k : K) (x : A) (seen after : Seen) (named : (t : Located) → t.word ≡ Name name → (Bad t.at → ⊥) → Said Bad Kept k (name_of t)) where
-    pair_step : (t n c : Located) (us : List Located) → t.word ≡ Mark OpenTuple → pair_at name_of rest t (at last (n ∷ c ∷ us) seen) ≡ (name_of n >>= λ name. symbol_at Comma (at last (c ∷ us) seen) >>= rest name)
+    pair_step : (t n c : Located) (us : List Located) → t.word ≡ Punctuation OpenTuple → pair_at name_of rest t (at last (n ∷ c ∷ us) seen) ≡ (name_of n >>= λ name. symbol_at Comma (at last (c ∷ us) seen) >>= rest name)
     unfolding pair_at
     pair_step t n c us e = rw e refl
 
     -- a name, and what stands behind its comma
-    pub rest_met : (words : List Word) (t : Located) (ts us : List Located) → words_of (t ∷ ts) ≡ Mark OpenTuple ∷ Name name ∷ Mark Comma ∷ words → Fine Bad (t ∷ ts) → ((vs : List Located) → words_of vs ≡ words → Fine Bad vs → Met last Bad Kept x us after (rest k (at last (vs ++ us) seen)))
+    pub rest_met : (words : List Word) (t : Located) (ts us : List Located) → words_of (t ∷ ts) ≡ Punctuation OpenTuple ∷ Name name ∷ Punctuation Comma ∷ words → Fine Bad (t ∷ ts) → ((vs : List Located) → words_of vs ≡ words → Fine Bad vs → Met last Bad Kept x us after (rest k (at last (vs ++ us) seen)))
         → Met last Bad Kept x us after (pair_at name_of rest t (at last (ts ++ us) seen))
     rest_met words t ts us e fine rested =
-        let b = cons_is t.word (Mark OpenTuple) (words_of ts) (Name name ∷ Mark Comma ∷ words) e in
-        let n = cut ts (Name name) (Mark Comma ∷ words) b.1 in
-        let c = cut n.tail (Mark Comma) words n.rest in
+        let b = cons_is t.word (Punctuation OpenTuple) (words_of ts) (Name name ∷ Punctuation Comma ∷ words) e in
+        let n = cut ts (Name name) (Punctuation Comma ∷ words) b.1 in
+        let c = cut n.tail (Punctuation Comma) words n.rest in
         let apart : ts ≡ n.head ∷ c.head ∷ c.tail = n.whole ∙ ap (λ (l : List Located). n.head ∷ l) c.whole in
         let parts : Fine Bad (n.head ∷ c.head ∷ c.tail) = subst (λ (l : List Located). Fine Bad l) apart fine.1 in
         let next : K → Result (A × State) ConfigFault = λ name. symbol_at Comma (at last (c.head ∷ (c.tail ++ us)) seen) >>= rest name in
@@ -224,5 +224,5 @@ module _ (last : Result Located ConfigFault) (Bad : ℕ → Type 0) (Kept : Faul
     pub pair_met : (value : State → Result (A × State) ConfigFault) (IsValue : List Word → Type 0) → ((s : State) → rest k s ≡ closed value s) → ((vs us : List Located) → IsValue (words_of vs) → Fine Bad vs → Met last Bad Kept x us after (value (at last (vs ++ us) seen)))
         → (t : Located) (ts us : List Located) → IsPair name IsValue (words_of (t ∷ ts)) → Fine Bad (t ∷ ts) → Met last Bad Kept x us after (pair_at name_of rest t (at last (ts ++ us) seen))
     pair_met value IsValue closes valued t ts us is fine =
-        rest_met (is.0 ++ Mark CloseTuple ∷ []) t ts us is.1 fine (λ vs e f. met_is x us after (rest k (at last (vs ++ us) seen)) (closed value (at last (vs ++ us) seen)) (closes (at last (vs ++ us) seen))
+        rest_met (is.0 ++ Punctuation CloseTuple ∷ []) t ts us is.1 fine (λ vs e f. met_is x us after (rest k (at last (vs ++ us) seen)) (closed value (at last (vs ++ us) seen)) (closes (at last (vs ++ us) seen))
         (closed_met value is.0 x seen after (λ ws vs' w g. valued ws vs' (subst IsValue (sym w) is.2) g) vs us e f))

@@ -7,11 +7,11 @@ use Rattle.dac_tokens.specs.declared.fault.FaultKind.{FaultKind}
 use Rattle.dac_tokens.specs.declared.fault.FaultKind.TheVariants.{TwiceApp, TwiceInList, TooManyNodes, TooManyApps, NameTooLong, EmptyList, EmptyTuple, NumberTooLarge}
 use Rattle.dac_tokens.specs.declared.token.Symbol.TheVariants.{OpenList, CloseList, OpenTuple, CloseTuple, Comma}
 use Rattle.dac_tokens.specs.Gives.{◌>>=◌}
-use Rattle.dac_tokens.specs.Words.{Word, Mark, Name, Number, Located}
+use Rattle.dac_tokens.specs.Words.{Word, Punctuation, Name, Number, Located}
 use Rattle.dac_shapes.specs.Written.{App, Permission}
 use Rattle.dac_shapes.specs.Limits.{Seen, is_among, with_node, with_nodes, with_groups, listing, with_app}
 use Rattle.dac_tokens.specs.Digits.{value_from}
-use Rattle.dac_shapes.specs.Shape.{State, fails, is_mark, atom_of, short_name_of, node_of, names_at, item_at, items_at, groups_at, milliseconds_of, timeout_at, app_name_of, app_value_at, app_at, flag_of, permission_value_at, permission_at, closed}
+use Rattle.dac_shapes.specs.Shape.{State, fails, is_symbol, atom_of, short_name_of, node_of, names_at, item_at, items_at, groups_at, milliseconds_of, timeout_at, app_name_of, app_value_at, app_at, flag_of, permission_value_at, permission_at, closed}
 use Rattle.dac_shapes.specs.Grammar.{Parted, IsNode, IsItem, IsMs, IsFlag, IsPermission}
 use Rattle.dac_shapes.specs.laws.AgainLists.{words_of, cons_is, split, cut, none, Begins, at, symbol_again}
 use Rattle.dac_first_fault.specs.Loose.{IsLooseItem, IsLooseNodeList, IsLooseAppValue, IsLooseApp}
@@ -20,12 +20,12 @@ use Rattle.dac_first_fault.proofs.Past.{Fine, fine_front, Met, Said, met_then, s
 
 -- ---- single tokens
 
-pub atom_is : (w : Word) (place : ℕ) (name : List ℕ) → w ≡ Name name → atom_of (record { word = w; at = place }) ≡ Ok name
+pub atom_is : (w : Word) (offset : ℕ) (name : List ℕ) → w ≡ Name name → atom_of (record { word = w; at = offset }) ≡ Ok name
 unfolding atom_of
-atom_is w place name e = rw e refl
+atom_is w offset name e = rw e refl
 
-pub ms_is : (place : ℕ) (negative : Bool) (v n : ℕ) → n ≡ v → n < 4294967296 → (negative ≡ true → n ≡ 0) → milliseconds_of place negative v ≡ Ok n
-ms_is place negative v n e few zero_if =
+pub ms_is : (offset : ℕ) (negative : Bool) (v n : ℕ) → n ≡ v → n < 4294967296 → (negative ≡ true → n ≡ 0) → milliseconds_of offset negative v ≡ Ok n
+ms_is offset negative v n e few zero_if =
     let small : ltb v 4294967296 ≡ true = lt-ltb v 4294967296 (omega arith) in
     rw (negative_zero negative v (λ f. sym e ∙ zero_if f), small) (ap (λ (m : ℕ). Ok m) (sym e))
   where
@@ -82,24 +82,24 @@ module _ (last : Result Located ConfigFault) (Bad : ℕ → Type 0) (Kept : Faul
   strict_begins : (ws : List Word) (group : List (List ℕ)) → IsItem ws group → Begins ws
   strict_begins ws group is = elim is [
     | inl h ↦ record { head = Name h.0; tail = []; whole = h.1; no_list = refl; no_tuple = refl }
-    | inr h ↦ record { head = Mark OpenTuple; tail = h.0 ++ Mark CloseTuple ∷ []; whole = h.1; no_list = refl; no_tuple = refl }
+    | inr h ↦ record { head = Punctuation OpenTuple; tail = h.0 ++ Punctuation CloseTuple ∷ []; whole = h.1; no_list = refl; no_tuple = refl }
   ]
 
   item_begins : (ws : List Word) (group : List (List ℕ)) → IsLooseItem Kept ws group → Begins ws
   item_begins ws group is = elim is [
     | inl strict ↦ strict_begins ws group strict
-    | inr empty ↦ record { head = Mark OpenTuple; tail = Mark CloseTuple ∷ []; whole = empty.1; no_list = refl; no_tuple = refl }
+    | inr empty ↦ record { head = Punctuation OpenTuple; tail = Punctuation CloseTuple ∷ []; whole = empty.1; no_list = refl; no_tuple = refl }
   ]
 
   alone_is : (t : Located) (s : State) (name : List ℕ) → t.word ≡ Name name → item_at t s ≡ (node_of false t s >>= λ name. Ok (name.0 ∷ [], name.1))
   unfolding item_at
   alone_is t s name w = rw w refl
 
-  tuple_is : (t f : Located) (ts : List Located) (seen : Seen) → t.word ≡ Mark OpenTuple → is_mark CloseTuple f.word ≡ false → item_at t (at last (f ∷ ts) seen) ≡ names_at false CloseTuple f (at last ts seen)
+  tuple_is : (t f : Located) (ts : List Located) (seen : Seen) → t.word ≡ Punctuation OpenTuple → is_symbol CloseTuple f.word ≡ false → item_at t (at last (f ∷ ts) seen) ≡ names_at false CloseTuple f (at last ts seen)
   unfolding item_at
   tuple_is t f ts seen w e = rw (w, e) refl
 
-  -- tokens from a mark on, up to the mark that closes it: things parted by commas are between
+  -- tokens from a symbol on, up to the symbol that closes it: things parted by commas are between
   record Within (ts : List Located) (inner : List Word) (right : Word) : Type 0 where
     pub first : Located
     pub mid : List Located
@@ -107,8 +107,8 @@ module _ (last : Result Located ConfigFault) (Bad : ℕ → Type 0) (Kept : Faul
     pub whole : ts ≡ (first ∷ mid) ++ close_at ∷ []
     pub is : inner ≡ words_of (first ∷ mid)
     pub closes : close_at.word ≡ right
-    pub no_list : is_mark CloseList first.word ≡ false
-    pub no_tuple : is_mark CloseTuple first.word ≡ false
+    pub no_list : is_symbol CloseList first.word ≡ false
+    pub no_tuple : is_symbol CloseTuple first.word ≡ false
 
   within : (t : Located) (ts : List Located) (left : Word) (inner : List Word) (right : Word) → words_of (t ∷ ts) ≡ left ∷ inner ++ right ∷ [] → Begins inner → Within ts inner right
   within t ts left inner right e b =
@@ -123,8 +123,8 @@ module _ (last : Result Located ConfigFault) (Bad : ℕ → Type 0) (Kept : Faul
         whole = s.whole ∙ ap (λ (l : List Located). l ++ s.rest) f.whole ∙ ap (λ (l : List Located). f.head ∷ (f.tail ++ l)) (d.whole ∙ ap (λ (l : List Located). d.head ∷ l) (none d.tail d.rest));
         is = sym s.first ∙ ap words_of f.whole;
         closes = d.is;
-        no_list = ap (is_mark CloseList) f.is ∙ b.no_list;
-        no_tuple = ap (is_mark CloseTuple) f.is ∙ b.no_tuple;
+        no_list = ap (is_symbol CloseList) f.is ∙ b.no_list;
+        no_tuple = ap (is_symbol CloseTuple) f.is ∙ b.no_tuple;
       }
 
   within_fine : (ts : List Located) (inner : List Word) (right : Word) (w : Within ts inner right) → Fine Bad ts → Fine Bad (w.first ∷ w.mid)
@@ -145,14 +145,14 @@ module _ (last : Result Located ConfigFault) (Bad : ℕ → Type 0) (Kept : Faul
         (met_is last Bad Kept (h.0 ∷ []) us after (item_at t (at last (ts ++ us) seen)) (node_of false t s >>= next) (ap (λ (l : List Located). item_at t (at last (l ++ us) seen)) (none ts c.1) ∙ alone_is t s h.0 c.0)
         (met_then last Bad Kept h.0 us after (h.0 ∷ []) us after (node_of false t s) next (node_met false t us seen h.0 c.0 one.0) refl))
     | inr h ↦
-        let w = within t ts (Mark OpenTuple) h.0 (Mark CloseTuple) h.1 (parted_begins last Bad Kept IsNode node_begins h.0 group h.2) in
-        let begun = cons_is t.word (Mark OpenTuple) (words_of ts) (h.0 ++ Mark CloseTuple ∷ []) h.1 in
+        let w = within t ts (Punctuation OpenTuple) h.0 (Punctuation CloseTuple) h.1 (parted_begins last Bad Kept IsNode node_begins h.0 group h.2) in
+        let begun = cons_is t.word (Punctuation OpenTuple) (words_of ts) (h.0 ++ Punctuation CloseTuple ∷ []) h.1 in
         let vs = w.mid ++ w.close_at ∷ us in
-        met_is last Bad Kept group us (with_nodes seen group) (item_at t (at last (ts ++ us) seen)) (names_at false CloseTuple w.first (at last vs seen)) (ap (λ (l : List Located). item_at t (at last l seen)) (within_apart ts us h.0 (Mark CloseTuple) w) ∙ tuple_is t w.first vs seen begun.0 w.no_tuple)
-        (whole_met last Bad Kept IsNode node_begins (λ _. node_of false) with_node (λ _. NodeKeeps Kept false) (nodes_met false) CloseTuple refl refl w.first w.mid w.close_at us seen group (subst (λ (l : List Word). Parted IsNode l group) w.is h.2) (within_fine ts h.0 (Mark CloseTuple) w fine.1) keep w.closes)
+        met_is last Bad Kept group us (with_nodes seen group) (item_at t (at last (ts ++ us) seen)) (names_at false CloseTuple w.first (at last vs seen)) (ap (λ (l : List Located). item_at t (at last l seen)) (within_apart ts us h.0 (Punctuation CloseTuple) w) ∙ tuple_is t w.first vs seen begun.0 w.no_tuple)
+        (whole_met last Bad Kept IsNode node_begins (λ _. node_of false) with_node (λ _. NodeKeeps Kept false) (nodes_met false) CloseTuple refl refl w.first w.mid w.close_at us seen group (subst (λ (l : List Word). Parted IsNode l group) w.is h.2) (within_fine ts h.0 (Punctuation CloseTuple) w fine.1) keep w.closes)
   ]
 
-  tuple_none : (t c : Located) (us : List Located) (seen : Seen) → t.word ≡ Mark OpenTuple → c.word ≡ Mark CloseTuple → item_at t (at last (c ∷ us) seen) ≡ fails EmptyTuple t.at
+  tuple_none : (t c : Located) (us : List Located) (seen : Seen) → t.word ≡ Punctuation OpenTuple → c.word ≡ Punctuation CloseTuple → item_at t (at last (c ∷ us) seen) ≡ fails EmptyTuple t.at
   unfolding item_at
   tuple_none t c us seen w v = rw (w, v) refl
 
@@ -160,45 +160,45 @@ module _ (last : Result Located ConfigFault) (Bad : ℕ → Type 0) (Kept : Faul
   item_met before t ts us seen group is fine keep = elim is [
     | inl strict ↦ strict_item_met before t ts us seen group strict fine keep
     | inr empty ↦
-        let b = cons_is t.word (Mark OpenTuple) (words_of ts) (Mark CloseTuple ∷ []) empty.1 in
-        let c = cut ts (Mark CloseTuple) [] b.1 in
+        let b = cons_is t.word (Punctuation OpenTuple) (words_of ts) (Punctuation CloseTuple ∷ []) empty.1 in
+        let c = cut ts (Punctuation CloseTuple) [] b.1 in
         let apart : ts ++ us ≡ c.head ∷ us = ap (λ (l : List Located). l ++ us) (c.whole ∙ ap (λ (l : List Located). c.head ∷ l) (none c.tail c.rest)) in
         met_is last Bad Kept group us (with_nodes seen group) (item_at t (at last (ts ++ us) seen)) (fails EmptyTuple t.at) (ap (λ (l : List Located). item_at t (at last l seen)) apart ∙ tuple_none t c.head us seen b.0 c.is) empty.0
   ]
 
-  list_opened : (t f : Located) (ts : List Located) (seen : Seen) → t.word ≡ Mark OpenList → is_mark CloseList f.word ≡ false → groups_at t (at last (f ∷ ts) seen) ≡ items_at f (at last ts (listing seen))
+  list_opened : (t f : Located) (ts : List Located) (seen : Seen) → t.word ≡ Punctuation OpenList → is_symbol CloseList f.word ≡ false → groups_at t (at last (f ∷ ts) seen) ≡ items_at f (at last ts (listing seen))
   unfolding groups_at
   list_opened t f ts seen w e = rw (w, e) refl
 
-  list_none : (t c : Located) (us : List Located) (seen : Seen) → t.word ≡ Mark OpenList → c.word ≡ Mark CloseList → groups_at t (at last (c ∷ us) seen) ≡ fails EmptyList t.at
+  list_none : (t c : Located) (us : List Located) (seen : Seen) → t.word ≡ Punctuation OpenList → c.word ≡ Punctuation CloseList → groups_at t (at last (c ∷ us) seen) ≡ fails EmptyList t.at
   unfolding groups_at
   list_none t c us seen w v = rw (w, v) refl
 
   groups_met : (t : Located) (ts us : List Located) (seen : Seen) (groups : List (List (List ℕ))) → IsLooseNodeList Kept (words_of (t ∷ ts)) groups → Fine Bad (t ∷ ts) → GroupsKeep Kept (listing seen) groups → Met last Bad Kept groups us (with_groups (listing seen) groups) (groups_at t (at last (ts ++ us) seen))
   groups_met t ts us seen groups is fine keep = elim is [
     | inl filled ↦
-        let w = within t ts (Mark OpenList) filled.0 (Mark CloseList) filled.1 (parted_begins last Bad Kept (IsLooseItem Kept) item_begins filled.0 groups filled.2) in
-        let begun = cons_is t.word (Mark OpenList) (words_of ts) (filled.0 ++ Mark CloseList ∷ []) filled.1 in
+        let w = within t ts (Punctuation OpenList) filled.0 (Punctuation CloseList) filled.1 (parted_begins last Bad Kept (IsLooseItem Kept) item_begins filled.0 groups filled.2) in
+        let begun = cons_is t.word (Punctuation OpenList) (words_of ts) (filled.0 ++ Punctuation CloseList ∷ []) filled.1 in
         let vs = w.mid ++ w.close_at ∷ us in
-        met_is last Bad Kept groups us (with_groups (listing seen) groups) (groups_at t (at last (ts ++ us) seen)) (items_at w.first (at last vs (listing seen))) (ap (λ (l : List Located). groups_at t (at last l seen)) (within_apart ts us filled.0 (Mark CloseList) w) ∙ list_opened t w.first vs seen begun.0 w.no_list)
-        (whole_met last Bad Kept (IsLooseItem Kept) item_begins (λ _. item_at) with_nodes (λ _. NodesKeep Kept false) item_met CloseList refl refl w.first w.mid w.close_at us (listing seen) groups (subst (λ (l : List Word). Parted (IsLooseItem Kept) l groups) w.is filled.2) (within_fine ts filled.0 (Mark CloseList) w fine.1) keep w.closes)
+        met_is last Bad Kept groups us (with_groups (listing seen) groups) (groups_at t (at last (ts ++ us) seen)) (items_at w.first (at last vs (listing seen))) (ap (λ (l : List Located). groups_at t (at last l seen)) (within_apart ts us filled.0 (Punctuation CloseList) w) ∙ list_opened t w.first vs seen begun.0 w.no_list)
+        (whole_met last Bad Kept (IsLooseItem Kept) item_begins (λ _. item_at) with_nodes (λ _. NodesKeep Kept false) item_met CloseList refl refl w.first w.mid w.close_at us (listing seen) groups (subst (λ (l : List Word). Parted (IsLooseItem Kept) l groups) w.is filled.2) (within_fine ts filled.0 (Punctuation CloseList) w fine.1) keep w.closes)
     | inr empty ↦
-        let b = cons_is t.word (Mark OpenList) (words_of ts) (Mark CloseList ∷ []) empty.1 in
-        let c = cut ts (Mark CloseList) [] b.1 in
+        let b = cons_is t.word (Punctuation OpenList) (words_of ts) (Punctuation CloseList ∷ []) empty.1 in
+        let c = cut ts (Punctuation CloseList) [] b.1 in
         let apart : ts ++ us ≡ c.head ∷ us = ap (λ (l : List Located). l ++ us) (c.whole ∙ ap (λ (l : List Located). c.head ∷ l) (none c.tail c.rest)) in
         met_is last Bad Kept groups us (with_groups (listing seen) groups) (groups_at t (at last (ts ++ us) seen)) (fails EmptyList t.at) (ap (λ (l : List Located). groups_at t (at last l seen)) apart ∙ list_none t c.head us seen b.0 c.is) empty.0
   ]
 
   -- ---- applications
 
-  untimed_is : (w : Word) (place : ℕ) (s : State) → w ≡ Mark OpenList → timeout_at (record { word = w; at = place }) s ≡ Ok (0, record { word = w; at = place }, s)
+  untimed_is : (w : Word) (offset : ℕ) (s : State) → w ≡ Punctuation OpenList → timeout_at (record { word = w; at = offset }) s ≡ Ok (0, record { word = w; at = offset }, s)
   unfolding timeout_at
-  untimed_is w place s e = rw e refl
+  untimed_is w offset s e = rw e refl
 
-  timed_is : (place : ℕ) (c f : Located) (ts : List Located) (seen : Seen) (negative : Bool) (digits : List ℕ) (n : ℕ) → milliseconds_of place negative (value_from 0 digits) ≡ Ok n → c.word ≡ Mark Comma
-      → timeout_at (record { word = Number negative digits; at = place }) (at last (c ∷ f ∷ ts) seen) ≡ Ok (n, f, at last ts seen)
+  timed_is : (offset : ℕ) (c f : Located) (ts : List Located) (seen : Seen) (negative : Bool) (digits : List ℕ) (n : ℕ) → milliseconds_of offset negative (value_from 0 digits) ≡ Ok n → c.word ≡ Punctuation Comma
+      → timeout_at (record { word = Number negative digits; at = offset }) (at last (c ∷ f ∷ ts) seen) ≡ Ok (n, f, at last ts seen)
   unfolding timeout_at
-  timed_is place c f ts seen negative digits n e w = rw (e, symbol_again last Comma c (f ∷ ts) seen refl w) refl
+  timed_is offset c f ts seen negative digits n e w = rw (e, symbol_again last Comma c (f ∷ ts) seen refl w) refl
 
   abbrev app_with : List ℕ → ℕ → List (List (List ℕ)) × State → Result (App × State) ConfigFault
   app_with name n groups = Ok (record { name = name; timeout = n; groups = groups.0 }, groups.1)
@@ -212,16 +212,16 @@ module _ (last : Result Located ConfigFault) (Bad : ℕ → Type 0) (Kept : Faul
   listed_met app f ts us seen list fine keep = met_then last Bad Kept app.groups us (with_app seen app) app us (with_app seen app) (groups_at f (at last (ts ++ us) seen)) (app_with app.name app.timeout) (groups_met f ts us seen app.groups list fine keep) refl
 
   -- a node list begins with its bracket
-  list_begins : (ws : List Word) (groups : List (List (List ℕ))) → IsLooseNodeList Kept ws groups → (tail : List Word) × (ws ≡ Mark OpenList ∷ tail)
+  list_begins : (ws : List Word) (groups : List (List (List ℕ))) → IsLooseNodeList Kept ws groups → (tail : List Word) × (ws ≡ Punctuation OpenList ∷ tail)
   list_begins ws groups is = elim is [
-    | inl filled ↦ (filled.0 ++ Mark CloseList ∷ [], filled.1)
-    | inr empty ↦ (Mark CloseList ∷ [], empty.1)
+    | inl filled ↦ (filled.0 ++ Punctuation CloseList ∷ [], filled.1)
+    | inr empty ↦ (Punctuation CloseList ∷ [], empty.1)
   ]
 
   untimed_met : (vs us : List Located) (seen : Seen) (app : App) → app.timeout ≡ 0 → IsLooseNodeList Kept (words_of vs) app.groups → Fine Bad vs → GroupsKeep Kept (listing seen) app.groups → Met last Bad Kept app us (with_app seen app) (app_value_at app.name (at last (vs ++ us) seen))
   untimed_met vs us seen app zero is fine keep =
       let b = list_begins (words_of vs) app.groups is in
-      let c = cut vs (Mark OpenList) b.0 b.1 in
+      let c = cut vs (Punctuation OpenList) b.0 b.1 in
       let list : IsLooseNodeList Kept (words_of (c.head ∷ c.tail)) app.groups = subst (λ (l : List Word). IsLooseNodeList Kept l app.groups) (ap words_of c.whole) is in
       let ts = c.tail ++ us in
       let time : timeout_at c.head (at last ts seen) ≡ Ok (app.timeout, c.head, at last ts seen) = untimed_is c.head.word c.head.at (at last ts seen) c.is ∙ ap (λ (n : ℕ). Ok (n, c.head, at last ts seen)) (sym zero) in
@@ -229,12 +229,12 @@ module _ (last : Result Located ConfigFault) (Bad : ℕ → Type 0) (Kept : Faul
       (ap (λ (l : List Located). app_value_at app.name (at last (l ++ us) seen)) c.whole ∙ app_value_is app.name app.timeout c.head c.head ts ts seen time)
       (listed_met app c.head c.tail us seen list (subst (λ (l : List Located). Fine Bad l) c.whole fine) keep)
 
-  timed_met : (vs us : List Located) (seen : Seen) (app : App) (w : Word) (list : List Word) → words_of vs ≡ w ∷ Mark Comma ∷ list → IsMs w app.timeout → IsLooseNodeList Kept list app.groups → Fine Bad vs → GroupsKeep Kept (listing seen) app.groups → Met last Bad Kept app us (with_app seen app) (app_value_at app.name (at last (vs ++ us) seen))
+  timed_met : (vs us : List Located) (seen : Seen) (app : App) (w : Word) (list : List Word) → words_of vs ≡ w ∷ Punctuation Comma ∷ list → IsMs w app.timeout → IsLooseNodeList Kept list app.groups → Fine Bad vs → GroupsKeep Kept (listing seen) app.groups → Met last Bad Kept app us (with_app seen app) (app_value_at app.name (at last (vs ++ us) seen))
   timed_met vs us seen app w list whole ms is fine keep =
       let b = list_begins list app.groups is in
-      let c = cut vs w (Mark Comma ∷ list) whole in
-      let d = cut c.tail (Mark Comma) list c.rest in
-      let f = cut d.tail (Mark OpenList) b.0 (d.rest ∙ b.1) in
+      let c = cut vs w (Punctuation Comma ∷ list) whole in
+      let d = cut c.tail (Punctuation Comma) list c.rest in
+      let f = cut d.tail (Punctuation OpenList) b.0 (d.rest ∙ b.1) in
       let here : IsLooseNodeList Kept (words_of (f.head ∷ f.tail)) app.groups = subst (λ (l : List Word). IsLooseNodeList Kept l app.groups) (sym d.rest ∙ ap words_of f.whole) is in
       let apart : vs ≡ c.head ∷ d.head ∷ f.head ∷ f.tail = c.whole ∙ ap (λ (l : List Located). c.head ∷ l) (d.whole ∙ ap (λ (l : List Located). d.head ∷ l) f.whole) in
       let number : c.head.word ≡ Number ms.0 ms.1 = c.is ∙ ms.2 in
@@ -246,12 +246,12 @@ module _ (last : Result Located ConfigFault) (Bad : ℕ → Type 0) (Kept : Faul
       (listed_met app f.head f.tail us seen here (subst (λ (l : List Located). Fine Bad l) apart fine).1.1 keep)
 
   -- a number that is too large
-  pub large_is : (place v : ℕ) → 4294967296 ≤ v → milliseconds_of place false v ≡ fails NumberTooLarge place
-  large_is place v large = let no : ltb v 4294967296 ≡ false = le-ltb v 4294967296 large in rw no refl
+  pub large_is : (offset v : ℕ) → 4294967296 ≤ v → milliseconds_of offset false v ≡ fails NumberTooLarge offset
+  large_is offset v large = let no : ltb v 4294967296 ≡ false = le-ltb v 4294967296 large in rw no refl
 
-  value_large : (name : List ℕ) (place : ℕ) (digits : List ℕ) (vs : List Located) (seen : Seen) → milliseconds_of place false (value_from 0 digits) ≡ fails NumberTooLarge place → app_value_at name (at last (record { word = Number false digits; at = place } ∷ vs) seen) ≡ fails NumberTooLarge place
+  value_large : (name : List ℕ) (offset : ℕ) (digits : List ℕ) (vs : List Located) (seen : Seen) → milliseconds_of offset false (value_from 0 digits) ≡ fails NumberTooLarge offset → app_value_at name (at last (record { word = Number false digits; at = offset } ∷ vs) seen) ≡ fails NumberTooLarge offset
   unfolding app_value_at timeout_at
-  value_large name place digits vs seen e = rw e refl
+  value_large name offset digits vs seen e = rw e refl
 
   app_value_met : (vs us : List Located) (seen : Seen) (app : App) → IsLooseAppValue Kept (words_of vs) app → Fine Bad vs → GroupsKeep Kept (listing seen) app.groups → Met last Bad Kept app us (with_app seen app) (app_value_at app.name (at last (vs ++ us) seen))
   app_value_met vs us seen app is fine keep = elim is.3 [
@@ -259,11 +259,11 @@ module _ (last : Result Located ConfigFault) (Bad : ℕ → Type 0) (Kept : Faul
         let whole : words_of vs ≡ is.1 = is.2 ∙ ap (λ (l : List Word). l ++ is.1) h.0 in
         untimed_met vs us seen app h.1 (subst (λ (l : List Word). IsLooseNodeList Kept l app.groups) (sym whole) is.4) fine keep
     | inr h ↦
-        let whole : words_of vs ≡ h.0 ∷ Mark Comma ∷ is.1 = is.2 ∙ ap (λ (l : List Word). l ++ is.1) h.1 in
+        let whole : words_of vs ≡ h.0 ∷ Punctuation Comma ∷ is.1 = is.2 ∙ ap (λ (l : List Word). l ++ is.1) h.1 in
         elim h.2 [
           | inl ms ↦ timed_met vs us seen app h.0 is.1 whole ms is.4 fine keep
           | inr large ↦
-              let c = cut vs h.0 (Mark Comma ∷ is.1) whole in
+              let c = cut vs h.0 (Punctuation Comma ∷ is.1) whole in
               let number : c.head.word ≡ Number false large.1 = c.is ∙ large.2 in
               let read : app_value_at app.name (at last (c.head ∷ (c.tail ++ us)) seen) ≡ fails NumberTooLarge c.head.at =
               ap (λ (w : Word). app_value_at app.name (at last (record { word = w; at = c.head.at } ∷ (c.tail ++ us)) seen)) number ∙ value_large app.name c.head.at large.1 (c.tail ++ us) seen (large_is c.head.at (value_from 0 large.1) (omega (arith, large.3, large.4))) in
@@ -272,7 +272,7 @@ module _ (last : Result Located ConfigFault) (Bad : ℕ → Type 0) (Kept : Faul
   ]
 
   pub app_begins : (ws : List Word) (app : App) → IsLooseApp Kept ws app → Begins ws
-  app_begins ws app is = record { head = Mark OpenTuple; tail = Name app.name ∷ Mark Comma ∷ is.0 ++ Mark CloseTuple ∷ []; whole = is.1; no_list = refl; no_tuple = refl }
+  app_begins ws app is = record { head = Punctuation OpenTuple; tail = Name app.name ∷ Punctuation Comma ∷ is.0 ++ Punctuation CloseTuple ∷ []; whole = is.1; no_list = refl; no_tuple = refl }
 
   app_named : (before : List App) (seen : Seen) (app : App) → AppKeeps Kept before seen app → (t : Located) → t.word ≡ Name app.name → Said Bad Kept app.name (app_name_of before t)
   unfolding app_name_of
@@ -291,7 +291,7 @@ module _ (last : Result Located ConfigFault) (Bad : ℕ → Type 0) (Kept : Faul
   -- ---- permissions
 
   pub permission_begins : (ws : List Word) (x : Permission) → IsPermission ws x → Begins ws
-  permission_begins ws x is = record { head = Mark OpenTuple; tail = Name x.name ∷ Mark Comma ∷ is.0 ++ Mark CloseTuple ∷ []; whole = is.1; no_list = refl; no_tuple = refl }
+  permission_begins ws x is = record { head = Punctuation OpenTuple; tail = Name x.name ∷ Punctuation Comma ∷ is.0 ++ Punctuation CloseTuple ∷ []; whole = is.1; no_list = refl; no_tuple = refl }
 
   permission_value_is : (t : Located) (us : List Located) (seen : Seen) (x : Permission) → flag_of t ≡ Ok x.value → permission_value_at x.name (at last (t ∷ us) seen) ≡ Ok (x, at last us seen)
   unfolding permission_value_at

@@ -5,7 +5,7 @@ use Rattle.dac_tokens.specs.declared.fault.ConfigFault.{ConfigFault}
 use Rattle.dac_tokens.specs.declared.fault.FaultKind.{FaultKind}
 use Rattle.dac_tokens.specs.declared.fault.FaultKind.TheVariants.{BadShape, Unsupported, NumberTooLarge}
 use Rattle.dac_tokens.specs.declared.token.Symbol.TheVariants.{OpenTuple, CloseTuple, Comma}
-use Rattle.dac_tokens.specs.Words.{Word, Mark, Name, Number, Text, Located}
+use Rattle.dac_tokens.specs.Words.{Word, Punctuation, Name, Number, Text, Located}
 use Rattle.dac_shapes.specs.declared.draft.SyncWait.{SyncWait}
 use Rattle.dac_shapes.specs.declared.draft.SyncWait.TheVariants.{NoSync, Forever, Ms}
 use Rattle.dac_shapes.specs.declared.param.ParamName.{ParamName}
@@ -24,7 +24,7 @@ use Rattle.dac_first_fault.proofs.Past.{Fine, Met, Said, met_then, met_is, brack
 use Rattle.dac_first_fault.proofs.PastReaders.{large_is, atom_is, ms_is, node_begins, nodes_met, app_begins, app_met, permission_begins, permission_met}
 
 pair_begins : (name : List ℕ) (IsValue : List Word → Type 0) (ws : List Word) → IsPair name IsValue ws → Begins ws
-pair_begins name IsValue ws is = record { head = Mark OpenTuple; tail = Name name ∷ Mark Comma ∷ is.0 ++ Mark CloseTuple ∷ []; whole = is.1; no_list = refl; no_tuple = refl }
+pair_begins name IsValue ws is = record { head = Punctuation OpenTuple; tail = Name name ∷ Punctuation Comma ∷ is.0 ++ Punctuation CloseTuple ∷ []; whole = is.1; no_list = refl; no_tuple = refl }
 
 module _ (Kept : FaultKind → Type 0) where
   param_begins : (ws : List Word) (p : Param) → IsLooseParam Kept ws p → Begins ws
@@ -65,21 +65,21 @@ no_kernel name other = by (bytes_eq name (codes "kernel")) refl
     by true e = absurd (other (is_named name (codes "kernel") e))
     by false e = refl
 
-wait_is : (w : Word) (place : ℕ) (wait : SyncWait) → IsWait (w ∷ []) wait → wait_of (record { word = w; at = place }) ≡ Ok wait
+wait_is : (w : Word) (offset : ℕ) (wait : SyncWait) → IsWait (w ∷ []) wait → wait_of (record { word = w; at = offset }) ≡ Ok wait
 unfolding wait_of
-wait_is w place NoSync is = absurd is
-wait_is w place Forever is = let c = cons_is w (Name (codes "infinity")) [] [] is in rw c.0 refl
-wait_is w place (Ms n) is =
+wait_is w offset NoSync is = absurd is
+wait_is w offset Forever is = let c = cons_is w (Name (codes "infinity")) [] [] is in rw c.0 refl
+wait_is w offset (Ms n) is =
     let c = cons_is w is.0 [] [] is.1 in
     let ms = is.2 in
     let number : w ≡ Number ms.0 ms.1 = c.0 ∙ ms.2 in
-    rw (number, ms_is place ms.0 (value_from 0 ms.1) n ms.3 ms.4 ms.5) refl
+    rw (number, ms_is offset ms.0 (value_from 0 ms.1) n ms.3 ms.4 ms.5) refl
 
 module _ (last : Result Located ConfigFault) (Bad : ℕ → Type 0) (Kept : FaultKind → Type 0) where
   -- a second one brings a fault, at its name
-  once_said : {K : Type 0} (k : K) (place : ℕ) → (Bad place → ⊥) → (c : Bool) → (Kept BadShape → c ≡ false) → Said Bad Kept k (cond c (fails BadShape place) (Ok k))
-  once_said k place ok true once = (ok, λ kept. let wrong : true ≡ false = once kept in absurd cc)
-  once_said k place ok false once = refl
+  once_said : {K : Type 0} (k : K) (offset : ℕ) → (Bad offset → ⊥) → (c : Bool) → (Kept BadShape → c ≡ false) → Said Bad Kept k (cond c (fails BadShape offset) (Ok k))
+  once_said k offset ok true once = (ok, λ kept. let wrong : true ≡ false = once kept in absurd cc)
+  once_said k offset ok false once = refl
 
   known_said : (before : List Param) (t : Located) (name : ParamName) → (Kept BadShape → has_param name before ≡ false) → t.word ≡ Name (spelled name) → (Bad t.at → ⊥) → Said Bad Kept (Some name) (param_name_of before t)
   unfolding param_name_of
@@ -104,9 +104,9 @@ module _ (last : Result Located ConfigFault) (Bad : ℕ → Type 0) (Kept : Faul
       let said : IsWait (c.head.word ∷ []) wait = subst (λ (v : Word). IsWait (v ∷ []) wait) (sym c.is) is in
       met_is last Bad Kept (Timeout wait) us seen (param_value_at named.Timeout (at last (vs ++ us) seen)) (Ok (Timeout wait, at last us seen)) (ap (λ (l : List Located). param_value_at named.Timeout (at last (l ++ us) seen)) only ∙ timeout_is c.head us seen wait said) refl
 
-  wait_large : (place : ℕ) (digits : List ℕ) (us : List Located) (seen : Seen) → milliseconds_of place false (value_from 0 digits) ≡ fails NumberTooLarge place → param_value_at named.Timeout (at last (record { word = Number false digits; at = place } ∷ us) seen) ≡ fails NumberTooLarge place
+  wait_large : (offset : ℕ) (digits : List ℕ) (us : List Located) (seen : Seen) → milliseconds_of offset false (value_from 0 digits) ≡ fails NumberTooLarge offset → param_value_at named.Timeout (at last (record { word = Number false digits; at = offset } ∷ us) seen) ≡ fails NumberTooLarge offset
   unfolding param_value_at wait_of
-  wait_large place digits us seen e = rw e refl
+  wait_large offset digits us seen e = rw e refl
 
   timeout_met : (vs us : List Located) (seen : Seen) (wait : SyncWait) → IsLooseWait Kept (words_of vs) wait → Met last Bad Kept (Timeout wait) us seen (param_value_at named.Timeout (at last (vs ++ us) seen))
   timeout_met vs us seen NoSync is = absurd is
@@ -170,7 +170,7 @@ module _ (last : Result Located ConfigFault) (Bad : ℕ → Type 0) (Kept : Faul
   param_met before t ts us seen (Optional names) is fine keep = known_met named.Optional before (Optional names) seen (λ value. IsListOf IsNode value names) (λ kept. keep.once kept named.Optional refl) (λ vs us' value f. optional_met vs us' seen names value f keep.value) t ts us is fine
   param_met before t ts us seen (Timeout wait) is fine keep = known_met named.Timeout before (Timeout wait) seen (λ value. IsLooseWait Kept value wait) (λ kept. keep.once kept named.Timeout refl) (λ vs us' value f. timeout_met vs us' seen wait value) t ts us is fine
   param_met before t ts us seen Param.Other is fine keep =
-      rest_met last Bad Kept (param_name_of before) param_rest_at is.0 None Param.Other seen seen (λ n w ok. other_said before n is.0 w (unknown_so is.0 is.1)) (is.2.0 ++ Mark CloseTuple ∷ []) t ts us is.2.1 fine
+      rest_met last Bad Kept (param_name_of before) param_rest_at is.0 None Param.Other seen seen (λ n w ok. other_said before n is.0 w (unknown_so is.0 is.1)) (is.2.0 ++ Punctuation CloseTuple ∷ []) t ts us is.2.1 fine
       (λ vs e f. met_is last Bad Kept Param.Other us seen (param_rest_at None (at last (vs ++ us) seen)) (Ok (Param.Other, at last us seen)) (rest_of_other (at last (vs ++ us) seen) (at last us seen) (passed_again last is.2.0 vs us seen is.2.2 e)) refl)
 
   -- ---- sections
@@ -200,7 +200,7 @@ module _ (last : Result Located ConfigFault) (Bad : ℕ → Type 0) (Kept : Faul
   unfolding section_rest_at
   rest_of_section s u e = rw e refl
 
-  no_text : (before : List Section) (t : Located) (s : State) → t.word ≡ Mark OpenTuple → section_at before t s ≡ pair_at (names_kernel before) section_rest_at t s
+  no_text : (before : List Section) (t : Located) (s : State) → t.word ≡ Punctuation OpenTuple → section_at before t s ≡ pair_at (names_kernel before) section_rest_at t s
   unfolding section_at
   no_text before t s w = rw w refl
 
@@ -211,16 +211,16 @@ module _ (last : Result Located ConfigFault) (Bad : ℕ → Type 0) (Kept : Faul
 
   kernel_section_met : (before : List Section) (t : Located) (ts us : List Located) (seen : Seen) (params : List Param) → IsLooseSection Kept (words_of (t ∷ ts)) (Kernel params) → Fine Bad (t ∷ ts) → SectionKeeps Kept before seen (Kernel params) → Met last Bad Kept (Kernel params) us (with_section seen (Kernel params)) (section_at before t (at last (ts ++ us) seen))
   kernel_section_met before t ts us seen params is fine keep =
-      let brace = (cons_is t.word (Mark OpenTuple) (words_of ts) (Name (codes "kernel") ∷ Mark Comma ∷ is.0 ++ Mark CloseTuple ∷ []) is.1).0 in
+      let brace = (cons_is t.word (Punctuation OpenTuple) (words_of ts) (Name (codes "kernel") ∷ Punctuation Comma ∷ is.0 ++ Punctuation CloseTuple ∷ []) is.1).0 in
       let after = with_section seen (Kernel params) in
       met_is last Bad Kept (Kernel params) us after (section_at before t (at last (ts ++ us) seen)) (pair_at (names_kernel before) section_rest_at t (at last (ts ++ us) seen)) (no_text before t (at last (ts ++ us) seen) brace)
       (pair_met last Bad Kept (names_kernel before) section_rest_at (codes "kernel") true (Kernel params) seen after (λ n w ok. kernel_said before n keep.once w ok) kernel_at (λ value. IsListOf (IsLooseParam Kept) value params) rest_of_kernel (λ vs us' value f. kernel_met before vs us' seen params value f keep) t ts us is fine)
 
   other_pair_met : (before : List Section) (t : Located) (ts us : List Located) (seen : Seen) (name : List ℕ) → name ≢ codes "kernel" → IsPair name IsTerm (words_of (t ∷ ts)) → Fine Bad (t ∷ ts) → Met last Bad Kept Section.Other us seen (section_at before t (at last (ts ++ us) seen))
   other_pair_met before t ts us seen name other is fine =
-      let brace = (cons_is t.word (Mark OpenTuple) (words_of ts) (Name name ∷ Mark Comma ∷ is.0 ++ Mark CloseTuple ∷ []) is.1).0 in
+      let brace = (cons_is t.word (Punctuation OpenTuple) (words_of ts) (Name name ∷ Punctuation Comma ∷ is.0 ++ Punctuation CloseTuple ∷ []) is.1).0 in
       met_is last Bad Kept Section.Other us seen (section_at before t (at last (ts ++ us) seen)) (pair_at (names_kernel before) section_rest_at t (at last (ts ++ us) seen)) (no_text before t (at last (ts ++ us) seen) brace)
-      (rest_met last Bad Kept (names_kernel before) section_rest_at name false Section.Other seen seen (λ n w ok. other_section_said before n name w (no_kernel name other)) (is.0 ++ Mark CloseTuple ∷ []) t ts us is.1 fine
+      (rest_met last Bad Kept (names_kernel before) section_rest_at name false Section.Other seen seen (λ n w ok. other_section_said before n name w (no_kernel name other)) (is.0 ++ Punctuation CloseTuple ∷ []) t ts us is.1 fine
       (λ vs e f. met_is last Bad Kept Section.Other us seen (section_rest_at false (at last (vs ++ us) seen)) (Ok (Section.Other, at last us seen)) (rest_of_section (at last (vs ++ us) seen) (at last us seen) (passed_again last is.0 vs us seen is.2 e)) refl))
 
   section_met : (before : List Section) (t : Located) (ts us : List Located) (seen : Seen) (x : Section) → IsLooseSection Kept (words_of (t ∷ ts)) x → Fine Bad (t ∷ ts) → SectionKeeps Kept before seen x → Met last Bad Kept x us (with_section seen x) (section_at before t (at last (ts ++ us) seen))

@@ -7,7 +7,7 @@ use Rattle.dac_tokens.specs.declared.fault.ConfigFault.{ConfigFault}
 use Rattle.dac_tokens.specs.declared.fault.FaultKind.{FaultKind}
 use Rattle.dac_tokens.specs.declared.fault.FaultKind.TheVariants as kind
 use Rattle.dac_tokens.specs.declared.token.Symbol.TheVariants.{OpenList, CloseList, OpenTuple, CloseTuple, Comma, FullStop}
-use Rattle.dac_tokens.specs.Words.{Word, Mark, Name, Number, Text, End, Located}
+use Rattle.dac_tokens.specs.Words.{Word, Punctuation, Name, Number, Text, End, Located}
 use Rattle.dac_tokens.specs.TokenGrammar.{AreTokensOf, AreSpelled, Spells, Begins, depth_behind}
 use Rattle.dac_tokens.specs.TokenFaults.{StopAt}
 use Rattle.dac_first_fault.specs.FirstFault.{StandsAt, Itself, InList, InTuple, CanBring, IsNoName, BeginsWith, Only, Before, IsOfName, rank}
@@ -15,12 +15,12 @@ use Rattle.dac_first_fault.proofs.Past.{Unkept, Fine}
 use Rattle.dac_first_fault.proofs.Held.{Frees, Stops}
 use Rattle.dac_first_fault.proofs.Spared.{Strict}
 
--- this place alone
+-- this offset alone
 abbrev pub At : ℕ → ℕ → Type 0
-At bad place = place ≡ bad
+At bad offset = offset ≡ bad
 
 abbrev pub Nowhere : ℕ → Type 0
-Nowhere place = ⊥
+Nowhere offset = ⊥
 
 pub fine_both : (Bad : ℕ → Type 0) (a b : List Located) → Fine Bad a → Fine Bad b → Fine Bad (a ++ b)
 fine_both Bad [] b f g = g
@@ -34,7 +34,7 @@ fine_nowhere (t ∷ ts) = (λ name is no. absurd no, fine_nowhere ts)
 
 pub name_or_not : (w : Word) → ((name : List ℕ) × (w ≡ Name name)) ⊎ IsNoName w
 name_or_not (Name name) = inl (name, refl)
-name_or_not (Mark symbol) = inr tt
+name_or_not (Punctuation symbol) = inr tt
 name_or_not (Number negative digits) = inr tt
 name_or_not Text = inr tt
 name_or_not End = inr tt
@@ -57,35 +57,35 @@ last_named P [] w (v ∷ named) rest loud e all = none_behind named rest (cons_t
 last_named P (u ∷ a) w (v ∷ named) rest loud e all = last_named P a w named rest loud (cons_tail u v (a ++ w ∷ []) (named ++ rest) e) all
 
 -- a fault at a token that is no name is none of a name
-kind_not : (k : FaultKind) (w : Word) (bad place : ℕ) → place ≡ bad → CanBring k w → IsNoName w → Unkept (At bad) Strict k place → ⊥
-kind_not kind.BadShape w bad place e can plain of = of.0 e
-kind_not kind.TwiceApp w bad place e can plain of = absurd (subst IsNoName can.1 plain)
-kind_not kind.TwiceInList w bad place e can plain of = absurd (subst IsNoName can.1 plain)
-kind_not kind.TooManyApps w bad place e can plain of = absurd (subst IsNoName can.1 plain)
-kind_not kind.TooManyNodes w bad place e can plain of = absurd (subst IsNoName can.1 plain)
-kind_not kind.NameTooLong w bad place e can plain of = absurd (subst IsNoName can.1 plain)
-kind_not kind.Unsupported w bad place e can plain of = of tt
-kind_not kind.NumberTooLarge w bad place e can plain of = of tt
-kind_not _ w bad place e can plain of = absurd can
+kind_not : (k : FaultKind) (w : Word) (bad offset : ℕ) → offset ≡ bad → CanBring k w → IsNoName w → Unkept (At bad) Strict k offset → ⊥
+kind_not kind.BadShape w bad offset e can plain of = of.0 e
+kind_not kind.TwiceApp w bad offset e can plain of = absurd (subst IsNoName can.1 plain)
+kind_not kind.TwiceInList w bad offset e can plain of = absurd (subst IsNoName can.1 plain)
+kind_not kind.TooManyApps w bad offset e can plain of = absurd (subst IsNoName can.1 plain)
+kind_not kind.TooManyNodes w bad offset e can plain of = absurd (subst IsNoName can.1 plain)
+kind_not kind.NameTooLong w bad offset e can plain of = absurd (subst IsNoName can.1 plain)
+kind_not kind.Unsupported w bad offset e can plain of = of tt
+kind_not kind.NumberTooLarge w bad offset e can plain of = of tt
+kind_not _ w bad offset e can plain of = absurd can
 
 pub not_name : (a : List Located) (l : Located) (e : ConfigFault) → StandsAt a l e → IsNoName l.word → Unkept (At l.at) Strict e.kind e.at → ⊥
-not_name a l e (Itself place can) plain of = kind_not e.kind l.word l.at e.at place can plain of
+not_name a l e (Itself offset can) plain of = kind_not e.kind l.word l.at e.at offset can plain of
 not_name a l e (InList front o is w v f) plain of = (subst (λ (f : ConfigFault). Unkept (At l.at) Strict f.kind f.at) f of) tt
 not_name a l e (InTuple front o is w v f) plain of = (subst (λ (f : ConfigFault). Unkept (At l.at) Strict f.kind f.at) f of) tt
 
 -- a fault breaks its own limit
-pub not_kept : (k : FaultKind) (place : ℕ) → Unkept Nowhere (Only k) k place → ⊥
-not_kept kind.BadShape place of = of.1 refl
-not_kept kind.TwiceApp place of = of refl
-not_kept kind.TwiceInList place of = of refl
-not_kept kind.TooManyApps place of = of refl
-not_kept kind.TooManyNodes place of = of refl
-not_kept kind.NameTooLong place of = of refl
-not_kept kind.EmptyList place of = of refl
-not_kept kind.EmptyTuple place of = of refl
-not_kept kind.NumberTooLarge place of = of refl
-not_kept kind.Unsupported place of = of refl
-not_kept _ place of = absurd of
+pub not_kept : (k : FaultKind) (offset : ℕ) → Unkept Nowhere (Only k) k offset → ⊥
+not_kept kind.BadShape offset of = of.1 refl
+not_kept kind.TwiceApp offset of = of refl
+not_kept kind.TwiceInList offset of = of refl
+not_kept kind.TooManyApps offset of = of refl
+not_kept kind.TooManyNodes offset of = of refl
+not_kept kind.NameTooLong offset of = of refl
+not_kept kind.EmptyList offset of = of refl
+not_kept kind.EmptyTuple offset of = of refl
+not_kept kind.NumberTooLarge offset of = of refl
+not_kept kind.Unsupported offset of = of refl
+not_kept _ offset of = absurd of
 
 -- ---- a limit that a name breaks
 
@@ -97,9 +97,9 @@ can_name kind.TooManyApps w can of = (can.0, can.1)
 can_name kind.TooManyNodes w can of = (can.0, can.1)
 can_name _ w can of = absurd of
 
--- the name, at whose place the fault is
+-- the name, at whose offset the fault is
 pub name_of_it : (a : List Located) (l : Located) (e : ConfigFault) → StandsAt a l e → IsOfName e.kind → ((name : List ℕ) × (l.word ≡ Name name)) × (e.at ≡ l.at)
-name_of_it a l e (Itself place can) of = (can_name e.kind l.word can of, place)
+name_of_it a l e (Itself offset can) of = (can_name e.kind l.word can of, offset)
 name_of_it a l e (InList front o is w v f) of = absurd (subst (λ (f : ConfigFault). IsOfName f.kind) f of)
 name_of_it a l e (InTuple front o is w v f) of = absurd (subst (λ (f : ConfigFault). IsOfName f.kind) f of)
 
@@ -120,13 +120,13 @@ frees_so k other le fits b = elim b [
   | inr special ↦ late_rank other special fits
 ]
 
-pub stops_so : (k : FaultKind) (place bad : ℕ) → place ≡ bad → IsOfName k → Stops bad (Strictly k) k place
-stops_so kind.NameTooLong place bad e of = (e, frees_so kind.NameTooLong)
-stops_so kind.TwiceApp place bad e of = (e, frees_so kind.TwiceApp)
-stops_so kind.TwiceInList place bad e of = (e, frees_so kind.TwiceInList)
-stops_so kind.TooManyApps place bad e of = (e, frees_so kind.TooManyApps)
-stops_so kind.TooManyNodes place bad e of = (e, frees_so kind.TooManyNodes)
-stops_so _ place bad e of = absurd of
+pub stops_so : (k : FaultKind) (offset bad : ℕ) → offset ≡ bad → IsOfName k → Stops bad (Strictly k) k offset
+stops_so kind.NameTooLong offset bad e of = (e, frees_so kind.NameTooLong)
+stops_so kind.TwiceApp offset bad e of = (e, frees_so kind.TwiceApp)
+stops_so kind.TwiceInList offset bad e of = (e, frees_so kind.TwiceInList)
+stops_so kind.TooManyApps offset bad e of = (e, frees_so kind.TooManyApps)
+stops_so kind.TooManyNodes offset bad e of = (e, frees_so kind.TooManyNodes)
+stops_so _ offset bad e of = absurd of
 
 -- ---- places
 
@@ -141,13 +141,13 @@ name_some w name own rest is spelled = elim (subst (λ (w : Word). Spells w own 
 ]
 
 -- the names of a text stand before its end
-pub spelled_fine : (bad place : ℕ) (bytes : List ℕ) (ts : List Located) → AreSpelled place bytes ts → place + length bytes ≤ bad → Fine (At bad) ts
-spelled_fine bad place bytes [] is le = tt
-spelled_fine bad place bytes (t ∷ ts) is le =
+pub spelled_fine : (bad offset : ℕ) (bytes : List ℕ) (ts : List Located) → AreSpelled offset bytes ts → offset + length bytes ≤ bad → Fine (At bad) ts
+spelled_fine bad offset bytes [] is le = tt
+spelled_fine bad offset bytes (t ∷ ts) is le =
     let k = is.2 in
     let long = ap length k.parts ∙ length-append k.gap (is.0 ++ is.1) in
     let own = length-append is.0 is.1 in
-    (λ name w e. absurd (omega (arith, le, long, own, k.place, e, name_some t.word name is.0 is.1 w k.spelled)), spelled_fine bad (t.at + length is.0) is.1 ts is.3 (omega (arith, le, long, own, k.place)))
+    (λ name w e. absurd (omega (arith, le, long, own, k.offset, e, name_some t.word name is.0 is.1 w k.spelled)), spelled_fine bad (t.at + length is.0) is.1 ts is.3 (omega (arith, le, long, own, k.offset)))
 
 digits_some : (digits : List ℕ) → Begins IsAsciiDigit digits → 0 < length digits
 digits_some [] is = absurd is
@@ -155,12 +155,12 @@ digits_some (b ∷ bytes) is = omega arith
 
 -- a token has a byte at least
 own_some : (w : Word) (own rest : List ℕ) → Spells w own rest → 0 < length own
-own_some (Mark OpenList) own rest is = omega (arith, ap length is)
-own_some (Mark CloseList) own rest is = omega (arith, ap length is)
-own_some (Mark OpenTuple) own rest is = omega (arith, ap length is)
-own_some (Mark CloseTuple) own rest is = omega (arith, ap length is)
-own_some (Mark Comma) own rest is = omega (arith, ap length is)
-own_some (Mark FullStop) own rest is = omega (arith, ap length is.0)
+own_some (Punctuation OpenList) own rest is = omega (arith, ap length is)
+own_some (Punctuation CloseList) own rest is = omega (arith, ap length is)
+own_some (Punctuation OpenTuple) own rest is = omega (arith, ap length is)
+own_some (Punctuation CloseTuple) own rest is = omega (arith, ap length is)
+own_some (Punctuation Comma) own rest is = omega (arith, ap length is)
+own_some (Punctuation FullStop) own rest is = omega (arith, ap length is.0)
 own_some (Name name) own rest is = name_some (Name name) name own rest refl is
 own_some (Number false digits) own rest is = omega (arith, ap length is.0.0, digits_some digits is.0.1.begins)
 own_some (Number true digits) own rest is = omega (arith, ap length is.0.0)
@@ -169,31 +169,31 @@ own_some End own rest is = absurd is
 
 -- tokens one behind another
 abbrev Apart : ℕ → List Located → Type 0
-Apart place [] = Unit {0}
-Apart place (t ∷ ts) = (next : ℕ) × (place ≤ t.at) × (t.at < next) × Apart next ts
+Apart offset [] = Unit {0}
+Apart offset (t ∷ ts) = (next : ℕ) × (offset ≤ t.at) × (t.at < next) × Apart next ts
 
-apart_spelled : (place : ℕ) (bytes : List ℕ) (ts : List Located) → AreSpelled place bytes ts → Apart place ts
-apart_spelled place bytes [] is = tt
-apart_spelled place bytes (t ∷ ts) is = (t.at + length is.0, omega (arith, is.2.place), omega (arith, own_some t.word is.0 is.1 is.2.spelled), apart_spelled (t.at + length is.0) is.1 ts is.3)
+apart_spelled : (offset : ℕ) (bytes : List ℕ) (ts : List Located) → AreSpelled offset bytes ts → Apart offset ts
+apart_spelled offset bytes [] is = tt
+apart_spelled offset bytes (t ∷ ts) is = (t.at + length is.0, omega (arith, is.2.offset), omega (arith, own_some t.word is.0 is.1 is.2.spelled), apart_spelled (t.at + length is.0) is.1 ts is.3)
 
-apart_stopped : (place depth : ℕ) (bytes : List ℕ) (ts : List Located) (e : ConfigFault) → StopAt place depth bytes ts e → Apart place ts
-apart_stopped place depth bytes [] e is = tt
-apart_stopped place depth bytes (t ∷ ts) e is = (t.at + length is.0, omega (arith, is.2.place), omega (arith, own_some t.word is.0 is.1 is.2.spelled), apart_stopped (t.at + length is.0) (depth_behind depth t.word) is.1 ts e is.4)
+apart_stopped : (offset depth : ℕ) (bytes : List ℕ) (ts : List Located) (e : ConfigFault) → StopAt offset depth bytes ts e → Apart offset ts
+apart_stopped offset depth bytes [] e is = tt
+apart_stopped offset depth bytes (t ∷ ts) e is = (t.at + length is.0, omega (arith, is.2.offset), omega (arith, own_some t.word is.0 is.1 is.2.spelled), apart_stopped (t.at + length is.0) (depth_behind depth t.word) is.1 ts e is.4)
 
-apart_later : (place : ℕ) (a : List Located) (l : Located) (b : List Located) → Apart place (a ++ l ∷ b) → place ≤ l.at
-apart_later place [] l b is = is.1
-apart_later place (t ∷ a) l b is = let later = apart_later is.0 a l b is.3 in omega (arith, later, is.1, is.2)
+apart_later : (offset : ℕ) (a : List Located) (l : Located) (b : List Located) → Apart offset (a ++ l ∷ b) → offset ≤ l.at
+apart_later offset [] l b is = is.1
+apart_later offset (t ∷ a) l b is = let later = apart_later is.0 a l b is.3 in omega (arith, later, is.1, is.2)
 
--- none of these stands at this place
+-- none of these stands at this offset
 abbrev pub Clear : ℕ → List Located → Type 0
 Clear bad [] = Unit {0}
 Clear bad (t ∷ ts) = (t.at ≡ bad → ⊥) × Clear bad ts
 
-apart_clear : (place : ℕ) (a : List Located) (l : Located) (b : List Located) → Apart place (a ++ l ∷ b) → Clear l.at a
-apart_clear place [] l b is = tt
-apart_clear place (t ∷ a) l b is = let later = apart_later is.0 a l b is.3 in (λ e. absurd (omega (arith, later, is.2, e)), apart_clear is.0 a l b is.3)
+apart_clear : (offset : ℕ) (a : List Located) (l : Located) (b : List Located) → Apart offset (a ++ l ∷ b) → Clear l.at a
+apart_clear offset [] l b is = tt
+apart_clear offset (t ∷ a) l b is = let later = apart_later is.0 a l b is.3 in (λ e. absurd (omega (arith, later, is.2, e)), apart_clear is.0 a l b is.3)
 
--- no token of a text before another stands at its place
+-- no token of a text before another stands at its offset
 pub text_clear : (text : List ℕ) (a : List Located) (l : Located) → BeginsWith text (a ++ l ∷ []) → Clear l.at a
 text_clear text a l is = apart_clear 0 a l is.rest (subst (λ (ts : List Located). Apart 0 ts) (append_assoc a (l ∷ []) is.rest) (elim is.is [
   | inl tokens ↦ apart_spelled 0 text ((a ++ l ∷ []) ++ is.rest) tokens.spelled

@@ -7,12 +7,12 @@ use Rattle.dac_tokens.specs.declared.fault.ConfigFault.{ConfigFault}
 use Rattle.dac_tokens.specs.declared.fault.FaultKind.TheVariants.{BadShape, EmptyList, EmptyTuple, TwiceInList, TwiceApp, TooManyApps, TooManyNodes, NumberTooLarge, NameTooLong}
 use Rattle.dac_tokens.specs.declared.token.Symbol.TheVariants.{OpenList, CloseList, OpenTuple, CloseTuple, Comma}
 use Rattle.dac_tokens.specs.Gives.{◌>>=◌}
-use Rattle.dac_tokens.specs.Words.{Word, Mark, Name, Number, Text, End, Located}
+use Rattle.dac_tokens.specs.Words.{Word, Punctuation, Name, Number, Text, End, Located}
 use Rattle.dac_shapes.specs.declared.draft.SyncWait.TheVariants.{Forever, Ms}
 use Rattle.dac_shapes.specs.Written.{App}
 use Rattle.dac_shapes.specs.Limits.{Seen, is_among, with_node, listing}
 use Rattle.dac_tokens.specs.Digits.{value_from}
-use Rattle.dac_shapes.specs.Shape.{State, fails, is_mark, token, symbol_at, atom_of, short_name_of, milliseconds_of, wait_of, flag_of, app_name_of, node_of, names_at, item_at, items_at, groups_at, timeout_at, app_value_at, app_at, permission_value_at, permission_at, closed}
+use Rattle.dac_shapes.specs.Shape.{State, fails, is_symbol, token, symbol_at, atom_of, short_name_of, milliseconds_of, wait_of, flag_of, app_name_of, node_of, names_at, item_at, items_at, groups_at, timeout_at, app_value_at, app_at, permission_value_at, permission_at, closed}
 use Rattle.dac_shapes.specs.laws.AgainLists.{at}
 use Rattle.dac_first_fault.specs.FirstFault.{IsShortName, Itself, InList, InTuple}
 use Rattle.dac_first_fault.proofs.Outcomes.{Failed, Asked, further, wants_further, Always, Plain, Reader, Gives, IsReader, Wanting, made}
@@ -23,30 +23,30 @@ use Rattle.dac_first_fault.proofs.Lists.{regroup, as_list, whole_end}
 -- ---- what a token is
 
 abbrev of : Word → ℕ → Located
-of w place = record { word = w; at = place }
+of w offset = record { word = w; at = offset }
 
-atom_here : (w : Word) (place : ℕ) → Here (of w place) (atom_of (of w place))
+atom_here : (w : Word) (offset : ℕ) → Here (of w offset) (atom_of (of w offset))
 unfolding atom_of
-atom_here (Name name) place = here_ok (of (Name name) place) name
-atom_here (Mark symbol) place = here_fails (of (Mark symbol) place) BadShape tt
-atom_here (Number negative digits) place = here_fails (of (Number negative digits) place) BadShape tt
-atom_here Text place = here_fails (of Text place) BadShape tt
-atom_here End place = here_fails (of End place) BadShape tt
+atom_here (Name name) offset = here_ok (of (Name name) offset) name
+atom_here (Punctuation symbol) offset = here_fails (of (Punctuation symbol) offset) BadShape tt
+atom_here (Number negative digits) offset = here_fails (of (Number negative digits) offset) BadShape tt
+atom_here Text offset = here_fails (of Text offset) BadShape tt
+atom_here End offset = here_fails (of End offset) BadShape tt
 
 atom_end : (t : Located) → t.word ≡ End → atom_of t ≡ fails BadShape t.at
 unfolding atom_of
 atom_end t w = rw w refl
 
 pub atom_look : IsLook atom_of
-atom_look = record { place = λ t. atom_here t.word t.at; end = atom_end }
+atom_look = record { offset = λ t. atom_here t.word t.at; end = atom_end }
 
-name_is : (w : Word) (place : ℕ) (name : List ℕ) → atom_of (of w place) ≡ Ok name → w ≡ Name name
+name_is : (w : Word) (offset : ℕ) (name : List ℕ) → atom_of (of w offset) ≡ Ok name → w ≡ Name name
 unfolding atom_of
-name_is (Name other) place name e = let same : other ≡ name = cc in ap Name same
-name_is (Mark symbol) place name e = absurd cc
-name_is (Number negative digits) place name e = absurd cc
-name_is Text place name e = absurd cc
-name_is End place name e = absurd cc
+name_is (Name other) offset name e = let same : other ≡ name = cc in ap Name same
+name_is (Punctuation symbol) offset name e = absurd cc
+name_is (Number negative digits) offset name e = absurd cc
+name_is Text offset name e = absurd cc
+name_is End offset name e = absurd cc
 
 short_here : (t : Located) → Here t (short_name_of t)
 unfolding short_name_of
@@ -69,7 +69,7 @@ unfolding short_name_of
 short_end t w = rw (atom_end t w) refl
 
 short_look : IsLook short_name_of
-short_look = record { place = short_here; end = short_end }
+short_look = record { offset = short_here; end = short_end }
 
 flag_here : (t : Located) → Here t (flag_of t)
 unfolding flag_of
@@ -80,34 +80,34 @@ unfolding flag_of
 flag_end t w = rw (atom_end t w) refl
 
 flag_look : IsLook flag_of
-flag_look = record { place = flag_here; end = flag_end }
+flag_look = record { offset = flag_here; end = flag_end }
 
 pub not_negative : (negative : Bool) (n : ℕ) → (negative && not (eqb n 0)) ≡ false → 4294967296 ≤ n → negative ≡ false
 not_negative false n e large = refl
 not_negative true n e large = let nonzero : eqb n 0 ≡ false = ne_eqb n 0 (λ zero_is. absurd (omega arith)) in let both : true ≡ false = sym (ap not nonzero) ∙ e in absurd cc
 
-timeout_here : (place : ℕ) (negative : Bool) (digits : List ℕ) → Here (of (Number negative digits) place) (milliseconds_of place negative (value_from 0 digits))
-timeout_here place negative digits =
-    let t = of (Number negative digits) place in
+timeout_here : (offset : ℕ) (negative : Bool) (digits : List ℕ) → Here (of (Number negative digits) offset) (milliseconds_of offset negative (value_from 0 digits))
+timeout_here offset negative digits =
+    let t = of (Number negative digits) offset in
     let v = value_from 0 digits in
-    here_if t (negative && not (eqb v 0)) (fails BadShape place) (cond (ltb v 4294967296) (Ok v) (fails NumberTooLarge place)) (λ below. here_fails t BadShape tt) (λ above. here_if t (ltb v 4294967296) _ _ (λ small. here_ok t (value_from 0 digits)) (λ large.
+    here_if t (negative && not (eqb v 0)) (fails BadShape offset) (cond (ltb v 4294967296) (Ok v) (fails NumberTooLarge offset)) (λ below. here_fails t BadShape tt) (λ above. here_if t (ltb v 4294967296) _ _ (λ small. here_ok t (value_from 0 digits)) (λ large.
     let least : 4294967296 ≤ value_from 0 digits = ltb-false (value_from 0 digits) 4294967296 large in
     here_fails t NumberTooLarge (digits, ap (λ (b : Bool). Number b digits) (not_negative negative (value_from 0 digits) above least), least)))
 
-wait_here : (w : Word) (place : ℕ) → Here (of w place) (wait_of (of w place))
+wait_here : (w : Word) (offset : ℕ) → Here (of w offset) (wait_of (of w offset))
 unfolding wait_of
-wait_here (Number negative digits) place = here_then (of (Number negative digits) place) (milliseconds_of place negative (value_from 0 digits)) (λ n. Ok (Ms n)) (timeout_here place negative digits) (λ n is. here_ok (of (Number negative digits) place) (Ms n))
-wait_here (Name name) place = here_if (of (Name name) place) _ _ _ (λ yes. here_ok (of (Name name) place) Forever) (λ other. here_fails (of (Name name) place) BadShape tt)
-wait_here (Mark symbol) place = here_fails (of (Mark symbol) place) BadShape tt
-wait_here Text place = here_fails (of Text place) BadShape tt
-wait_here End place = here_fails (of End place) BadShape tt
+wait_here (Number negative digits) offset = here_then (of (Number negative digits) offset) (milliseconds_of offset negative (value_from 0 digits)) (λ n. Ok (Ms n)) (timeout_here offset negative digits) (λ n is. here_ok (of (Number negative digits) offset) (Ms n))
+wait_here (Name name) offset = here_if (of (Name name) offset) _ _ _ (λ yes. here_ok (of (Name name) offset) Forever) (λ other. here_fails (of (Name name) offset) BadShape tt)
+wait_here (Punctuation symbol) offset = here_fails (of (Punctuation symbol) offset) BadShape tt
+wait_here Text offset = here_fails (of Text offset) BadShape tt
+wait_here End offset = here_fails (of End offset) BadShape tt
 
 wait_end : (t : Located) → t.word ≡ End → wait_of t ≡ fails BadShape t.at
 unfolding wait_of
 wait_end t w = rw w refl
 
 pub wait_look : IsLook wait_of
-wait_look = record { place = λ t. wait_here t.word t.at; end = wait_end }
+wait_look = record { offset = λ t. wait_here t.word t.at; end = wait_end }
 
 app_name_here : (before : List App) (t : Located) → Here t (app_name_of before t)
 unfolding app_name_of
@@ -118,7 +118,7 @@ unfolding app_name_of
 app_name_end before t w = rw (short_end t w) refl
 
 app_name_look : (before : List App) → IsLook (app_name_of before)
-app_name_look before = record { place = app_name_here before; end = app_name_end before }
+app_name_look before = record { offset = app_name_here before; end = app_name_end before }
 
 -- ---- nodes
 
@@ -156,7 +156,7 @@ module _ (repeats : Bool) where
 -- ---- items of node lists
 
 abbrev in_tuple : Located → Reader (List (List ℕ))
-in_tuple t s = token s >>= λ first. cond (is_mark CloseTuple first.0.word) (fails EmptyTuple t.at) (names_at false CloseTuple first.0 first.1)
+in_tuple t s = token s >>= λ first. cond (is_symbol CloseTuple first.0.word) (fails EmptyTuple t.at) (names_at false CloseTuple first.0 first.1)
 
 abbrev alone : Reader (List (List ℕ))
 alone s = node false s >>= λ name. Ok (name.0 ∷ [], name.1)
@@ -164,42 +164,42 @@ alone s = node false s >>= λ name. Ok (name.0 ∷ [], name.1)
 abbrev item : Reader (List (List ℕ))
 item s = token s >>= λ q. item_at q.0 q.1
 
-item_tuple : (t : Located) (s : State) → is_mark OpenTuple t.word ≡ true → item_at t s ≡ in_tuple t s
+item_tuple : (t : Located) (s : State) → is_symbol OpenTuple t.word ≡ true → item_at t s ≡ in_tuple t s
 unfolding item_at
 item_tuple t s e = rw e refl
 
-item_alone : (t : Located) (s : State) → is_mark OpenTuple t.word ≡ false → item_at t s ≡ (node_of false t s >>= λ name. Ok (name.0 ∷ [], name.1))
+item_alone : (t : Located) (s : State) → is_symbol OpenTuple t.word ≡ false → item_at t s ≡ (node_of false t s >>= λ name. Ok (name.0 ∷ [], name.1))
 unfolding item_at
 item_alone t s e = rw e refl
 
 item_end : (t : Located) (s : State) → t.word ≡ End → item_at t s ≡ fails BadShape t.at
-item_end t s w = item_alone t s (ap (is_mark OpenTuple) w) ∙ ap (λ r. r >>= λ name. Ok (name.0 ∷ [], name.1)) (node_end false t s w)
+item_end t s w = item_alone t s (ap (is_symbol OpenTuple) w) ∙ ap (λ r. r >>= λ name. Ok (name.0 ∷ [], name.1)) (node_end false t s w)
 
 item_wants : (seen : Seen) → Wanting item [] seen
 item_wants seen = wants_token (λ q. item_at q.0 q.1) item_end seen
 
-in_tuple_end : (o t : Located) (s : State) → t.word ≡ End → cond (is_mark CloseTuple t.word) (fails EmptyTuple o.at) (names_at false CloseTuple t s) ≡ fails BadShape t.at
-in_tuple_end o t s w = let no_close : is_mark CloseTuple t.word ≡ false = ap (is_mark CloseTuple) w in rw no_close (whole_end (λ _. node_of false) CloseTuple (λ _. node_reader false) (λ _. node_end false) t s w)
+in_tuple_end : (o t : Located) (s : State) → t.word ≡ End → cond (is_symbol CloseTuple t.word) (fails EmptyTuple o.at) (names_at false CloseTuple t s) ≡ fails BadShape t.at
+in_tuple_end o t s w = let no_close : is_symbol CloseTuple t.word ≡ false = ap (is_symbol CloseTuple) w in rw no_close (whole_end (λ _. node_of false) CloseTuple (λ _. node_reader false) (λ _. node_end false) t s w)
 
 in_tuple_wants : (o : Located) (seen : Seen) → Wanting (in_tuple o) [] seen
-in_tuple_wants o seen = wants_token (λ first. cond (is_mark CloseTuple first.0.word) (fails EmptyTuple o.at) (names_at false CloseTuple first.0 first.1)) (in_tuple_end o) seen
+in_tuple_wants o seen = wants_token (λ first. cond (is_symbol CloseTuple first.0.word) (fails EmptyTuple o.at) (names_at false CloseTuple first.0 first.1)) (in_tuple_end o) seen
 
-module _ (t : Located) (seen : Seen) (is : is_mark OpenTuple t.word ≡ true) where
+module _ (t : Located) (seen : Seen) (is : is_symbol OpenTuple t.word ≡ true) where
   item_leads : (i : Unit {0}) (last : Result Located ConfigFault) (rest : List Located) → Always i (length (t ∷ rest)) → (j : Unit {0}) × Always j (length rest) × (item (at last (t ∷ rest) seen) ≡ in_tuple t (at last rest seen))
   item_leads i last rest room = (tt, tt, item_tuple t (at last rest seen) is)
 
   item_open : Wanting item (t ∷ []) seen
   item_open = wants_further Always Always Plain (λ _. item) (λ _. in_tuple t) (t ∷ []) seen seen item_leads [] (in_tuple_wants t seen)
 
-  tuple_by : (f : Located) (b : List Located) (c : Bool) → is_mark CloseTuple f.word ≡ c → t.word ≡ Mark OpenTuple → (is_mark CloseTuple f.word ≡ true → f.word ≡ Mark CloseTuple) → Gives item (t ∷ f ∷ b) seen
+  tuple_by : (f : Located) (b : List Located) (c : Bool) → is_symbol CloseTuple f.word ≡ c → t.word ≡ Punctuation OpenTuple → (is_symbol CloseTuple f.word ≡ true → f.word ≡ Punctuation CloseTuple) → Gives item (t ∷ f ∷ b) seen
   tuple_by f b true e w v = Failed (record { a = t ∷ []; l = f; b = b; e = record { kind = EmptyTuple; at = t.at }; whole = refl; goes = λ i last rest room. item_tuple t (at last (f ∷ rest) seen) is ∙ rw e refl; stands = InTuple [] t refl w (v e) refl; wants = item_open })
   tuple_by f b false e w v = further Always Always Plain (λ _. item) (λ _. in_tuple t) (t ∷ []) seen seen item_leads (f ∷ b) (as_list (λ _. node_of false) CloseTuple (λ _. node_reader false) (λ _. node_end false) (in_tuple t) f b seen seen (λ last rest. rw e refl) (in_tuple_wants t seen))
 
   tuple_reader : (b : List Located) → Gives item (t ∷ b) seen
   tuple_reader [] = Asked item_open
-  tuple_reader (f ∷ b) = tuple_by f b (is_mark CloseTuple f.word) refl (mark_is OpenTuple t.word is) (mark_is CloseTuple f.word)
+  tuple_reader (f ∷ b) = tuple_by f b (is_symbol CloseTuple f.word) refl (mark_is OpenTuple t.word is) (mark_is CloseTuple f.word)
 
-item_by : (t : Located) (b : List Located) (seen : Seen) (c : Bool) → is_mark OpenTuple t.word ≡ c → Gives item (t ∷ b) seen
+item_by : (t : Located) (b : List Located) (seen : Seen) (c : Bool) → is_symbol OpenTuple t.word ≡ c → Gives item (t ∷ b) seen
 item_by t b seen true e = tuple_reader t seen e b
 item_by t b seen false e =
     alike Always Always Plain (λ _. item) (λ _. alone) t b seen seen (λ i last rest room. (tt, tt, item_alone t (at last rest seen) e)) (item_wants seen)
@@ -207,7 +207,7 @@ item_by t b seen false e =
 
 item_reader : IsReader item
 item_reader [] seen = Asked (item_wants seen)
-item_reader (t ∷ b) seen = item_by t b seen (is_mark OpenTuple t.word) refl
+item_reader (t ∷ b) seen = item_by t b seen (is_symbol OpenTuple t.word) refl
 
 -- ---- node lists
 
@@ -215,50 +215,50 @@ abbrev groups : Reader (List (List (List ℕ)))
 groups s = token s >>= λ q. groups_at q.0 q.1
 
 abbrev in_list : Located → Reader (List (List (List ℕ)))
-in_list t s = token s >>= λ first. cond (is_mark CloseList first.0.word) (fails EmptyList t.at) (items_at first.0 (record first.1 { seen = listing first.1.seen }))
+in_list t s = token s >>= λ first. cond (is_symbol CloseList first.0.word) (fails EmptyList t.at) (items_at first.0 (record first.1 { seen = listing first.1.seen }))
 
-groups_open : (t : Located) (s : State) → is_mark OpenList t.word ≡ true → groups_at t s ≡ in_list t s
+groups_open : (t : Located) (s : State) → is_symbol OpenList t.word ≡ true → groups_at t s ≡ in_list t s
 unfolding groups_at
 groups_open t s e = rw e refl
 
-groups_no : (t : Located) (s : State) → is_mark OpenList t.word ≡ false → groups_at t s ≡ fails BadShape t.at
+groups_no : (t : Located) (s : State) → is_symbol OpenList t.word ≡ false → groups_at t s ≡ fails BadShape t.at
 unfolding groups_at
 groups_no t s e = rw e refl
 
 groups_end : (t : Located) (s : State) → t.word ≡ End → groups_at t s ≡ fails BadShape t.at
-groups_end t s w = groups_no t s (ap (is_mark OpenList) w)
+groups_end t s w = groups_no t s (ap (is_symbol OpenList) w)
 
 groups_wants : (seen : Seen) → Wanting groups [] seen
 groups_wants seen = wants_token (λ q. groups_at q.0 q.1) groups_end seen
 
-in_list_end : (o t : Located) (s : State) → t.word ≡ End → cond (is_mark CloseList t.word) (fails EmptyList o.at) (items_at t (record s { seen = listing s.seen })) ≡ fails BadShape t.at
-in_list_end o t s w = let no_close : is_mark CloseList t.word ≡ false = ap (is_mark CloseList) w in rw no_close (whole_end (λ _. item_at) CloseList (λ _. item_reader) (λ _. item_end) t (record s { seen = listing s.seen }) w)
+in_list_end : (o t : Located) (s : State) → t.word ≡ End → cond (is_symbol CloseList t.word) (fails EmptyList o.at) (items_at t (record s { seen = listing s.seen })) ≡ fails BadShape t.at
+in_list_end o t s w = let no_close : is_symbol CloseList t.word ≡ false = ap (is_symbol CloseList) w in rw no_close (whole_end (λ _. item_at) CloseList (λ _. item_reader) (λ _. item_end) t (record s { seen = listing s.seen }) w)
 
 in_list_wants : (o : Located) (seen : Seen) → Wanting (in_list o) [] seen
-in_list_wants o seen = wants_token (λ first. cond (is_mark CloseList first.0.word) (fails EmptyList o.at) (items_at first.0 (record first.1 { seen = listing first.1.seen }))) (in_list_end o) seen
+in_list_wants o seen = wants_token (λ first. cond (is_symbol CloseList first.0.word) (fails EmptyList o.at) (items_at first.0 (record first.1 { seen = listing first.1.seen }))) (in_list_end o) seen
 
-module _ (t : Located) (seen : Seen) (is : is_mark OpenList t.word ≡ true) where
+module _ (t : Located) (seen : Seen) (is : is_symbol OpenList t.word ≡ true) where
   groups_leads : (i : Unit {0}) (last : Result Located ConfigFault) (rest : List Located) → Always i (length (t ∷ rest)) → (j : Unit {0}) × Always j (length rest) × (groups (at last (t ∷ rest) seen) ≡ in_list t (at last rest seen))
   groups_leads i last rest room = (tt, tt, groups_open t (at last rest seen) is)
 
   groups_more : Wanting groups (t ∷ []) seen
   groups_more = wants_further Always Always Plain (λ _. groups) (λ _. in_list t) (t ∷ []) seen seen groups_leads [] (in_list_wants t seen)
 
-  list_by : (f : Located) (b : List Located) (c : Bool) → is_mark CloseList f.word ≡ c → t.word ≡ Mark OpenList → (is_mark CloseList f.word ≡ true → f.word ≡ Mark CloseList) → Gives groups (t ∷ f ∷ b) seen
+  list_by : (f : Located) (b : List Located) (c : Bool) → is_symbol CloseList f.word ≡ c → t.word ≡ Punctuation OpenList → (is_symbol CloseList f.word ≡ true → f.word ≡ Punctuation CloseList) → Gives groups (t ∷ f ∷ b) seen
   list_by f b true e w v = Failed (record { a = t ∷ []; l = f; b = b; e = record { kind = EmptyList; at = t.at }; whole = refl; goes = λ i last rest room. groups_open t (at last (f ∷ rest) seen) is ∙ rw e refl; stands = InList [] t refl w (v e) refl; wants = groups_more })
   list_by f b false e w v = further Always Always Plain (λ _. groups) (λ _. in_list t) (t ∷ []) seen seen groups_leads (f ∷ b) (as_list (λ _. item_at) CloseList (λ _. item_reader) (λ _. item_end) (in_list t) f b seen (listing seen) (λ last rest. rw e refl) (in_list_wants t seen))
 
   groups_open_reader : (b : List Located) → Gives groups (t ∷ b) seen
   groups_open_reader [] = Asked groups_more
-  groups_open_reader (f ∷ b) = list_by f b (is_mark CloseList f.word) refl (mark_is OpenList t.word is) (mark_is CloseList f.word)
+  groups_open_reader (f ∷ b) = list_by f b (is_symbol CloseList f.word) refl (mark_is OpenList t.word is) (mark_is CloseList f.word)
 
-groups_by : (t : Located) (b : List Located) (seen : Seen) (c : Bool) → is_mark OpenList t.word ≡ c → Gives groups (t ∷ b) seen
+groups_by : (t : Located) (b : List Located) (seen : Seen) (c : Bool) → is_symbol OpenList t.word ≡ c → Gives groups (t ∷ b) seen
 groups_by t b seen true e = groups_open_reader t seen e b
 groups_by t b seen false e = first_fails groups t b seen (record { kind = BadShape; at = t.at }) (λ last rest. groups_no t (at last rest seen) e) (Itself refl tt) (groups_wants seen)
 
 groups_reader : IsReader groups
 groups_reader [] seen = Asked (groups_wants seen)
-groups_reader (t ∷ b) seen = groups_by t b seen (is_mark OpenList t.word) refl
+groups_reader (t ∷ b) seen = groups_by t b seen (is_symbol OpenList t.word) refl
 
 -- ---- applications
 
@@ -298,17 +298,17 @@ module _ (name : List ℕ) where
   timeout_by s (Ok n) = comma_by n (symbol_at Comma s)
   timeout_by s (Err e) = refl
 
-  timed_number : (place : ℕ) (negative : Bool) (digits : List ℕ) (s : State) → timed (of (Number negative digits) place) s ≡ (milliseconds_of place negative (value_from 0 digits) >>= λ n. symbol_at Comma s >>= listed n)
+  timed_number : (offset : ℕ) (negative : Bool) (digits : List ℕ) (s : State) → timed (of (Number negative digits) offset) s ≡ (milliseconds_of offset negative (value_from 0 digits) >>= λ n. symbol_at Comma s >>= listed n)
   unfolding timeout_at
-  timed_number place negative digits s = timeout_by s (milliseconds_of place negative (value_from 0 digits))
+  timed_number offset negative digits s = timeout_by s (milliseconds_of offset negative (value_from 0 digits))
 
-  timed_other : (w : Word) (place : ℕ) (s : State) → ((negative : Bool) (digits : List ℕ) → w ≡ Number negative digits → ⊥) → timed (of w place) s ≡ (groups_at (of w place) s >>= app_with 0)
+  timed_other : (w : Word) (offset : ℕ) (s : State) → ((negative : Bool) (digits : List ℕ) → w ≡ Number negative digits → ⊥) → timed (of w offset) s ≡ (groups_at (of w offset) s >>= app_with 0)
   unfolding timeout_at
-  timed_other (Number negative digits) place s other = absurd (other negative digits refl)
-  timed_other (Mark symbol) place s other = refl
-  timed_other (Name name') place s other = refl
-  timed_other Text place s other = refl
-  timed_other End place s other = refl
+  timed_other (Number negative digits) offset s other = absurd (other negative digits refl)
+  timed_other (Punctuation symbol) offset s other = refl
+  timed_other (Name name') offset s other = refl
+  timed_other Text offset s other = refl
+  timed_other End offset s other = refl
 
   abbrev app_value : Reader App
   app_value s = token s >>= λ q. timed q.0 q.1
@@ -319,23 +319,23 @@ module _ (name : List ℕ) where
   value_wants : (seen : Seen) → Wanting app_value [] seen
   value_wants seen = wants_token (λ q. timed q.0 q.1) timed_end seen
 
-  number_by : (negative : Bool) (digits : List ℕ) (place : ℕ) (b : List Located) (seen : Seen) (r : Result ℕ ConfigFault) → milliseconds_of place negative (value_from 0 digits) ≡ r → Gives app_value (of (Number negative digits) place ∷ b) seen
-  number_by negative digits place b seen (Ok n) e =
-      first_goes app_value (of (Number negative digits) place) b seen (λ s. symbol_at Comma s >>= listed n) seen (λ last rest. timed_number place negative digits (at last rest seen) ∙ ap (λ r. r >>= λ n. symbol_at Comma (at last rest seen) >>= listed n) e)
+  number_by : (negative : Bool) (digits : List ℕ) (offset : ℕ) (b : List Located) (seen : Seen) (r : Result ℕ ConfigFault) → milliseconds_of offset negative (value_from 0 digits) ≡ r → Gives app_value (of (Number negative digits) offset ∷ b) seen
+  number_by negative digits offset b seen (Ok n) e =
+      first_goes app_value (of (Number negative digits) offset) b seen (λ s. symbol_at Comma s >>= listed n) seen (λ last rest. timed_number offset negative digits (at last rest seen) ∙ ap (λ r. r >>= λ n. symbol_at Comma (at last rest seen) >>= listed n) e)
       (symbol_then Comma (listed n) (listed_reader n) b seen)
-  number_by negative digits place b seen (Err d) e =
-      first_fails app_value (of (Number negative digits) place) b seen d (λ last rest. timed_number place negative digits (at last rest seen) ∙ ap (λ r. r >>= λ n. symbol_at Comma (at last rest seen) >>= listed n) e)
-      (timeout_here place negative digits d e) (value_wants seen)
+  number_by negative digits offset b seen (Err d) e =
+      first_fails app_value (of (Number negative digits) offset) b seen d (λ last rest. timed_number offset negative digits (at last rest seen) ∙ ap (λ r. r >>= λ n. symbol_at Comma (at last rest seen) >>= listed n) e)
+      (timeout_here offset negative digits d e) (value_wants seen)
 
-  other_by : (w : Word) (place : ℕ) (b : List Located) (seen : Seen) → ((negative : Bool) (digits : List ℕ) → w ≡ Number negative digits → ⊥) → Gives app_value (of w place ∷ b) seen
-  other_by w place b seen other = alike Always Always Plain (λ _. app_value) (λ _. listed 0) (of w place) b seen seen (λ i last rest room. (tt, tt, timed_other w place (at last rest seen) other)) (value_wants seen) (listed_reader 0 (of w place ∷ b) seen)
+  other_by : (w : Word) (offset : ℕ) (b : List Located) (seen : Seen) → ((negative : Bool) (digits : List ℕ) → w ≡ Number negative digits → ⊥) → Gives app_value (of w offset ∷ b) seen
+  other_by w offset b seen other = alike Always Always Plain (λ _. app_value) (λ _. listed 0) (of w offset) b seen seen (λ i last rest room. (tt, tt, timed_other w offset (at last rest seen) other)) (value_wants seen) (listed_reader 0 (of w offset ∷ b) seen)
 
-  value_by : (w : Word) (place : ℕ) (b : List Located) (seen : Seen) → Gives app_value (of w place ∷ b) seen
-  value_by (Number negative digits) place b seen = number_by negative digits place b seen (milliseconds_of place negative (value_from 0 digits)) refl
-  value_by (Mark symbol) place b seen = other_by (Mark symbol) place b seen (λ negative digits e. absurd cc)
-  value_by (Name name') place b seen = other_by (Name name') place b seen (λ negative digits e. absurd cc)
-  value_by Text place b seen = other_by Text place b seen (λ negative digits e. absurd cc)
-  value_by End place b seen = other_by End place b seen (λ negative digits e. absurd cc)
+  value_by : (w : Word) (offset : ℕ) (b : List Located) (seen : Seen) → Gives app_value (of w offset ∷ b) seen
+  value_by (Number negative digits) offset b seen = number_by negative digits offset b seen (milliseconds_of offset negative (value_from 0 digits)) refl
+  value_by (Punctuation symbol) offset b seen = other_by (Punctuation symbol) offset b seen (λ negative digits e. absurd cc)
+  value_by (Name name') offset b seen = other_by (Name name') offset b seen (λ negative digits e. absurd cc)
+  value_by Text offset b seen = other_by Text offset b seen (λ negative digits e. absurd cc)
+  value_by End offset b seen = other_by End offset b seen (λ negative digits e. absurd cc)
 
   app_value_reader : IsReader (app_value_at name)
   unfolding app_value_at

@@ -4,7 +4,7 @@ use Rattle.std.specs.Str.{bytes_eq}
 use Rattle.dac_tokens.specs.declared.fault.ConfigFault.{ConfigFault}
 use Rattle.dac_tokens.specs.declared.fault.FaultKind.TheVariants.{BadShape, Unsupported}
 use Rattle.dac_tokens.specs.Gives.{◌>>=◌}
-use Rattle.dac_tokens.specs.Words.{Word, Mark, Name, Number, Text, End, Located}
+use Rattle.dac_tokens.specs.Words.{Word, Punctuation, Name, Number, Text, End, Located}
 use Rattle.dac_shapes.specs.declared.param.ParamName.{ParamName}
 use Rattle.dac_shapes.specs.declared.param.ParamName.TheVariants as named
 use Rattle.dac_shapes.specs.Written.{Param, Distributed, Permissions, Mandatory, Optional, Timeout, Section, Kernel}
@@ -27,14 +27,14 @@ first_here before t (Some name) = here_if t _ _ _ (λ is. here_fails t BadShape 
 
 param_name_here : (before : List Param) (t : Located) → Here t (param_name_of before t)
 unfolding param_name_of
-param_name_here before t = here_then t (atom_of t) _ (atom_look.place t) (λ name is. first_here before t (param_named name))
+param_name_here before t = here_then t (atom_of t) _ (atom_look.offset t) (λ name is. first_here before t (param_named name))
 
 param_name_end : (before : List Param) (t : Located) → t.word ≡ End → param_name_of before t ≡ fails BadShape t.at
 unfolding param_name_of
 param_name_end before t w = rw (atom_look.end t w) refl
 
 param_name_look : (before : List Param) → IsLook (param_name_of before)
-param_name_look before = record { place = param_name_here before; end = param_name_end before }
+param_name_look before = record { offset = param_name_here before; end = param_name_end before }
 
 param_value_reader : (name : ParamName) → IsReader (param_value_at name)
 unfolding param_value_at
@@ -59,14 +59,14 @@ param_end before = pair_end (param_name_of before) param_rest_at
 
 kernel_here : (before : List Section) (t : Located) → Here t (names_kernel before t)
 unfolding names_kernel
-kernel_here before t = here_then t (atom_of t) _ (atom_look.place t) (λ name is. here_if t (bytes_eq name (codes "kernel")) (cond (has_kernel before) (fails BadShape t.at) (Ok true)) (Ok false) (λ yes. here_if t (has_kernel before) _ _ (λ twice. here_fails t BadShape tt) (λ once. here_ok t true)) (λ other. here_ok t false))
+kernel_here before t = here_then t (atom_of t) _ (atom_look.offset t) (λ name is. here_if t (bytes_eq name (codes "kernel")) (cond (has_kernel before) (fails BadShape t.at) (Ok true)) (Ok false) (λ yes. here_if t (has_kernel before) _ _ (λ twice. here_fails t BadShape tt) (λ once. here_ok t true)) (λ other. here_ok t false))
 
 kernel_end : (before : List Section) (t : Located) → t.word ≡ End → names_kernel before t ≡ fails BadShape t.at
 unfolding names_kernel
 kernel_end before t w = rw (atom_look.end t w) refl
 
 kernel_look : (before : List Section) → IsLook (names_kernel before)
-kernel_look before = record { place = kernel_here before; end = kernel_end before }
+kernel_look before = record { offset = kernel_here before; end = kernel_end before }
 
 kernel_reader : IsReader kernel_at
 unfolding kernel_at
@@ -79,7 +79,7 @@ section_rest_reader false us seen = passing_reader Section.Other us seen
 
 text_is : (w : Word) → is_text w ≡ true → w ≡ Text
 text_is Text e = refl
-text_is (Mark symbol) e = absurd cc
+text_is (Punctuation symbol) e = absurd cc
 text_is (Name name) e = absurd cc
 text_is (Number negative digits) e = absurd cc
 text_is End e = absurd cc

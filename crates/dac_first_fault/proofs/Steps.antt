@@ -6,9 +6,9 @@ use Rattle.dac_tokens.specs.declared.fault.FaultKind.TheVariants.{BadShape}
 use Rattle.dac_tokens.specs.declared.token.Symbol.{Symbol}
 use Rattle.dac_tokens.specs.declared.token.Symbol.TheVariants.{OpenList, CloseList, OpenTuple, CloseTuple, Comma, FullStop}
 use Rattle.dac_tokens.specs.Gives.{◌>>=◌}
-use Rattle.dac_tokens.specs.Words.{Word, Mark, Name, Number, Text, End, Located}
+use Rattle.dac_tokens.specs.Words.{Word, Punctuation, Name, Number, Text, End, Located}
 use Rattle.dac_shapes.specs.Limits.{Seen}
-use Rattle.dac_shapes.specs.Shape.{State, fails, byte_of, is_mark, token, symbol_at, pair_at, closed}
+use Rattle.dac_shapes.specs.Shape.{State, fails, byte_of, is_symbol, token, symbol_at, pair_at, closed}
 use Rattle.dac_shapes.specs.laws.AgainLists.{at}
 use Rattle.dac_first_fault.specs.FirstFault.{StandsAt, Itself, CanBring}
 use Rattle.dac_first_fault.proofs.Outcomes.{Took, Failed, Asked, further, Always, Plain, Reader, Gives, IsReader, Wanting, then}
@@ -51,7 +51,7 @@ here_then t (Err d) f a b = λ e q. a e (let same : d ≡ e = cc in ap (λ (x : 
 
 -- what a token is, read without what stands behind it
 pub record IsLook {K : Type 0} (g : Located → Result K ConfigFault) : Type 0 where
-  pub place : (t : Located) → Here t (g t)
+  pub offset : (t : Located) → Here t (g t)
   pub end : (t : Located) → t.word ≡ End → g t ≡ fails BadShape t.at
 
 module _ {K A : Type 0} (g : Located → Result K ConfigFault) (is : IsLook g) (next : K → Reader A) where
@@ -60,7 +60,7 @@ module _ {K A : Type 0} (g : Located → Result K ConfigFault) (is : IsLook g) (
 
   look_at : (t : Located) (b : List Located) (seen : Seen) (r : Result K ConfigFault) → g t ≡ r → ((k : K) → g t ≡ Ok k → Gives (λ s. token s >>= λ q. g q.0 >>= λ k. next k q.1) (t ∷ b) seen) → Gives (λ s. token s >>= λ q. g q.0 >>= λ k. next k q.1) (t ∷ b) seen
   look_at t b seen (Ok k) e ok = ok k e
-  look_at t b seen (Err d) e ok = first_fails (λ s. token s >>= λ q. g q.0 >>= λ k. next k q.1) t b seen d (λ last rest. ap (λ r. r >>= λ k. next k (at last rest seen)) e) (is.place t d e) (look_wants seen)
+  look_at t b seen (Err d) e ok = first_fails (λ s. token s >>= λ q. g q.0 >>= λ k. next k q.1) t b seen d (λ last rest. ap (λ r. r >>= λ k. next k (at last rest seen)) e) (is.offset t d e) (look_wants seen)
 
   pub look_then : ((k : K) → IsReader (next k)) → IsReader (λ s. token s >>= λ q. g q.0 >>= λ k. next k q.1)
   look_then reads [] seen = Asked (look_wants seen)
@@ -84,18 +84,18 @@ same_byte Comma Comma e = refl
 same_byte FullStop FullStop e = refl
 same_byte _ _ e = absurd cc
 
-pub mark_is : (x : Symbol) (w : Word) → is_mark x w ≡ true → w ≡ Mark x
-mark_is x (Mark y) e = ap Mark (same_byte x y e)
+pub mark_is : (x : Symbol) (w : Word) → is_symbol x w ≡ true → w ≡ Punctuation x
+mark_is x (Punctuation y) e = ap Punctuation (same_byte x y e)
 mark_is x (Name name) e = absurd cc
 mark_is x (Number negative digits) e = absurd cc
 mark_is x Text e = absurd cc
 mark_is x End e = absurd cc
 
-pub symbol_yes : (x : Symbol) (t : Located) (last : Result Located ConfigFault) (rest : List Located) (seen : Seen) → is_mark x t.word ≡ true → symbol_at x (at last (t ∷ rest) seen) ≡ Ok (at last rest seen)
+pub symbol_yes : (x : Symbol) (t : Located) (last : Result Located ConfigFault) (rest : List Located) (seen : Seen) → is_symbol x t.word ≡ true → symbol_at x (at last (t ∷ rest) seen) ≡ Ok (at last rest seen)
 unfolding symbol_at
 symbol_yes x t last rest seen e = rw e refl
 
-pub symbol_no : (x : Symbol) (t : Located) (last : Result Located ConfigFault) (rest : List Located) (seen : Seen) → is_mark x t.word ≡ false → symbol_at x (at last (t ∷ rest) seen) ≡ fails BadShape t.at
+pub symbol_no : (x : Symbol) (t : Located) (last : Result Located ConfigFault) (rest : List Located) (seen : Seen) → is_symbol x t.word ≡ false → symbol_at x (at last (t ∷ rest) seen) ≡ fails BadShape t.at
 unfolding symbol_at
 symbol_no x t last rest seen e = rw e refl
 
@@ -111,18 +111,18 @@ module _ {A : Type 0} (x : Symbol) (next : Reader A) where
   symbol_wants : (seen : Seen) → Wanting (λ s. symbol_at x s >>= next) [] seen
   symbol_wants seen = record { more = λ i p room. ap (λ r. r >>= next) (symbol_none x p seen); end = λ i t is room. ap (λ r. r >>= next) (symbol_end x t seen is) }
 
-  symbol_by : (t : Located) (b : List Located) (seen : Seen) (c : Bool) → is_mark x t.word ≡ c → (is_mark x t.word ≡ true → Gives (λ s. symbol_at x s >>= next) (t ∷ b) seen) → Gives (λ s. symbol_at x s >>= next) (t ∷ b) seen
+  symbol_by : (t : Located) (b : List Located) (seen : Seen) (c : Bool) → is_symbol x t.word ≡ c → (is_symbol x t.word ≡ true → Gives (λ s. symbol_at x s >>= next) (t ∷ b) seen) → Gives (λ s. symbol_at x s >>= next) (t ∷ b) seen
   symbol_by t b seen true e goes = goes e
   symbol_by t b seen false e goes = first_fails (λ s. symbol_at x s >>= next) t b seen (record { kind = BadShape; at = t.at }) (λ last rest. ap (λ r. r >>= next) (symbol_no x t last rest seen e)) (Itself refl tt) (symbol_wants seen)
 
   pub symbol_then : IsReader next → IsReader (λ s. symbol_at x s >>= next)
   symbol_then reads [] seen = Asked (symbol_wants seen)
-  symbol_then reads (t ∷ b) seen = symbol_by t b seen (is_mark x t.word) refl (λ e. first_goes (λ s. symbol_at x s >>= next) t b seen next seen (λ last rest. ap (λ r. r >>= next) (symbol_yes x t last rest seen e)) (reads b seen))
+  symbol_then reads (t ∷ b) seen = symbol_by t b seen (is_symbol x t.word) refl (λ e. first_goes (λ s. symbol_at x s >>= next) t b seen next seen (λ last rest. ap (λ r. r >>= next) (symbol_yes x t last rest seen e)) (reads b seen))
 
   -- a symbol that is all
   pub symbol_only : (y : A) → ((s : State) → next s ≡ Ok (y, s)) → IsReader (λ s. symbol_at x s >>= next)
   symbol_only y is [] seen = Asked (symbol_wants seen)
-  symbol_only y is (t ∷ b) seen = symbol_by t b seen (is_mark x t.word) refl (λ e. first_taken (λ s. symbol_at x s >>= next) t b seen y seen (λ last rest. ap (λ r. r >>= next) (symbol_yes x t last rest seen e) ∙ is (at last rest seen)))
+  symbol_only y is (t ∷ b) seen = symbol_by t b seen (is_symbol x t.word) refl (λ e. first_taken (λ s. symbol_at x s >>= next) t b seen y seen (λ last rest. ap (λ r. r >>= next) (symbol_yes x t last rest seen e) ∙ is (at last rest seen)))
 
 -- ---- a value and the brace that closes its pair, and a pair
 
@@ -133,22 +133,22 @@ module _ {K A : Type 0} (name_of : Located → Result K ConfigFault) (rest : K �
   abbrev inner : Reader A
   inner s = token s >>= λ first. name_of first.0 >>= λ name. symbol_at Comma first.1 >>= rest name
 
-  pair_yes : (t : Located) (s : State) → is_mark OpenTuple t.word ≡ true → pair_at name_of rest t s ≡ inner s
+  pair_yes : (t : Located) (s : State) → is_symbol OpenTuple t.word ≡ true → pair_at name_of rest t s ≡ inner s
   unfolding pair_at
   pair_yes t s e = rw e refl
 
-  pair_no : (t : Located) (s : State) → is_mark OpenTuple t.word ≡ false → pair_at name_of rest t s ≡ fails BadShape t.at
+  pair_no : (t : Located) (s : State) → is_symbol OpenTuple t.word ≡ false → pair_at name_of rest t s ≡ fails BadShape t.at
   unfolding pair_at
   pair_no t s e = rw e refl
 
   pub pair_end : (t : Located) (s : State) → t.word ≡ End → pair_at name_of rest t s ≡ fails BadShape t.at
-  pair_end t s w = pair_no t s (ap (is_mark OpenTuple) w)
+  pair_end t s w = pair_no t s (ap (is_symbol OpenTuple) w)
 
-  pair_by : (t : Located) (b : List Located) (seen : Seen) (c : Bool) → is_mark OpenTuple t.word ≡ c → IsReader inner → Gives (λ s. token s >>= λ q. pair_at name_of rest q.0 q.1) (t ∷ b) seen
+  pair_by : (t : Located) (b : List Located) (seen : Seen) (c : Bool) → is_symbol OpenTuple t.word ≡ c → IsReader inner → Gives (λ s. token s >>= λ q. pair_at name_of rest q.0 q.1) (t ∷ b) seen
   pair_by t b seen true e reads = first_goes (λ s. token s >>= λ q. pair_at name_of rest q.0 q.1) t b seen inner seen (λ last rest. pair_yes t (at last rest seen) e) (reads b seen)
   pair_by t b seen false e reads =
       first_fails (λ s. token s >>= λ q. pair_at name_of rest q.0 q.1) t b seen (record { kind = BadShape; at = t.at }) (λ last rest. pair_no t (at last rest seen) e) (Itself refl tt) (wants_token (λ q. pair_at name_of rest q.0 q.1) pair_end seen)
 
   pub pair_reader : IsLook name_of → ((k : K) → IsReader (rest k)) → IsReader (λ s. token s >>= λ q. pair_at name_of rest q.0 q.1)
   pair_reader look reads [] seen = Asked (wants_token (λ q. pair_at name_of rest q.0 q.1) pair_end seen)
-  pair_reader look reads (t ∷ b) seen = pair_by t b seen (is_mark OpenTuple t.word) refl (look_then name_of look (λ k s. symbol_at Comma s >>= rest k) (λ k. symbol_then Comma (rest k) (reads k)))
+  pair_reader look reads (t ∷ b) seen = pair_by t b seen (is_symbol OpenTuple t.word) refl (look_then name_of look (λ k s. symbol_at Comma s >>= rest k) (λ k. symbol_then Comma (rest k) (reads k)))

@@ -6,9 +6,9 @@ use Rattle.dac_tokens.specs.declared.fault.FaultKind.TheVariants.{BadShape}
 use Rattle.dac_tokens.specs.declared.token.Symbol.{Symbol}
 use Rattle.dac_tokens.specs.declared.token.Symbol.TheVariants.{CloseTuple, Comma}
 use Rattle.dac_tokens.specs.Gives.{◌>>=◌}
-use Rattle.dac_tokens.specs.Words.{Word, Mark, Name, Number, Text, End, Located}
+use Rattle.dac_tokens.specs.Words.{Word, Punctuation, Name, Number, Text, End, Located}
 use Rattle.dac_shapes.specs.Limits.{Seen}
-use Rattle.dac_shapes.specs.Shape.{State, fails, is_mark, is_text, token, room, terms_at, terms_in, texts_at, term_by, term_at, passed_at, closing_of}
+use Rattle.dac_shapes.specs.Shape.{State, fails, is_symbol, is_text, token, room, terms_at, terms_in, texts_at, term_by, term_at, passed_at, closing_of}
 use Rattle.dac_shapes.specs.laws.AgainLists.{at}
 use Rattle.dac_shapes.specs.laws.TermCases.{by_name, by_number, by_text, by_mark, by_other_mark, by_end}
 use Rattle.dac_first_fault.specs.FirstFault.{Itself}
@@ -118,7 +118,7 @@ abbrev terms : Symbol → ℕ × ℕ → State → Result (Located × State) Con
 terms close n s = token s >>= λ q. terms_at (term_at n.0) close n.1 q.0 q.1
 
 abbrev choose : Symbol → ℕ → ℕ → Located × State → Result (Located × State) ConfigFault
-choose close n m b = cond (is_mark close b.0.word) (token b.1) (cond (is_mark Comma b.0.word) (token b.1 >>= λ next. terms_at (term_at n) close m next.0 next.1) (fails BadShape b.0.at))
+choose close n m b = cond (is_symbol close b.0.word) (token b.1) (cond (is_symbol Comma b.0.word) (token b.1 >>= λ next. terms_at (term_at n) close m next.0 next.1) (fails BadShape b.0.at))
 
 module _ (close : Symbol) where
   stepped : (n m : ℕ) (s : State) → terms close (n, suc m) s ≡ (term n s >>= choose close n m)
@@ -130,7 +130,7 @@ module _ (close : Symbol) where
   spent n t s = refl
 
   choose_end : (n m : ℕ) (t : Located) (s : State) → t.word ≡ End → choose close n m (t, s) ≡ fails BadShape t.at
-  choose_end n m t s w = let a : is_mark close t.word ≡ false = ap (is_mark close) w in let b : is_mark Comma t.word ≡ false = ap (is_mark Comma) w in rw (a, b) refl
+  choose_end n m t s w = let a : is_symbol close t.word ≡ false = ap (is_symbol close) w in let b : is_symbol Comma t.word ≡ false = ap (is_symbol Comma) w in rw (a, b) refl
 
   late_chosen : (n m : ℕ) (t : Located) (r : Result (Located × State) ConfigFault) → t.word ≡ End → Late t r → (r >>= choose close n m) ≡ fails BadShape t.at
   late_chosen n m t r w late = elim late [
@@ -166,14 +166,14 @@ module _ (close : Symbol) where
     apart : (rest : List Located) → taken ++ rest ≡ t.front ++ t.f ∷ rest
     apart rest = append_assoc t.front (t.f ∷ []) rest
 
-    closes : is_mark close t.f.word ≡ true → (n : ℕ × ℕ) (last : Result Located ConfigFault) (rest : List Located) → Both n (length (taken ++ rest)) → (i : Unit {0}) × Always i (length rest) × (terms close n (at last (taken ++ rest) seen) ≡ token (at last rest seen))
+    closes : is_symbol close t.f.word ≡ true → (n : ℕ × ℕ) (last : Result Located ConfigFault) (rest : List Located) → Both n (length (taken ++ rest)) → (i : Unit {0}) × Always i (length rest) × (terms close n (at last (taken ++ rest) seen) ≡ token (at last rest seen))
     closes e n last rest le = by n.0 n.1 le.0 le.1
       where
         by : (n m : ℕ) → length (taken ++ rest) ≤ n → length (taken ++ rest) ≤ m → (i : Unit {0}) × Always i (length rest) × (terms close (n, m) (at last (taken ++ rest) seen) ≡ token (at last rest seen))
         by n zero a b = absurd (omega (arith, ap length (apart rest), length-append t.front (t.f ∷ rest)))
         by n (suc m) a b = (tt, tt, ap (λ (l : List Located). terms close (n, suc m) (at last l seen)) (apart rest) ∙ goes_on n m last rest (subst (λ (l : List Located). length l ≤ n) (apart rest) a) ∙ rw e refl)
 
-    comma : is_mark close t.f.word ≡ false → is_mark Comma t.f.word ≡ true → (n : ℕ × ℕ) (last : Result Located ConfigFault) (rest : List Located) → Both n (length (taken ++ rest)) → (m : ℕ × ℕ) × Both m (length rest) × (terms close n (at last (taken ++ rest) seen) ≡ terms close m (at last rest seen))
+    comma : is_symbol close t.f.word ≡ false → is_symbol Comma t.f.word ≡ true → (n : ℕ × ℕ) (last : Result Located ConfigFault) (rest : List Located) → Both n (length (taken ++ rest)) → (m : ℕ × ℕ) × Both m (length rest) × (terms close n (at last (taken ++ rest) seen) ≡ terms close m (at last rest seen))
     comma e k n last rest le = by n.0 n.1 le.0 le.1
       where
         by : (n m : ℕ) → length (taken ++ rest) ≤ n → length (taken ++ rest) ≤ m → (m' : ℕ × ℕ) × Both m' (length rest) × (terms close (n, m) (at last (taken ++ rest) seen) ≡ terms close m' (at last rest seen))
@@ -183,21 +183,21 @@ module _ (close : Symbol) where
             let there = ap (λ (l : List Located). terms close (n, suc m) (at last l seen)) (apart rest) ∙ goes_on n m last rest (subst (λ (l : List Located). length l ≤ n) (apart rest) a) in
             ((n, m), (omega arith, omega arith), there ∙ rw (e, k) refl)
 
-    refuses : is_mark close t.f.word ≡ false → is_mark Comma t.f.word ≡ false → (n : ℕ × ℕ) (last : Result Located ConfigFault) (rest : List Located) → Both n (length (t.front ++ t.f ∷ rest)) → terms close n (at last (t.front ++ t.f ∷ rest) seen) ≡ fails BadShape t.f.at
+    refuses : is_symbol close t.f.word ≡ false → is_symbol Comma t.f.word ≡ false → (n : ℕ × ℕ) (last : Result Located ConfigFault) (rest : List Located) → Both n (length (t.front ++ t.f ∷ rest)) → terms close n (at last (t.front ++ t.f ∷ rest) seen) ≡ fails BadShape t.f.at
     refuses e k n last rest le = by n.0 n.1 le.0 le.1
       where
         by : (n m : ℕ) → length (t.front ++ t.f ∷ rest) ≤ n → length (t.front ++ t.f ∷ rest) ≤ m → terms close (n, m) (at last (t.front ++ t.f ∷ rest) seen) ≡ fails BadShape t.f.at
         by n zero a b = absurd (omega (arith, length-append t.front (t.f ∷ rest)))
         by n (suc m) a b = goes_on n m last rest a ∙ rw (e, k) refl
 
-    by_token : (x y : Bool) → is_mark close t.f.word ≡ x → is_mark Comma t.f.word ≡ y → Passing Both (terms close) t.b seen → Passing Both (terms close) (t.front ++ t.f ∷ t.b) seen
+    by_token : (x y : Bool) → is_symbol close t.f.word ≡ x → is_symbol Comma t.f.word ≡ y → Passing Both (terms close) t.b seen → Passing Both (terms close) (t.front ++ t.f ∷ t.b) seen
     by_token true y e k next = subst (λ (l : List Located). Passing Both (terms close) l seen) (apart t.b) (late_further Both Always (terms close) (λ _. token) taken seen (closes e) t.b (token_late t.b seen))
     by_token false true e k next = subst (λ (l : List Located). Passing Both (terms close) l seen) (apart t.b) (late_further Both Both (terms close) (terms close) taken seen (comma e k) t.b next)
     by_token false false e k next = Refused (record { a = t.front; l = t.f; b = t.b; e = record { kind = BadShape; at = t.f.at }; whole = refl; goes = refuses e k; stands = Itself refl tt; wants = wants_terms t.front seen t.wants })
 
   terms_step : (us : List Located) (seen : Seen) → Passing Fits term us seen → ((rest : List Located) → length rest < length us → Passing Both (terms close) rest seen) → Passing Both (terms close) us seen
   terms_step us seen (Passed t) next =
-      subst (λ (l : List Located). Passing Both (terms close) l seen) (sym t.whole) (by_token us seen t (is_mark close t.f.word) (is_mark Comma t.f.word) refl refl (next t.b (omega (arith, ap length t.whole, length-append t.front (t.f ∷ t.b)))))
+      subst (λ (l : List Located). Passing Both (terms close) l seen) (sym t.whole) (by_token us seen t (is_symbol close t.f.word) (is_symbol Comma t.f.word) refl refl (next t.b (omega (arith, ap length t.whole, length-append t.front (t.f ∷ t.b)))))
   terms_step us seen (Refused t) next = Refused (record {
     a = t.a;
     l = t.l;
@@ -218,11 +218,11 @@ module _ (close : Symbol) where
   abbrev within : ℕ → State → Result (Located × State) ConfigFault
   within n s = terms_in (term_at n) close n s
 
-  within_close : (n : ℕ) (t : Located) (last : Result Located ConfigFault) (rest : List Located) (seen : Seen) → is_mark close t.word ≡ true → within n (at last (t ∷ rest) seen) ≡ token (at last rest seen)
+  within_close : (n : ℕ) (t : Located) (last : Result Located ConfigFault) (rest : List Located) (seen : Seen) → is_symbol close t.word ≡ true → within n (at last (t ∷ rest) seen) ≡ token (at last rest seen)
   unfolding terms_in
   within_close n t last rest seen e = rw e refl
 
-  within_other : (n : ℕ) (t : Located) (last : Result Located ConfigFault) (rest : List Located) (seen : Seen) → is_mark close t.word ≡ false → within n (at last (t ∷ rest) seen) ≡ terms close (n, n) (at last (t ∷ rest) seen)
+  within_other : (n : ℕ) (t : Located) (last : Result Located ConfigFault) (rest : List Located) (seen : Seen) → is_symbol close t.word ≡ false → within n (at last (t ∷ rest) seen) ≡ terms close (n, n) (at last (t ∷ rest) seen)
   unfolding terms_in
   within_other n t last rest seen e = rw e refl
 
@@ -232,12 +232,12 @@ module _ (close : Symbol) where
 
   within_end : (n : ℕ) (t : Located) (seen : Seen) → t.word ≡ End → within n (at (Ok t) [] seen) ≡ terms close (n, n) (at (Ok t) [] seen)
   unfolding terms_in
-  within_end n t seen w = let e : is_mark close t.word ≡ false = ap (is_mark close) w in rw e refl
+  within_end n t seen w = let e : is_symbol close t.word ≡ false = ap (is_symbol close) w in rw e refl
 
   within_want : (seen : Seen) → Wants Fits Late within [] seen
   within_want seen = record { more = λ n p le. within_none n p seen; end = λ n t w le. subst (Late t) (sym (within_end n t seen w)) (end_terms n n [] seen t w le (inl (term_end n t (at (Ok t) [] seen) w))) }
 
-  within_from : (t : Located) (b : List Located) (seen : Seen) → is_mark close t.word ≡ false → Passing Both (terms close) (t ∷ b) seen → Passing Fits within (t ∷ b) seen
+  within_from : (t : Located) (b : List Located) (seen : Seen) → is_symbol close t.word ≡ false → Passing Both (terms close) (t ∷ b) seen → Passing Fits within (t ∷ b) seen
   within_from t b seen e gives = by gives
     where
       same : (n : ℕ) (last : Result Located ConfigFault) (rest : List Located) → length (t ∷ rest) ≤ n → (m : ℕ × ℕ) × Both m (length (t ∷ rest)) × (within n (at last (t ∷ rest) seen) ≡ terms close m (at last (t ∷ rest) seen))
@@ -255,13 +255,13 @@ module _ (close : Symbol) where
       by (Refused k) = Refused (fails_alike Fits Both Late within (terms close) t b seen seen same (within_want seen) k)
       by (Open w) = Open (wants_all Fits Both Late within (terms close) t b seen seen same (within_want seen) w)
 
-  within_by : (t : Located) (b : List Located) (seen : Seen) (c : Bool) → is_mark close t.word ≡ c → Passing Both (terms close) (t ∷ b) seen → Passing Fits within (t ∷ b) seen
+  within_by : (t : Located) (b : List Located) (seen : Seen) (c : Bool) → is_symbol close t.word ≡ c → Passing Both (terms close) (t ∷ b) seen → Passing Fits within (t ∷ b) seen
   within_by t b seen true e gives = late_further Fits Always within (λ _. token) (t ∷ []) seen (λ n last rest le. (tt, tt, within_close n t last rest seen e)) b (token_late b seen)
   within_by t b seen false e gives = within_from t b seen e gives
 
   within_late : (us : List Located) (seen : Seen) → Passing Both (terms close) us seen → Passing Fits within us seen
   within_late [] seen gives = Open (within_want seen)
-  within_late (t ∷ b) seen gives = within_by t b seen (is_mark close t.word) refl gives
+  within_late (t ∷ b) seen gives = within_by t b seen (is_symbol close t.word) refl gives
 
 -- ---- one term
 
@@ -285,7 +285,7 @@ module _ (t : Located) (b : List Located) (seen : Seen) where
       goes (suc n) s = term_is n t s ∙ same n s
 
   module _ (inside : (close : Symbol) → Passing Fits (within close) b seen) where
-    mark_by : (symbol : Symbol) → t.word ≡ Mark symbol → (o : Option Symbol) → closing_of symbol ≡ o → Passing Fits term (t ∷ b) seen
+    mark_by : (symbol : Symbol) → t.word ≡ Punctuation symbol → (o : Option Symbol) → closing_of symbol ≡ o → Passing Fits term (t ∷ b) seen
     mark_by symbol w (Some close) e = term_goes Fits (within close) (λ n. n) (λ n l le. le) (λ n s. by_mark (term_at n) n t s symbol close w e) (inside close)
     mark_by symbol w None e = term_fails (λ n s. by_other_mark (term_at n) n t s symbol w e)
 
@@ -293,7 +293,7 @@ module _ (t : Located) (b : List Located) (seen : Seen) where
     term_by_word (Name name) w = term_goes Always (λ _. token) (λ n. tt) (λ n l le. tt) (λ n s. by_name (term_at n) n t s name w) (token_late b seen)
     term_by_word (Number negative digits) w = term_goes Always (λ _. token) (λ n. tt) (λ n l le. tt) (λ n s. by_number (term_at n) n t s negative digits w) (token_late b seen)
     term_by_word Text w = term_goes Fits texts_at (λ n. n) (λ n l le. le) (λ n s. by_text (term_at n) n t s w) (texts_late b seen)
-    term_by_word (Mark symbol) w = mark_by symbol w (closing_of symbol) refl
+    term_by_word (Punctuation symbol) w = mark_by symbol w (closing_of symbol) refl
     term_by_word End w = term_fails (λ n s. by_end (term_at n) n t s w)
 
 term_up : (k : ℕ) (us : List Located) (seen : Seen) → length us ≤ k → Passing Fits term us seen
@@ -308,7 +308,7 @@ term_late us seen = term_up (length us) us seen (omega arith)
 
 module _ {A : Type 0} (y : A) where
   abbrev fin : Located × State → Result (A × State) ConfigFault
-  fin b = cond (is_mark CloseTuple b.0.word) (Ok (y, b.1)) (fails BadShape b.0.at)
+  fin b = cond (is_symbol CloseTuple b.0.word) (Ok (y, b.1)) (fails BadShape b.0.at)
 
   abbrev passing : Reader A
   passing s = passed_at s >>= λ u. Ok (y, u)
@@ -316,9 +316,9 @@ module _ {A : Type 0} (y : A) where
   abbrev with_y : Result State ConfigFault → Result (A × State) ConfigFault
   with_y r = r >>= λ u. Ok (y, u)
 
-  fin_same : (r : Result (Located × State) ConfigFault) → with_y (r >>= λ b. cond (is_mark CloseTuple b.0.word) (Ok b.1) (fails BadShape b.0.at)) ≡ (r >>= fin)
+  fin_same : (r : Result (Located × State) ConfigFault) → with_y (r >>= λ b. cond (is_symbol CloseTuple b.0.word) (Ok b.1) (fails BadShape b.0.at)) ≡ (r >>= fin)
   fin_same (Err e) = refl
-  fin_same (Ok b) = by (is_mark CloseTuple b.0.word)
+  fin_same (Ok b) = by (is_symbol CloseTuple b.0.word)
     where
       by : (c : Bool) → with_y (cond c (Ok b.1) (fails BadShape b.0.at)) ≡ cond c (Ok (y, b.1)) (fails BadShape b.0.at)
       by true = refl
@@ -339,7 +339,7 @@ module _ {A : Type 0} (y : A) where
   fin_end : (t : Located) (r : Result (Located × State) ConfigFault) → t.word ≡ End → Late t r → (r >>= fin) ≡ fails BadShape t.at
   fin_end t r w late = elim late [
     | inl e ↦ ap (λ q. q >>= fin) e
-    | inr e ↦ ap (λ q. q >>= fin) e.1 ∙ (let no : is_mark CloseTuple t.word ≡ false = ap (is_mark CloseTuple) w in rw no refl)
+    | inr e ↦ ap (λ q. q >>= fin) e.1 ∙ (let no : is_symbol CloseTuple t.word ≡ false = ap (is_symbol CloseTuple) w in rw no refl)
   ]
 
   passing_wants : (us : List Located) (seen : Seen) → Wants Fits Late term us seen → Wanting passing us seen
@@ -354,7 +354,7 @@ module _ {A : Type 0} (y : A) where
   passing_goes [] l rest last seen r goes = passing_is l last rest seen ∙ ap (λ r. r >>= fin) (goes (suc (suc (length (l ∷ rest)))) (omega arith))
   passing_goes (u ∷ a) l rest last seen r goes = passing_is u last (a ++ l ∷ rest) seen ∙ ap (λ r. r >>= fin) (goes (suc (suc (length (u ∷ a ++ l ∷ rest)))) (omega arith))
 
-  passing_by : (us : List Located) (seen : Seen) (k : Passes Fits term us seen) (c : Bool) → is_mark CloseTuple k.f.word ≡ c → Gives passing us seen
+  passing_by : (us : List Located) (seen : Seen) (k : Passes Fits term us seen) (c : Bool) → is_symbol CloseTuple k.f.word ≡ c → Gives passing us seen
   passing_by us seen k true e = Took (record {
     a = k.front ++ k.f ∷ [];
     b = k.b;
@@ -377,7 +377,7 @@ module _ {A : Type 0} (y : A) where
   })
 
   passing_of : (us : List Located) (seen : Seen) → Passing Fits term us seen → Gives passing us seen
-  passing_of us seen (Passed k) = passing_by us seen k (is_mark CloseTuple k.f.word) refl
+  passing_of us seen (Passed k) = passing_by us seen k (is_symbol CloseTuple k.f.word) refl
   passing_of us seen (Refused k) = Failed (record {
     a = k.a;
     l = k.l;

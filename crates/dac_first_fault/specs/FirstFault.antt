@@ -4,7 +4,7 @@ use Rattle.dac_tokens.specs.declared.fault.FaultKind.{FaultKind}
 use Rattle.dac_tokens.specs.declared.fault.FaultKind.TheVariants.{TooLong, Unsupported, BadShape, NoDistributed, TwiceApp, TwiceInList, EmptyList, EmptyTuple, TooManyNodes, TooManyApps, NumberTooLarge, NameTooLong}
 use Rattle.dac_tokens.specs.declared.fault.ConfigFault.{ConfigFault}
 use Rattle.dac_tokens.specs.declared.token.Symbol.TheVariants.{OpenList, CloseList, OpenTuple, CloseTuple}
-use Rattle.dac_tokens.specs.Words.{Word, Mark, Name, Number, Text, Located}
+use Rattle.dac_tokens.specs.Words.{Word, Punctuation, Name, Number, Text, Located}
 use Rattle.dac_tokens.specs.TokenGrammar.{AreTokensOf}
 use Rattle.dac_tokens.specs.TokenFaults.{StopAt}
 use Rattle.dac_shapes.specs.declared.limits.TheConstants.{MAX_NAME, MAX_TEXT}
@@ -19,7 +19,7 @@ use Rattle.dac_first_fault.specs.Keeps.{Keeps}
 abbrev pub IsShortName : Word → Type 0
 IsShortName word = (name : List ℕ) × (word ≡ Name name) × (length name ≤ MAX_NAME)
 
--- Which faults a token can bring at its own place. The fault of brackets with nothing between them is none of these.
+-- Which faults a token can bring at its own offset. The fault of brackets with nothing between them is none of these.
 abbrev pub CanBring : FaultKind → Word → Type 0
 CanBring BadShape word = Unit {0}
 CanBring Unsupported word = word ≡ Text
@@ -35,16 +35,16 @@ CanBring _ word = ⊥
 -- closes.
 pub data StandsAt (before : List Located) (t : Located) (e : ConfigFault) : Type 0 where
   Itself : e.at ≡ t.at → CanBring e.kind t.word → StandsAt before t e
-  InList : (front : List Located) (o : Located) → before ≡ front ++ o ∷ [] → o.word ≡ Mark OpenList
-      → t.word ≡ Mark CloseList → e ≡ record { kind = EmptyList; at = o.at } → StandsAt before t e
-  InTuple : (front : List Located) (o : Located) → before ≡ front ++ o ∷ [] → o.word ≡ Mark OpenTuple
-      → t.word ≡ Mark CloseTuple → e ≡ record { kind = EmptyTuple; at = o.at } → StandsAt before t e
+  InList : (front : List Located) (o : Located) → before ≡ front ++ o ∷ [] → o.word ≡ Punctuation OpenList
+      → t.word ≡ Punctuation CloseList → e ≡ record { kind = EmptyList; at = o.at } → StandsAt before t e
+  InTuple : (front : List Located) (o : Located) → before ≡ front ++ o ∷ [] → o.word ≡ Punctuation OpenTuple
+      → t.word ≡ Punctuation CloseTuple → e ≡ record { kind = EmptyTuple; at = o.at } → StandsAt before t e
 
 abbrev pub words : List Located → List Word
 words ts = map (λ t. t.word) ts
 
 -- these words are a file that keeps the limits
-pub record IsWithin (ws : List Word) : Type 0 where
+pub record IsFileWithinLimits (ws : List Word) : Type 0 where
   pub sections : List Section
   pub file : IsFile ws sections
   pub within : AreWithinLimits sections
@@ -158,6 +158,6 @@ pub data IsFaultOf (text : List ℕ) (e : ConfigFault) : Type 0 where
       → ((sections : List Section) → ¬ IsFile (words ts) sections) → e ≡ record { kind = BadShape; at = length text }
       → IsFaultOf text e
   -- all is a file that keeps the limits, and no application is listed
-  Nobody : (ts : List Located) → length text ≤ MAX_TEXT → AreTokensOf text ts → IsWithin (words ts)
-      → ((is : IsWithin (words ts)) → apps_in is.sections ≡ 0) → e ≡ record { kind = NoDistributed; at = length text }
+  Nobody : (ts : List Located) → length text ≤ MAX_TEXT → AreTokensOf text ts → IsFileWithinLimits (words ts)
+      → ((is : IsFileWithinLimits (words ts)) → apps_in is.sections ≡ 0) → e ≡ record { kind = NoDistributed; at = length text }
       → IsFaultOf text e

@@ -4,7 +4,7 @@ use Rattle.std.specs.Prelude.{◌≡◌, ◌≢◌, ◌⊎◌, ℕ, ◌≤◌, f
 use Rattle.dac_tokens.specs.declared.fault.FaultKind.{FaultKind}
 use Rattle.dac_tokens.specs.declared.fault.FaultKind.TheVariants.{Unsupported, EmptyList, EmptyTuple, NumberTooLarge}
 use Rattle.dac_tokens.specs.declared.token.Symbol.TheVariants.{OpenList, CloseList, OpenTuple, CloseTuple, Comma, FullStop}
-use Rattle.dac_tokens.specs.Words.{Word, Mark, Name, Number, Text}
+use Rattle.dac_tokens.specs.Words.{Word, Punctuation, Name, Number, Text}
 use Rattle.dac_shapes.specs.declared.draft.SyncWait.{SyncWait}
 use Rattle.dac_shapes.specs.declared.draft.SyncWait.TheVariants.{NoSync, Forever, Ms}
 use Rattle.dac_shapes.specs.declared.param.ParamName.{ParamName}
@@ -21,13 +21,13 @@ module _ (Kept : FaultKind → Type 0) where
   -- a tuple of nodes may be empty
   abbrev pub IsLooseItem : List Word → List (List ℕ) → Type 0
   IsLooseItem words group =
-      IsItem words group ⊎ (Passes EmptyTuple × (words ≡ Mark OpenTuple ∷ Mark CloseTuple ∷ []) × (group ≡ []))
+      IsItem words group ⊎ (Passes EmptyTuple × (words ≡ Punctuation OpenTuple ∷ Punctuation CloseTuple ∷ []) × (group ≡ []))
 
   -- so may a node list
   abbrev pub IsLooseNodeList : List Word → List (List (List ℕ)) → Type 0
   IsLooseNodeList words groups =
       ((inner : List Word) × (words ≡ between OpenList inner CloseList) × Parted IsLooseItem inner groups)
-      ⊎ (Passes EmptyList × (words ≡ Mark OpenList ∷ Mark CloseList ∷ []) × (groups ≡ []))
+      ⊎ (Passes EmptyList × (words ≡ Punctuation OpenList ∷ Punctuation CloseList ∷ []) × (groups ≡ []))
 
   -- a number may be too large
   abbrev pub IsLooseMs : Word → ℕ → Type 0
@@ -38,7 +38,7 @@ module _ (Kept : FaultKind → Type 0) where
   abbrev pub IsLooseTimeout : List Word → ℕ → Type 0
   IsLooseTimeout words n =
       ((words ≡ []) × (n ≡ 0))
-      ⊎ ((word : Word) × (words ≡ word ∷ Mark Comma ∷ []) × IsLooseMs word n)
+      ⊎ ((word : Word) × (words ≡ word ∷ Punctuation Comma ∷ []) × IsLooseMs word n)
 
   abbrev pub IsLooseAppValue : List Word → App → Type 0
   IsLooseAppValue words app = (timeout list : List Word) × (words ≡ timeout ++ list)
@@ -72,4 +72,4 @@ module _ (Kept : FaultKind → Type 0) where
 
   abbrev pub IsLooseFile : List Word → List Section → Type 0
   IsLooseFile words sections =
-      (list : List Word) × (words ≡ list ++ Mark FullStop ∷ []) × IsListOf IsLooseSection list sections
+      (list : List Word) × (words ≡ list ++ Punctuation FullStop ∷ []) × IsListOf IsLooseSection list sections

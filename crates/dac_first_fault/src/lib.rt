@@ -3,8 +3,8 @@
 //! [`read_draft`] is the reader. The parser of `dac_shapes` reads the text for it. Its contract says more: a fault that
 //! it answers is the one that the law admits.
 //!
-//! [`laws`] says of each text which fault it has, if any. What brings the fault is the text's length, a place where no
-//! token begins, its end, that it lists no application, or one token. The fault stands at that token, or at the
+//! [`laws`] says of each text which fault it has, if any. What brings the fault is the text's length, an offset where
+//! no token begins, its end, that it lists no application, or one token. The fault stands at that token, or at the
 //! bracket that it closes with nothing between.
 //!
 //! What stands before the token is in order: some file begins so, and up to the last name one that keeps the limits.

@@ -4,7 +4,7 @@ use Rattle.std.proofs.Common.{sym, subst, inl, inr}
 use Rattle.std.specs.FinSet as set
 use Rattle.dac_operations.specs.Operations.{Operation}
 use Rattle.dac_meaning.specs.StateValue.{StateValue}
-use Rattle.dac_meaning.specs.Meaning.{In, Within, Agree, meaning_of}
+use Rattle.dac_meaning.specs.Meaning.{IsOperationOf, AreOperationsOf, DotsDetermine, meaning_of}
 use Rattle.dac_config.specs.Table.{Table}
 use Rattle.dac_bytes.specs.declared.version.Version.TheVariants.{Two}
 use Rattle.dac_state.specs.StateForm.{IsInForm}
@@ -20,16 +20,16 @@ use Rattle.dac_in_form.specs.InForm.{StateFits, AreInForm, MeaningsAreInForm}
 use Rattle.dac_in_form.specs.HeldForm.{BodyFits, HeldAreInForm}
 
 -- what passes a test is among the operations
-passed_is : (b : Bool) (o x : Operation) (os ps : List Operation) → (In o ps → In o os) → In o (cond b (x ∷ ps) ps) → In o (x ∷ os)
+passed_is : (b : Bool) (o x : Operation) (os ps : List Operation) → (IsOperationOf o ps → IsOperationOf o os) → IsOperationOf o (cond b (x ∷ ps) ps) → IsOperationOf o (x ∷ os)
 passed_is true o x os ps rest (inl e) = inl e
 passed_is true o x os ps rest (inr h) = inr (rest h)
 passed_is false o x os ps rest h = inr (rest h)
 
-of_filter : (p : Operation → Bool) (os : List Operation) → Within (filter p os) os
+of_filter : (p : Operation → Bool) (os : List Operation) → AreOperationsOf (filter p os) os
 of_filter p [] o i = i
 of_filter p (x ∷ os) o i = passed_is (p x) o x os (filter p os) (of_filter p os o) i
 
-module _ (means : MeaningsAreInForm) (t : Table) (os all : List Operation) (inside : Within os all) (agree : Agree all) (form : AreInForm t all) where
+module _ (means : MeaningsAreInForm) (t : Table) (os all : List Operation) (inside : AreOperationsOf os all) (agree : DotsDetermine all) (form : AreInForm t all) where
   state_in_form : (s : StateValue) → s ≡ meaning_of os → StateFits s → IsInForm Two t s
   state_in_form s is fits = subst (IsInForm Two t) (sym is) (means t os (Agree-within os all inside agree) (λ o i. form o (inside o i)) (subst StateFits is fits))
 

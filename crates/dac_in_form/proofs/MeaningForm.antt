@@ -35,7 +35,7 @@ use Rattle.dac_operations.specs.declared.act.Act.{Act}
 use Rattle.dac_operations.specs.declared.act.Act.TheVariants.{Up, Down, Permit, Start, Stop, Drain, Claim}
 use Rattle.dac_operations.specs.Operations.{Operation, over_list}
 use Rattle.dac_meaning.specs.StateValue.{StateValue}
-use Rattle.dac_meaning.specs.Meaning.{In, Agree, meaning_of}
+use Rattle.dac_meaning.specs.Meaning.{IsOperationOf, DotsDetermine, meaning_of}
 use Rattle.dac_meaning.specs.MeaningLaws.{HeardAreDots, KnownAreNamed, PermitsAreUnreplaced, StartsAreUnreplaced, LivesAreGreatest, ClaimsAreGreatest, DrainsAreUnreplaced, MeaningsAreStates, SaysLife, IsClaim}
 use Rattle.dac_config.specs.Table.{Table, node_count}
 use Rattle.dac_bytes.specs.Ranges.{IsDot, IsOrigin, InRange}
@@ -97,7 +97,7 @@ greatest_is : {X : Type 0} (cmp : X → X → Ordering) (P : X → Type 0) (o : 
 greatest_is cmp P None x g e = none_some e
 greatest_is cmp P (Some v) x g e = subst P (ap (λ o. unwrap_or o v) e) g.0
 
-module _ (t : Table) (os : List Operation) (agree : Agree os) (form : AreInForm t os)
+module _ (t : Table) (os : List Operation) (agree : DotsDetermine os) (form : AreInForm t os)
     (heard : HeardAreDots) (known : KnownAreNamed) (permits : PermitsAreUnreplaced) (starts : StartsAreUnreplaced) (lives : LivesAreGreatest) (claims : ClaimsAreGreatest) (drains : DrainsAreUnreplaced) (states : MeaningsAreStates)
   where
     abbrev s : StateValue
@@ -119,10 +119,10 @@ module _ (t : Table) (os : List Operation) (agree : Agree os) (form : AreInForm 
           | inr replaced ↦ named_dot t (over_list f.0.act) d (over_in_form t f.0.dot.origin.node f.0.act is.act) replaced
         ]
 
-    known_dot : (o : Operation) (d : Dot) → In o os → o.dot ≡ d → set.contains s.known d ≡ true → IsKnownDot Two t s.known d
+    known_dot : (o : Operation) (d : Dot) → IsOperationOf o os → o.dot ≡ d → set.contains s.known d ≡ true → IsKnownDot Two t s.known d
     known_dot o d i own among = record { dot = subst (IsDot Two nodes) own (form o i).dot; among = among }
 
-    act_in_form : (o : Operation) (a : Act) → In o os → o.act ≡ a → IsAct Two t o.dot.origin.node a
+    act_in_form : (o : Operation) (a : Act) → IsOperationOf o os → o.act ≡ a → IsAct Two t o.dot.origin.node a
     act_in_form o a i is = subst (IsAct Two t o.dot.origin.node) is (form o i).act
 
     permit_in_form : (w : Write) → is_some (map.get s.permits w) ≡ true → IsKnownWrite (IsKey Two t) Two t s.known w
@@ -144,7 +144,7 @@ module _ (t : Table) (os : List Operation) (agree : Agree os) (form : AreInForm 
 
     life_in_form : (n : NodeId) (l : Life) → map.get s.lives n ≡ Some l → IsLifeInForm Two nodes (n, l)
     life_in_form n l e =
-        let f = greatest_is life_cmp (λ l. (o : Operation) × (In o os × SaysLife n l o)) (map.get s.lives n) l (lives os n) e in
+        let f = greatest_is life_cmp (λ l. (o : Operation) × (IsOperationOf o os × SaysLife n l o)) (map.get s.lives n) l (lives os n) e in
         elim f.1.1 [
           | inl up ↦ let is : IsOrigin Two nodes (record { node = n; inc = l.inc }) = subst (IsOrigin Two nodes) up.1.1 (form f.0 f.1.0).dot.origin in record { node = is.node; inc = is.inc }
           | inr down ↦ let is = act_in_form f.0 (Down n l.inc) f.1.0 down.1 in record { node = is.0; inc = is.1 }
@@ -152,7 +152,7 @@ module _ (t : Table) (os : List Operation) (agree : Agree os) (form : AreInForm 
 
     claim_in_form : (app : AppId) (c : ClaimValue) → map.get s.claims app ≡ Some c → IsClaimEntry Two t (app, c)
     claim_in_form app c e =
-        let f = greatest_is claim_cmp (λ c. (o : Operation) × (In o os × IsClaim app c o)) (map.get s.claims app) c (claims os app) e in
+        let f = greatest_is claim_cmp (λ c. (o : Operation) × (IsOperationOf o os × IsClaim app c o)) (map.get s.claims app) c (claims os app) e in
         let origin_is = f.1.1.0 in
         let is : IsClaimInForm t c.origin.node app c.term c.how c.from = subst (λ (q : Origin). IsClaimInForm t q.node app c.term c.how c.from) origin_is (act_in_form f.0 (Claim app c.term c.how c.from) f.1.0 f.1.1.1) in
         record { app = is.app; first = is.first; last = is.last; origin = subst (IsOrigin Two nodes) origin_is (form f.0 f.1.0).dot.origin; listed = is.listed; from = is.from }

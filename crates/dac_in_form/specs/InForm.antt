@@ -12,7 +12,7 @@ use Rattle.dac_wishes.specs.Votes.{Votes, votes_at}
 use Rattle.dac_wishes.specs.VotesByKey.{votes_by_key}
 use Rattle.dac_operations.specs.Operations.{Operation}
 use Rattle.dac_meaning.specs.StateValue.{StateValue}
-use Rattle.dac_meaning.specs.Meaning.{In, Agree, meaning_of}
+use Rattle.dac_meaning.specs.Meaning.{IsOperationOf, DotsDetermine, meaning_of}
 use Rattle.dac_config.specs.Table.{Table}
 use Rattle.dac_bytes.specs.Ranges.{CountsFit}
 use Rattle.dac_bytes.specs.declared.version.Version.TheVariants.{Two}
@@ -41,10 +41,10 @@ pub record StateFits (s : StateValue) : Type 0 where
 
 -- each of the operations has bytes that are read again
 abbrev pub AreInForm : Table → List Operation → Type 0
-AreInForm t os = (o : Operation) → In o os → IsOperation Two t o
+AreInForm t os = (o : Operation) → IsOperationOf o os → IsOperation Two t o
 
 -- What they mean has such bytes too, where the counts fit their fields. This asks that no two different operations have
 -- one dot.
 abbrev pub MeaningsAreInForm : Type 0
-MeaningsAreInForm = (t : Table) (os : List Operation) → Agree os → AreInForm t os → StateFits (meaning_of os)
+MeaningsAreInForm = (t : Table) (os : List Operation) → DotsDetermine os → AreInForm t os → StateFits (meaning_of os)
     → IsInForm Two t (meaning_of os)

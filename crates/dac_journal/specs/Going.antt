@@ -24,4 +24,4 @@ coded_next entry call =
 pub record GoesTo (j : JournalValue) (seat : ℕ) (event : Event) (next : NextValue) : Type 0 where
   pub entry : next.entry ≡ record_of seat event next.entry.answer
   pub call : next.call ≡ call_of (length j.records + 1) event next.entry.answer
-  pub ends : EndsAt j.opening (j.records ++ next.entry ∷ []) next.node
+  pub ends : EndsAt j.beginning (j.records ++ next.entry ∷ []) next.node

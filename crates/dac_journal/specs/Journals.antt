@@ -15,28 +15,28 @@ use Rattle.dac_journal.specs.declared.record.Record.{Record}
 use Rattle.dac_journal.specs.declared.record.Call.{Call}
 
 -- where a journal begins: the configuration, the node, and how many incarnations it had
-pub record Opening : Type 0 where
+pub record Beginning : Type 0 where
   pub table : Table
   pub node : NodeId
   pub last : ℕ
 
-abbrev pub opening_of : Table → NodeId → ℕ → Opening
-opening_of table node last = record { table = table; node = node; last = last }
+abbrev pub beginning_of : Table → NodeId → ℕ → Beginning
+beginning_of table node last = record { table = table; node = node; last = last }
 
 -- of no site
-abbrev pub nowhere : Opening
-nowhere = opening_of (record { nodes = []; apps = []; sync_wait = NoSync }) (record { 0 = 0 }) 0
+abbrev pub nowhere : Beginning
+nowhere = beginning_of (record { nodes = []; apps = []; sync_wait = NoSync }) (record { 0 = 0 }) 0
 
 -- where it begins, and its records, the oldest first
 pub record JournalValue : Type 0 where
-  pub opening : Opening
+  pub beginning : Beginning
   pub records : List Record
 
 abbrev pub coded_journal : Coded Table → Coded Record → Coded JournalValue
 coded_journal table entry =
     code_by ((Table × (NodeId × ℕ)) × List Record) (coded× (coded× table (coded× coded_node coded_ℕ)) (coded_list entry))
-    (λ j. ((j.opening.table, (j.opening.node, j.opening.last)), j.records))
-    (λ p. record { opening = record { table = p.0.0; node = p.0.1.0; last = p.0.1.1 }; records = p.1 })
+    (λ j. ((j.beginning.table, (j.beginning.node, j.beginning.last)), j.records))
+    (λ p. record { beginning = record { table = p.0.0; node = p.0.1.0; last = p.0.1.1 }; records = p.1 })
     (λ _. refl)
 
 abbrev pub record_of : ℕ → Event → Result Reply Refusal → Record
@@ -51,16 +51,16 @@ entry_of r = record { event = r.event; answer = r.answer }
 
 -- each answer is that of the model's step, one after another from where the journal begins, and its node comes to
 -- final
-abbrev pub IsHistoryFrom : Opening → List Record → ModelNode → Type 0
+abbrev pub IsHistoryFrom : Beginning → List Record → ModelNode → Type 0
 IsHistoryFrom o rs final = IsHistory o.table o.node (off_after o.last) (map entry_of rs) final
 
 -- the records are a history
-pub record AreHistory (o : Opening) (rs : List Record) : Type 0 where
+pub record AreHistory (o : Beginning) (rs : List Record) : Type 0 where
   pub final : ModelNode
   pub history : IsHistoryFrom o rs final
 
 -- they are one, and the model node where it ends shows as the program's node
-pub record EndsAt (o : Opening) (rs : List Record) (v : NodeValue) : Type 0 where
+pub record EndsAt (o : Beginning) (rs : List Record) (v : NodeValue) : Type 0 where
   pub final : ModelNode
   pub history : IsHistoryFrom o rs final
   pub shows : shown o.table final ≡ v

@@ -30,18 +30,18 @@ impl Drop for Closed {
 impl Model for Closed {
     ghost use Rattle.dac_config.specs.contracts.config.Config as config_row;
     ghost use Rattle.dac_journal.specs.contracts.record.Record as record_row;
-    ghost use Rattle.dac_journal.specs.Journals.{JournalValue, coded_journal, AreHistory, opening_of};
+    ghost use Rattle.dac_journal.specs.Journals.{JournalValue, coded_journal, AreHistory, beginning_of};
 
     ghost Value = { JournalValue };
 
     ghost coded = { coded_journal config_row.the_row.coded record_row.the_row.coded };
 
     ghost view = { λ c. record {
-      opening = opening_of c.config c.node c.last;
+      beginning = beginning_of c.config c.node c.last;
       records = c.records.items;
     } };
 
-    ghost invariant = { λ c. AreHistory (opening_of c.config c.node c.last) c.records.items };
+    ghost invariant = { λ c. AreHistory (beginning_of c.config c.node c.last) c.records.items };
 }
 
 impl Closed {
@@ -49,21 +49,21 @@ impl Closed {
 
     /// The configuration.
     pub fn config(&self) -> &Config
-        ensures { result.now ≡ self.now.opening.table }
+        ensures { result.now ≡ self.now.beginning.table }
     {
         &self.config
     }
 
     /// The node.
     pub fn node(&self) -> NodeId
-        ensures { result ≡ self.now.opening.node }
+        ensures { result ≡ self.now.beginning.node }
     {
         self.node
     }
 
     /// The number of its last incarnation before the site was opened.
     pub fn last(&self) -> u64
-        ensures { result ≡ self.now.opening.last }
+        ensures { result ≡ self.now.beginning.last }
     {
         self.last
     }
@@ -72,7 +72,7 @@ impl Closed {
     pub fn records(&self) -> &[Record]
         ensures value { result.now ≡ self.now.records }
         // Each answer is that of the model's step, one after another from a node that is off.
-        ensures history { AreHistory self.now.opening self.now.records }
+        ensures history { AreHistory self.now.beginning self.now.records }
     {
         self.records.as_slice()
     }

@@ -4,7 +4,7 @@ ghost use Rattle.std.specs.Prelude.{◌≡◌, ◌≢◌, ◌≤◌, ◌<◌, �
 ghost use Rattle.dac_model_world.specs.Step.{Steps};
 ghost use Rattle.dac_journal.specs.declared.limits.TheConstants.{MAX_RECORDS as MOST};
 ghost use Rattle.dac_node.specs.Changes.{changed, Fits};
-ghost use Rattle.dac_journal.specs.Journals.{call_of, record_of, opening_of, EndsAt};
+ghost use Rattle.dac_journal.specs.Journals.{call_of, record_of, beginning_of, EndsAt};
 ghost use Rattle.dac_journal.specs.Going.{GoesTo};
 
 use crate::closed::Closed;
@@ -46,18 +46,18 @@ impl Model for Journal {
     ghost use Rattle.dac_config.specs.contracts.config.Config as config_row;
     ghost use Rattle.dac_journal.specs.contracts.record.Record as record_row;
     ghost use Rattle.dac_journal.specs.declared.limits.TheConstants.{MAX_RECORDS as MOST};
-    ghost use Rattle.dac_journal.specs.Journals.{JournalValue, coded_journal, EndsAt, opening_of};
+    ghost use Rattle.dac_journal.specs.Journals.{JournalValue, coded_journal, EndsAt, beginning_of};
 
     ghost Value = { JournalValue };
 
     ghost coded = { coded_journal config_row.the_row.coded record_row.the_row.coded };
 
     ghost view = { λ j. record {
-      opening = opening_of j.config j.me j.last;
+      beginning = beginning_of j.config j.me j.last;
       records = j.records.items;
     } };
 
-    ghost invariant = { λ j. EndsAt (opening_of j.config j.me j.last) j.records.items j.node
+    ghost invariant = { λ j. EndsAt (beginning_of j.config j.me j.last) j.records.items j.node
         × (length j.records.items ≤ MOST) };
 }
 
@@ -66,7 +66,7 @@ impl Journal {
 
     /// A journal with no records, of a node that is off.
     pub fn new(alloc: Global, config: Config, me: NodeId, last: u64) -> Self
-        ensures opening { result.opening ≡ opening_of config me last }
+        ensures beginning { result.beginning ≡ beginning_of config me last }
         ensures records { result.records ≡ [] }
     {
         Journal {
@@ -82,7 +82,7 @@ impl Journal {
     pub fn is_full(&self) -> bool
         ensures full { result ≡ true → length self.now.records ≡ MOST }
         ensures room { result ≡ false → length self.now.records < MOST }
-        ensures history { AreHistory self.now.opening self.now.records }
+        ensures history { AreHistory self.now.beginning self.now.records }
     {
         self.records.len() >= MAX_RECORDS
     }
@@ -91,7 +91,7 @@ impl Journal {
     pub fn records(&self) -> &[Record]
         ensures value { result.now ≡ self.now.records }
         // Each answer is that of the model's step, one after another from a node that is off.
-        ensures history { AreHistory self.now.opening self.now.records }
+        ensures history { AreHistory self.now.beginning self.now.records }
         ensures few { length self.now.records ≤ MOST }
     {
         self.records.as_slice()
@@ -118,14 +118,14 @@ impl Journal {
 
     /// The configuration.
     pub fn config(&self) -> &Config
-        ensures { result.now ≡ self.now.opening.table }
+        ensures { result.now ≡ self.now.beginning.table }
     {
         &self.config
     }
 
     /// The node, which stands for where the history ends.
     pub fn node(&self) -> &Node
-        ensures { EndsAt self.now.opening self.now.records result.now }
+        ensures { EndsAt self.now.beginning self.now.records result.now }
     {
         &self.node
     }
@@ -134,12 +134,12 @@ impl Journal {
     /// [`NoMemory`] is the only error, and leaves all as it was.
     pub fn ask(&mut self, seat: u16, event: Event) -> Result<(Call, Answer), NoMemory>
         requires { length self.old.records < MOST }
-        ensures opening { self.new.opening ≡ self.old.opening }
+        ensures beginning { self.new.beginning ≡ self.old.beginning }
         ensures ok { IfOk result
             (λ r. self.new.records ≡ self.old.records ++ record_of seat event r.1 ∷ []) }
         ensures call { IfOk result (λ r. r.0 ≡ call_of (length self.old.records + 1) event r.1) }
         ensures answered { IfOk result (λ r. IfErr r.1 (λ why. why ≢ Refusal.NoMemory)) }
-        ensures history { IfOk result (λ _. AreHistory self.new.opening self.new.records) }
+        ensures history { IfOk result (λ _. AreHistory self.new.beginning self.new.records) }
         ensures unchanged { OnErr result (self.new ≡ self.old) }
     {
         let next = self.prepare(seat, event)?;
@@ -176,11 +176,11 @@ impl Journal {
     /// the answer. [`NoMemory`] is the only error, and leaves all as it was.
     pub fn commit(&mut self, next: Next) -> Result<(Call, Answer), NoMemory>
         requires room { length self.old.records < MOST }
-        requires follows { EndsAt self.old.opening (self.old.records ++ next.entry ∷ []) next.node }
-        ensures opening { self.new.opening ≡ self.old.opening }
+        requires follows { EndsAt self.old.beginning (self.old.records ++ next.entry ∷ []) next.node }
+        ensures beginning { self.new.beginning ≡ self.old.beginning }
         ensures ok { IfOk result (λ _. self.new.records ≡ self.old.records ++ next.entry ∷ []) }
         ensures said { IfOk result (λ r. (r.0 ≡ next.call) × (r.1 ≡ next.entry.answer)) }
-        ensures history { IfOk result (λ _. AreHistory self.new.opening self.new.records) }
+        ensures history { IfOk result (λ _. AreHistory self.new.beginning self.new.records) }
         ensures unchanged { OnErr result (self.new ≡ self.old) }
     {
         let Journal {

@@ -2,17 +2,17 @@
 use Rattle.std.specs.Prelude.{T, List}
 use Rattle.std.specs.declared.cmp.Ordering.{Ordering}
 use Rattle.std.specs.FinMap.{find, is_sorted}
-use Rattle.dac_lattice.specs.Lattices.{IsIn, IsWithin, join_options}
+use Rattle.dac_lattice.specs.Lattices.{IsOptionOf, IsOptionBelow, join_options}
 use Rattle.dac_lattice.specs.Entries.{merge_entries}
 
 -- the keys strictly rise, and each value is one
 pub record IsMap {K X : Type 0} (R : K → K → Ordering) (is_value : X → Type 0) (xs : List (K × X)) : Type 0 where
   pub in_order : T (is_sorted R xs)
-  pub values : (k : K) → IsIn is_value (find R k xs)
+  pub values : (k : K) → IsOptionOf is_value (find R k xs)
 
 -- each key of xs is in ys, with a value that isn't lower
 abbrev pub IsMapBelow : {K X : Type 0} → (K → K → Ordering) → (X → X → Type 0) → List (K × X) → List (K × X) → Type 0
-IsMapBelow {K} R below xs ys = (k : K) → IsWithin below (find R k xs) (find R k ys)
+IsMapBelow {K} R below xs ys = (k : K) → IsOptionBelow below (find R k xs) (find R k ys)
 
 -- at each key of either, what is there, joined
 abbrev pub join_maps : {K X : Type 0} → (K → K → Ordering) → (X → X → X) → List (K × X) → List (K × X) → List (K × X)

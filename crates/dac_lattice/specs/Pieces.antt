@@ -4,22 +4,22 @@ use Rattle.std.specs.Prelude.{◌≡◌, ◌⊎◌, List, [], ◌∷◌, ◌++�
 use Rattle.dac_dots.specs.declared.dot.Dot.{Dot}
 
 -- an operation, by its dot and its act, is one of these
-abbrev pub In : {A : Type 0} → Dot × A → List (Dot × A) → Type 0
-In o [] = ⊥
-In o (p ∷ ps) = (o ≡ p) ⊎ In o ps
+abbrev pub IsGivenIn : {A : Type 0} → Dot × A → List (Dot × A) → Type 0
+IsGivenIn o [] = ⊥
+IsGivenIn o (p ∷ ps) = (o ≡ p) ⊎ IsGivenIn o ps
 
 -- each operation of os is one of ps
-abbrev pub Within : {A : Type 0} → List (Dot × A) → List (Dot × A) → Type 0
-Within {A} os ps = (o : Dot × A) → In o os → In o ps
+abbrev pub AreGivenIn : {A : Type 0} → List (Dot × A) → List (Dot × A) → Type 0
+AreGivenIn {A} os ps = (o : Dot × A) → IsGivenIn o os → IsGivenIn o ps
 
 -- no two of the operations have one dot, unless they are one
-abbrev pub Agree : {A : Type 0} → List (Dot × A) → Type 0
-Agree {A} os = (o p : Dot × A) → In o os → In p os → o.0 ≡ p.0 → o ≡ p
+abbrev pub DotsDetermineActs : {A : Type 0} → List (Dot × A) → Type 0
+DotsDetermineActs {A} os = (o p : Dot × A) → IsGivenIn o os → IsGivenIn p os → o.0 ≡ p.0 → o ≡ p
 
 -- each act may have its dot, and no two operations have one dot
 pub record AreOperations {A : Type 0} (fits : Dot → A → Type 0) (os : List (Dot × A)) : Type 0 where
-  pub fit : (o : Dot × A) → In o os → fits o.0 o.1
-  pub agree : Agree os
+  pub fit : (o : Dot × A) → IsGivenIn o os → fits o.0 o.1
+  pub agree : DotsDetermineActs os
 
 -- What operations mean is a statement about them all, which holds of one value at most. To add an operation is to
 -- join its delta. (Deltas are after delta-state replicated data types.)
@@ -44,8 +44,8 @@ module _ {V A : Type 0} (is_value : V → Type 0) (join : V → V → V) (fits :
 
   -- lists of the same operations mean the same, whatever their order and repeats
   abbrev pub OrderAndRepeatsAreNothing : Type 0
-  OrderAndRepeatsAreNothing = (os ps : List (Dot × A)) (v : V) → is_value v → AreOperations fits os → Within os ps
-      → Within ps os → means os v → means ps v
+  OrderAndRepeatsAreNothing = (os ps : List (Dot × A)) (v : V) → is_value v → AreOperations fits os → AreGivenIn os ps
+      → AreGivenIn ps os → means os v → means ps v
 
 -- the joined deltas of operations are what they mean
 abbrev pub DeltasAreMeanings : {V A : Type 0} → (V → V → V) → V → (Dot → A → Type 0) → (Dot → A → V)

@@ -2,7 +2,7 @@
 ghost use Rattle.std.specs.Prelude.{◌≡◌, ◌↔◌, [], ◌∷◌, IsTrue, IfOk, Some};
 ghost use Rattle.std.specs.Option.{option_copied};
 ghost use Rattle.std.specs.FinMap.{find};
-ghost use Rattle.dac_lattice.specs.Lattices.{IsWithin};
+ghost use Rattle.dac_lattice.specs.Lattices.{IsOptionBelow};
 
 use crate::merging::{Combine, merge, value_at};
 use crate::{Bottom, Lattice};
@@ -57,7 +57,7 @@ impl<K: MapKey, L: Lattice> MapOf<K, L> {
 
 /// Whether a value is below what is at a key.
 fn is_within<L: Lattice>(mine: &L, theirs: Option<&L>) -> bool
-    ensures { IsTrue result ↔ IsWithin L.below (Some mine.now) (option_copied theirs.entry) }
+    ensures { IsTrue result ↔ IsOptionBelow L.below (Some mine.now) (option_copied theirs.entry) }
 {
     match theirs {
         Some(theirs) => mine.leq(theirs),

@@ -13,14 +13,14 @@ use Rattle.dac_journal.specs.Step.{model_step, Steps}
 use Rattle.dac_live.specs.Replayed.{GoesOn}
 use Rattle.dac_journal.specs.Histories.{off_after}
 use Rattle.dac_journal.specs.declared.record.Record.{Record}
-use Rattle.dac_journal.specs.Journals.{Opening}
+use Rattle.dac_journal.specs.Journals.{Beginning}
 use Rattle.dac_live.specs.Paged.{brought, node_after}
 
 brought_push : (t : Table) (me : NodeId) (d : ModelNode) (rs : List Record) (r : Record) → brought t me d (rs ++ r ∷ []) ≡ (model_step t me (brought t me d rs) r.event).node
 brought_push t me d [] r = refl
 brought_push t me d (x ∷ rs) r = brought_push t me (model_step t me d x.event).node rs r
 
-pub node_more : (o : Opening) (rs : List Record) (i : ℕ) (r : Record) → i < length rs → r ≡ get_or rs i r → node_after o (take (i + 1) rs) ≡ (model_step o.table o.node (node_after o (take i rs)) r.event).node
+pub node_more : (o : Beginning) (rs : List Record) (i : ℕ) (r : Record) → i < length rs → r ≡ get_or rs i r → node_after o (take (i + 1) rs) ≡ (model_step o.table o.node (node_after o (take i rs)) r.event).node
 node_more o rs i r within at =
     ap (node_after o) (take_more rs i r within) ∙ brought_push o.table o.node (off_after o.last) (take i rs) (get_or rs i r)
     ∙ ap (λ (x : Record). (model_step o.table o.node (node_after o (take i rs)) x.event).node) (sym at)

@@ -3,7 +3,7 @@ pub mod Paged
 pub mod Replayed
 pub mod Seats
 pub mod Sites
-pub mod Told
+pub mod Added
 pub use Rattle.dac_journal.specs.Journals
 pub use Rattle.dac_journal.specs.declared.record.Call
 pub use Rattle.dac_journal.specs.declared.record.Record

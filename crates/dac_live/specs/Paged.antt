@@ -10,7 +10,7 @@ use Rattle.dac_journal.specs.ModelNode.{ModelNode, shown}
 use Rattle.dac_journal.specs.Step.{model_step}
 use Rattle.dac_journal.specs.Histories.{off_after}
 use Rattle.dac_journal.specs.declared.record.Record.{Record}
-use Rattle.dac_journal.specs.Journals.{Opening, JournalValue}
+use Rattle.dac_journal.specs.Journals.{Beginning, JournalValue}
 use Rattle.dac_pages.specs.declared.page.Page.{Page}
 
 -- the state, or the one that knows nothing where there is none
@@ -28,11 +28,11 @@ brought t me d [] = d
 brought t me d (r ∷ rs) = brought t me (model_step t me d r.event).node rs
 
 -- the node after these records
-abbrev pub node_after : Opening → List Record → ModelNode
+abbrev pub node_after : Beginning → List Record → ModelNode
 node_after o rs = brought o.table o.node (off_after o.last) rs
 
 -- what readers are shown after these records: how many they are, and what the node shows as
-abbrev pub page_after : Opening → List Record → Page
+abbrev pub page_after : Beginning → List Record → Page
 page_after o rs = page_of o.table (length rs) (shown o.table (node_after o rs))
 
 -- a journal, and the page that readers take

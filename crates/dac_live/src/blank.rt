@@ -1,7 +1,7 @@
 //! Names of sites, and sites that have none yet.
 
 ghost use Rattle.std.specs.Prelude.{◌≡◌, ◌<◌, [], length, vec_len, IfOk};
-ghost use Rattle.dac_journal.specs.Journals.{opening_of};
+ghost use Rattle.dac_journal.specs.Journals.{beginning_of};
 
 use crate::desk::Desk;
 use crate::faults::OpenFault;
@@ -17,13 +17,13 @@ use std::sync::ledger::{Blank, Ledger};
 /// The name of a site. Seats and receipts carry it, so that those of another site are of another type.
 pub trait SiteName: Ledger {
     ghost use Rattle.std.specs.Prelude.{ℕ};
-    ghost use Rattle.dac_journal.specs.Journals.{Opening};
+    ghost use Rattle.dac_journal.specs.Journals.{Beginning};
 
     /// How many seats it has.
     ghost seats: { ℕ };
 
     /// Where its journal begins.
-    ghost opening: { Opening };
+    ghost beginning: { Beginning };
 }
 
 impl SiteName for Brand {
@@ -31,7 +31,7 @@ impl SiteName for Brand {
 
     ghost seats = { 0 };
 
-    ghost opening = { nowhere };
+    ghost beginning = { nowhere };
 }
 
 /// A site that has no name yet: its journal is empty. It isn't `Drop`: open it by [`open_site`](crate::open_site), or end
@@ -102,7 +102,7 @@ pub fn blank_site<R: Wait>(
 ) -> Result<SiteBlank, OpenFault>
     requires { 0 < seats }
     ensures ok { IfOk result (λ b. (b.seats ≡ seats)
-        × (b.desk.journal ≡ record { opening = opening_of config.now me last; records = [] })) }
+        × (b.desk.journal ≡ record { beginning = beginning_of config.now me last; records = [] })) }
     ensures readers { IfOk result (λ b. vec_len b.readers ≡ readers) }
 {
     let Ok(config) = config.copy() else {

@@ -61,7 +61,7 @@ impl Model for Desk {
 
     ghost view = { λ d. record { journal = d.journal; page = d.pages.shown } };
 
-    ghost invariant = { λ d. d.pages.shown ≡ page_after d.journal.opening d.journal.records };
+    ghost invariant = { λ d. d.pages.shown ≡ page_after d.journal.beginning d.journal.records };
 }
 
 impl Desk {
@@ -85,7 +85,7 @@ impl Desk {
     pub fn journal(&self) -> &Journal
         ensures value { result.now ≡ self.now.journal }
         ensures page { self.now.page
-            ≡ page_after self.now.journal.opening self.now.journal.records }
+            ≡ page_after self.now.journal.beginning self.now.journal.records }
     {
         &self.journal
     }
@@ -104,17 +104,17 @@ impl Desk {
         event: Event,
     ) -> Result<(Call, Answer), NoMemory>
         requires { length self.old.journal.records < MAX_RECORDS }
-        ensures opening { self.new.journal.opening ≡ self.old.journal.opening }
+        ensures beginning { self.new.journal.beginning ≡ self.old.journal.beginning }
         ensures ok { IfOk result (λ r. self.new.journal.records
             ≡ self.old.journal.records ++ record_of seat event r.1 ∷ []) }
         ensures call { IfOk result
             (λ r. r.0 ≡ call_of (length self.old.journal.records + 1) event r.1) }
         ensures answered { IfOk result (λ r. IfErr r.1 (λ why. why ≢ Refusal.NoMemory)) }
         ensures history { IfOk result
-            (λ _. AreHistory self.new.journal.opening self.new.journal.records) }
+            (λ _. AreHistory self.new.journal.beginning self.new.journal.records) }
         // What readers take: the number of records, the incarnation, and the summary of the state that it leaves.
         ensures page { self.new.page
-            ≡ page_after self.new.journal.opening self.new.journal.records }
+            ≡ page_after self.new.journal.beginning self.new.journal.records }
         ensures unchanged { OnErr result (self.new ≡ self.old) }
     {
         let Desk {
@@ -133,7 +133,7 @@ impl Desk {
     /// Ends the pages, and gives the journal and the page that was published last.
     pub fn end<R: Wait>(self, rt: &R) -> (Journal, Page)
         ensures journal { result.0 ≡ self.journal }
-        ensures page { result.1 ≡ page_after self.journal.opening self.journal.records }
+        ensures page { result.1 ≡ page_after self.journal.beginning self.journal.records }
     {
         let Desk {
             alloc: _,

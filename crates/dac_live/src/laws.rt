@@ -29,17 +29,17 @@ pub fn add_record<R: Wait>(
     seat: u16,
     event: Event,
 ) -> Result<(Call, Answer), LiveFault>
-    ensures opening { desk.new.journal.opening ≡ desk.old.journal.opening }
+    ensures beginning { desk.new.journal.beginning ≡ desk.old.journal.beginning }
     ensures ok { IfOk result (λ r. desk.new.journal.records
         ≡ desk.old.journal.records ++ record_of seat event r.1 ∷ []) }
     ensures call { IfOk result
         (λ r. r.0 ≡ call_of (length desk.old.journal.records + 1) event r.1) }
     ensures answered { IfOk result (λ r. IfErr r.1 (λ why. why ≢ Refusal.NoMemory)) }
     ensures history { IfOk result
-        (λ _. AreHistory desk.new.journal.opening desk.new.journal.records) }
+        (λ _. AreHistory desk.new.journal.beginning desk.new.journal.records) }
     ensures full { (length desk.old.journal.records ≡ MAX_RECORDS)
         ↔ (result ≡ Err LiveFault.JournalFull) }
-    ensures page { desk.new.page ≡ page_after desk.new.journal.opening desk.new.journal.records }
+    ensures page { desk.new.page ≡ page_after desk.new.journal.beginning desk.new.journal.records }
     ensures unchanged { OnErr result (desk.new ≡ desk.old) }
     ensures recorded { IfErr result
         (λ fault. (fault ≡ LiveFault.JournalFull) ⊎ (fault ≡ LiveFault.NoMemory)) }

@@ -1,7 +1,7 @@
 //! The page after some records, by replaying them.
 
 ghost use Rattle.std.specs.Prelude.{◌≡◌, ◌≢◌, IfOk, IfErr, OnOk};
-ghost use Rattle.dac_journal.specs.Journals.{opening_of};
+ghost use Rattle.dac_journal.specs.Journals.{beginning_of};
 ghost use Rattle.dac_live.specs.Paged.{page_after};
 ghost use Rattle.dac_live.specs.Replayed.{GoesOn};
 
@@ -48,7 +48,7 @@ pub fn replay(
     last: u64,
     records: &[Record],
 ) -> Result<Page, NoMemory>
-    ensures { IfOk result (λ page. page ≡ page_after (opening_of config.now me last) records.now) }
+    ensures { IfOk result (λ page. page ≡ page_after (beginning_of config.now me last) records.now) }
 {
     let mut node = Node::off(alloc, last);
     for i in 0..records.len() {

@@ -5,7 +5,7 @@ ghost use Rattle.dac_journal.specs.declared.limits.TheConstants.{MAX_RECORDS};
 ghost use Rattle.dac_journal.specs.Journals.{calls_of};
 ghost use Rattle.dac_live.specs.Behind.{WentOn, NotTaken, SeatDiffers, StrangerFrom, NotClosed};
 ghost use Rattle.dac_live.specs.Paged.{page_after};
-ghost use Rattle.dac_live.specs.Told.{Added, AddedRefused, Told, ToldRefused};
+ghost use Rattle.dac_live.specs.Added.{Added, AddedRefused, CallAdded, CallRefused};
 ghost use Rattle.dac_live.specs.Seats.{IsOneOf, new_seats};
 ghost use Rattle.dac_live.specs.Sites.{IsBlankOf};
 
@@ -31,7 +31,7 @@ pub struct Locked<L: SiteName> {
     /// The journal has as many records as the seats have calls.
     ghost counted: { length desk.journal.records ≡ book.total },
     /// It begins where the site's name says.
-    ghost begins: { desk.journal.opening ≡ L.opening },
+    ghost begins: { desk.journal.beginning ≡ L.beginning },
 }
 
 /// What a call was answered.
@@ -56,9 +56,9 @@ impl<L: SiteName> Locked<L> {
         event: Event,
     ) -> Result<Receipt<L>, LiveFault>
         ensures number { seat.new.number ≡ seat.old.number }
-        ensures ok { IfOk result (λ r. Told seat.old.calls seat.new.calls r.place event (Ok r.reply)
+        ensures ok { IfOk result (λ r. CallAdded seat.old.calls seat.new.calls r.place event (Ok r.reply)
             × (r.is_new ≡ true)) }
-        ensures err { IfErr result (λ e. ToldRefused e seat.old.calls seat.new.calls event) }
+        ensures err { IfErr result (λ e. CallRefused e seat.old.calls seat.new.calls event) }
         // The journal gets the same: what the seat keeps of the call is the record.
         ensures added { IfOk result (λ r. Added self.old.desk.journal.records
             self.new.desk.journal.records seat.old.number event r.place (Ok r.reply)) }
@@ -66,10 +66,10 @@ impl<L: SiteName> Locked<L> {
             self.new.desk.journal.records seat.old.number event) }
         ensures full { (length self.old.desk.journal.records ≡ MAX_RECORDS)
             ↔ (result ≡ Err LiveFault.JournalFull) }
-        ensures page { self.new.desk.page ≡ page_after L.opening self.new.desk.journal.records }
+        ensures page { self.new.desk.page ≡ page_after L.beginning self.new.desk.journal.records }
         ensures taken { IfOk result
-            (λ r. WentOn L.opening seat.old.number event r.place (Ok r.reply)) }
-        ensures not_taken { IfErr result (λ e. NotTaken e L.opening seat.old.number event) }
+            (λ r. WentOn L.beginning seat.old.number event r.place (Ok r.reply)) }
+        ensures not_taken { IfErr result (λ e. NotTaken e L.beginning seat.old.number event) }
     {
         if self.desk.journal().is_full() {
             return Err(LiveFault::JournalFull);
@@ -149,7 +149,7 @@ pub fn open_site<L: SiteName, R: Wait>(
     rt: &R,
     blank: SiteBlank,
 ) -> Result<(Site<L>, Vec<Seat<L>>, Vec<PageReader<L>>), NoMemory>
-    requires { IsBlankOf blank L.name L.parts L.seats L.opening }
+    requires { IsBlankOf blank L.name L.parts L.seats L.beginning }
     ensures seats { IfOk result (λ r. r.1.items ≡ new_seats blank.seats) }
     ensures readers { IfOk result (λ r. vec_len r.2 ≡ vec_len blank.readers) }
 {
@@ -249,13 +249,13 @@ impl<L: SiteName> Site<L> {
         event: Event,
     ) -> Result<Receipt<L>, LiveFault>
         ensures number { seat.new.number ≡ seat.old.number }
-        ensures ok { IfOk result (λ r. Told seat.old.calls seat.new.calls r.place event (Ok r.reply)
+        ensures ok { IfOk result (λ r. CallAdded seat.old.calls seat.new.calls r.place event (Ok r.reply)
             × (r.is_new ≡ true)) }
-        ensures err { IfErr result (λ e. ToldRefused e seat.old.calls seat.new.calls event) }
+        ensures err { IfErr result (λ e. CallRefused e seat.old.calls seat.new.calls event) }
         // The answer is the model node's after some history of the site's node, and its record is the next one.
         ensures taken { IfOk result
-            (λ r. WentOn L.opening seat.old.number event r.place (Ok r.reply)) }
-        ensures not_taken { IfErr result (λ e. NotTaken e L.opening seat.old.number event) }
+            (λ r. WentOn L.beginning seat.old.number event r.place (Ok r.reply)) }
+        ensures not_taken { IfErr result (λ e. NotTaken e L.beginning seat.old.number event) }
     {
         let mut guard = self.locked.lock(rt);
         let answer = guard.call(rt, seat, event);
@@ -270,7 +270,7 @@ impl<L: SiteName> Site<L> {
     /// differs, or, where no seat does, that of the first such record. At both the site and its seats are given up.
     pub fn close<R: Wait>(self, rt: &R, mut seats: Vec<Seat<L>>) -> Result<Closed, CloseFault>
         requires { L.seats ≡ L.parts }
-        ensures opening { IfOk result (λ c. c.opening ≡ L.opening) }
+        ensures beginning { IfOk result (λ c. c.beginning ≡ L.beginning) }
         // Each seat's calls are the seat's records, with their places and in the journal's order.
         ensures calls { IfOk result
             (λ c. All (λ s. calls_of s.number c.records ≡ s.calls) seats.items) }
@@ -280,7 +280,7 @@ impl<L: SiteName> Site<L> {
         ensures count { IfOk result
             (λ c. length c.records ≡ sum_by (λ s. length s.calls) seats.items) }
         ensures missing { (vec_len seats ≢ L.seats) ↔ (result ≡ Err CloseFault.SeatMissing) }
-        ensures mismatch { IfErr result (λ why. NotClosed why L.opening seats.items) }
+        ensures mismatch { IfErr result (λ why. NotClosed why L.beginning seats.items) }
     {
         let Site {
             locked,

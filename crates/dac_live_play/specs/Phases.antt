@@ -12,15 +12,15 @@ use Rattle.dac_report.specs.Line.{Line}
 use Rattle.dac_report.specs.Phase.{Phase}
 
 -- a phase ends
-abbrev pub is_mark : LiveLine → Bool
-is_mark (says.Do node caller d) = false
-is_mark (says.Read node caller) = false
-is_mark (says.Feed bytes) = false
-is_mark says.Phase = true
+abbrev pub ends_phase : LiveLine → Bool
+ends_phase (says.Do node caller d) = false
+ends_phase (says.Read node caller) = false
+ends_phase (says.Feed bytes) = false
+ends_phase says.Phase = true
 
--- the lines of each phase: they stand between the marks, so there is one more phase than marks
+-- the lines of each phase: they stand between the lines that end one, so there is one more phase than such lines
 abbrev pub parts_of : List LiveLine → List (List LiveLine)
-parts_of script = slice_split is_mark script
+parts_of script = slice_split ends_phase script
 
 -- what happens at a node of which this is asked
 abbrev pub event_of : Deed → Event

@@ -1,7 +1,7 @@
 //! A script in phases, and what its callers are asked in each.
 
 ghost use Rattle.std.specs.Prelude.{◌≡◌, IfOk, map};
-ghost use Rattle.dac_live_play.specs.Phases.{is_mark, parts_of, event_of, asked_by, lines_in, AsksAs};
+ghost use Rattle.dac_live_play.specs.Phases.{ends_phase, parts_of, event_of, asked_by, lines_in, AsksAs};
 
 use dac_base::NoMemory;
 use dac_live_script::{Deed, LiveLine};
@@ -10,8 +10,8 @@ use dac_report::{Ask, Line, Phase};
 use std::alloc::Global;
 
 /// Whether a phase ends.
-fn is_mark(line: &LiveLine) -> bool
-    ensures { result ≡ is_mark line.now }
+fn ends_phase(line: &LiveLine) -> bool
+    ensures { result ≡ ends_phase line.now }
 {
     match line {
         LiveLine::Phase => true,
@@ -23,7 +23,7 @@ fn is_mark(line: &LiveLine) -> bool
 pub fn parts_of(alloc: Global, script: &[LiveLine]) -> Result<Vec<&[LiveLine]>, NoMemory>
     ensures { IfOk result (λ parts. map (λ part. part.now) parts.items ≡ parts_of script.now) }
 {
-    let parts = script.split(is_mark).collect(alloc)?;
+    let parts = script.split(ends_phase).collect(alloc)?;
     Ok(parts)
 }
 

@@ -43,7 +43,7 @@ use Rattle.dac_operations.specs.declared.act.Act.TheVariants.{Up, Down, Permit, 
 use Rattle.dac_operations.specs.Operations.{Operation, over_list, replaces_itself}
 use Rattle.dac_operations.specs.Seen.{wish_in, permit_in, drain_in, without, seen_by, seen_wish}
 use Rattle.dac_meaning.specs.StateValue.{permissions_of, wishes_of, drains_of}
-use Rattle.dac_meaning.specs.Meaning.{meaning_of, has_dot, replaces, names, wishes, is_start, is_same, flag_said, told, vote_at, permit_vote, drain_vote, life_said, claim_said}
+use Rattle.dac_meaning.specs.Meaning.{meaning_of, has_dot, replaces, names, wishes, is_start, is_same, flag_said, vote_says, vote_at, permit_vote, drain_vote, life_said, claim_said}
 use Rattle.dac_meaning.specs.laws.Chained.{greatest-one}
 use Rattle.dac_meaning.specs.laws.Readers.{or-false, heard-meaning, known-meaning, starts-meaning, permits-meaning, lives-meaning, claims-meaning, drains-meaning}
 use Rattle.dac_meaning.specs.DeltaLaws.{OneIsHeard, PermitDeltaIsMeaning, DrainDeltaIsMeaning, WishDeltaIsMeaning, LifeDeltaIsMeaning, ClaimDeltaIsMeaning}
@@ -188,12 +188,12 @@ module _ {K : Type 0} {R : K → K → Ordering} (total : IsTotalOrder R) (exact
     {A : Type 0} (over_of : A → List Dot) (votes : A → Option (K × Flag)) (nothing : List Dot → A) (sees : Act → A)
     (of_nothing : (ds : List Dot) → over_of (nothing ds) ≡ ds) (of_seen : (a : Act) → over_of (sees a) ≡ over_list a)
     (no_vote : (ds : List Dot) → votes (nothing ds) ≡ None) (same_vote : (a : Act) → votes (sees a) ≡ as_flag flag (vote a)) where
-  one_told : (key : K) (u : Option (K × Bool)) → says_of R key (as_flag flag u) ≡ flag_said (told R key down u) (told R key (not down) u)
+  one_told : (key : K) (u : Option (K × Bool)) → says_of R key (as_flag flag u) ≡ flag_said (vote_says R key down u) (vote_says R key (not down) u)
   one_told key None = refl
   one_told key (Some u) = one_said down flag is_down is_up (eq_by_cmp R key u.0) u.1
 
-  seen_says : (o : Operation) (key : K) → says_of R key (votes (seen_by nothing sees o.dot o.act)) ≡ cond (replaces_itself o.dot o.act) None (flag_said (told R key down (vote o.act)) (told R key (not down) (vote o.act)))
-  seen_says o key = elim (replaces_itself o.dot o.act) as (λ b. says_of R key (votes (cond b (nothing (without o.dot (over_list o.act))) (sees o.act))) ≡ cond b None (flag_said (told R key down (vote o.act)) (told R key (not down) (vote o.act)))) [
+  seen_says : (o : Operation) (key : K) → says_of R key (votes (seen_by nothing sees o.dot o.act)) ≡ cond (replaces_itself o.dot o.act) None (flag_said (vote_says R key down (vote o.act)) (vote_says R key (not down) (vote o.act)))
+  seen_says o key = elim (replaces_itself o.dot o.act) as (λ b. says_of R key (votes (cond b (nothing (without o.dot (over_list o.act))) (sees o.act))) ≡ cond b None (flag_said (vote_says R key down (vote o.act)) (vote_says R key (not down) (vote o.act)))) [
     | true ↦ ap (says_of R key) (no_vote (without o.dot (over_list o.act)))
     | false ↦ ap (says_of R key) (same_vote o.act) ∙ one_told key (vote o.act)
   ]
@@ -201,7 +201,7 @@ module _ {K : Type 0} {R : K → K → Ordering} (total : IsTotalOrder R) (exact
   vote_here : (o : Operation) (w : KeyedWrite K) → vote_in R votes w (o.dot, seen_by nothing sees o.dot o.act) ≡ vote_at R vote down (o ∷ []) w
   vote_here o w =
       ap (λ v. cond (has_dot w.dot o) v None) (seen_says o w.key)
-      ∙ vote_alone (replaces_itself o.dot o.act) (told R w.key down (vote o.act)) (told R w.key (not down) (vote o.act)) (has_dot w.dot o) (replaces w.dot o)
+      ∙ vote_alone (replaces_itself o.dot o.act) (vote_says R w.key down (vote o.act)) (vote_says R w.key (not down) (vote o.act)) (has_dot w.dot o) (replaces w.dot o)
       (λ e. ap (λ d. replaces d o) (same_dot_is w.dot o.dot e))
 
   -- the delta of an operation is what it means alone

@@ -12,7 +12,7 @@ use Rattle.dac_wishes.specs.Writes.{write}
 use Rattle.dac_wishes.specs.PermissionsValue.{says_true, NoneStands, SomePermitStands, AllSayTrue}
 use Rattle.dac_operations.specs.Operations.{Operation}
 use Rattle.dac_meaning.specs.StateValue.{permissions_of}
-use Rattle.dac_meaning.specs.Meaning.{meaning_of, Agree, Stands}
+use Rattle.dac_meaning.specs.Meaning.{meaning_of, DotsDetermine, Stands}
 use Rattle.dac_meaning.specs.MeaningLaws.{WishedHaveStarts, StandsSaying, PermittedAreSaid, DrainedAreSaid}
 use Rattle.dac_meaning.proofs.Membership.{starts_are_unreplaced, permits_are_unreplaced, drains_are_unreplaced}
 
@@ -24,7 +24,7 @@ wished_have_starts os key = (
   λ f. (f.0.dot, (starts_are_unreplaced os (write key f.0.dot)).1 ((f.0, (f.1.0, (refl, f.1.1.0))), f.1.1.1)),
 )
 
-module _ (os : List Operation) (agree : Agree os) (key : Key) where
+module _ (os : List Operation) (agree : DotsDetermine os) (key : Key) where
   -- what stands is said by an operation that stands
   standing_says : (d : Dot) (f : Flag) → map.get (meaning_of os).permits (write key d) ≡ Some f → StandsSaying key (says_true f) os
   standing_says d f h =

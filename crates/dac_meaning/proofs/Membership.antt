@@ -36,7 +36,7 @@ use Rattle.dac_dots.specs.laws.Dots.{origins_total, exact_origins}
 use Rattle.dac_operations.specs.declared.act.Act.{Act}
 use Rattle.dac_operations.specs.declared.act.Act.TheVariants.{Up, Down, Permit, Start, Stop, Drain, Claim}
 use Rattle.dac_operations.specs.Operations.{Operation}
-use Rattle.dac_meaning.specs.Meaning.{meaning_of, has_dot, replaces, is_replaced, names, wishes, is_start, is_same, flag_said, told, value_of, is_vote, vote_said, vote_at, permit_vote, drain_vote, pairs, life_said, claim_said, In, Agree, Stands}
+use Rattle.dac_meaning.specs.Meaning.{meaning_of, has_dot, replaces, is_replaced, names, wishes, is_start, is_same, flag_said, vote_says, value_of, is_vote, vote_said, vote_at, permit_vote, drain_vote, pairs, life_said, claim_said, IsOperationOf, DotsDetermine, Stands}
 use Rattle.dac_meaning.specs.MeaningLaws.{HeardAreDots, KnownAreNamed, Names, IsStart, StartsAreUnreplaced, IsVote, PermitsAreUnreplaced, DrainsAreUnreplaced, SaysLife, LivesAreGreatest, DownStaysDown, IsClaim, ClaimsAreGreatest}
 use Rattle.dac_meaning.specs.laws.Members.{found, finds}
 use Rattle.dac_meaning.specs.laws.Chained.{of_said, is_said}
@@ -127,20 +127,20 @@ differs true e = false≢true e
 differs false e = false≢true (sym e)
 
 module _ {K : Type 0} {R : K → K → Ordering} (total : IsTotalOrder R) (exact : CmpEqualImpliesEq R) (vote : Act → Option (K × Bool)) (down : Bool) where
-  told_is : (key : K) (v : Bool) (u : Option (K × Bool)) → told R key v u ≡ true → u ≡ Some (key, v)
+  told_is : (key : K) (v : Bool) (u : Option (K × Bool)) → vote_says R key v u ≡ true → u ≡ Some (key, v)
   told_is key v None t = absurd (false≢true t)
   told_is key v (Some u) t =
       let parts = and_parts (eq_by_cmp R key u.0) (is_same u.1 v) t in
       λ i. Some (sym (tied_is exact key u.0 parts.0) i, same_is u.1 v parts.1 i)
 
-  is_told : (key : K) (v : Bool) → told R key v (Some (key, v)) ≡ true
+  is_told : (key : K) (v : Bool) → vote_says R key v (Some (key, v)) ≡ true
   is_told key v = and_from (eq_by_cmp R key key) (is_same v v) (ap is_eq (tied_itself total key)) (same_itself v)
 
   vote_of : (w : KeyedWrite K) (v : Bool) (o : Operation) → IsVote vote w v o → is_vote R vote w v o ≡ true
-  vote_of w v o s = and_from (told R w.key v (vote o.act)) (has_dot w.dot o) (ap (told R w.key v) s.1 ∙ is_told w.key v) (has_dot_of w.dot o s.0)
+  vote_of w v o s = and_from (vote_says R w.key v (vote o.act)) (has_dot w.dot o) (ap (vote_says R w.key v) s.1 ∙ is_told w.key v) (has_dot_of w.dot o s.0)
 
   of_vote : (w : KeyedWrite K) (v : Bool) (o : Operation) → is_vote R vote w v o ≡ true → IsVote vote w v o
-  of_vote w v o t = let parts = and_parts (told R w.key v (vote o.act)) (has_dot w.dot o) t in (dot_of w.dot o parts.1, told_is w.key v (vote o.act) parts.0)
+  of_vote w v o t = let parts = and_parts (vote_says R w.key v (vote o.act)) (has_dot w.dot o) t in (dot_of w.dot o parts.1, told_is w.key v (vote o.act) parts.0)
 
   -- what is said is said by an operation
   said_there : (w : KeyedWrite K) (os : List Operation) (f : Flag) → vote_said R vote down w os ≡ Some f → list_any (is_vote R vote w (value_of down f)) os ≡ true
@@ -152,7 +152,7 @@ module _ {K : Type 0} {R : K → K → Ordering} (total : IsTotalOrder R) (exact
       there false false p q f h = absurd (false≢true (ap is_some h))
 
   -- operations that have their dots alone don't say both
-  not_both : (w : KeyedWrite K) (os : List Operation) → Agree os → list_any (is_vote R vote w (not down)) os ≡ true → list_any (is_vote R vote w down) os ≡ false
+  not_both : (w : KeyedWrite K) (os : List Operation) → DotsDetermine os → list_any (is_vote R vote w (not down)) os ≡ true → list_any (is_vote R vote w down) os ≡ false
   not_both w os agree t = false_from_ne_true (list_any (is_vote R vote w down) os) (λ n.
       let p = found (is_vote R vote w (not down)) os t in
       let q = found (is_vote R vote w down) os n in
@@ -166,12 +166,12 @@ module _ {K : Type 0} {R : K → K → Ordering} (total : IsTotalOrder R) (exact
       value_in (Some u) = u.1
 
   -- what an operation says is said
-  there_said : (w : KeyedWrite K) (os : List Operation) → Agree os → (f : Flag) → list_any (is_vote R vote w (value_of down f)) os ≡ true → vote_said R vote down w os ≡ Some f
+  there_said : (w : KeyedWrite K) (os : List Operation) → DotsDetermine os → (f : Flag) → list_any (is_vote R vote w (value_of down f)) os ≡ true → vote_said R vote down w os ≡ Some f
   there_said w os agree IsDown t = ap (λ b. flag_said b (list_any (is_vote R vote w (not down)) os)) t
   there_said w os agree IsUp t = λ i. flag_said (not_both w os agree t i) (t i)
 
   -- a vote stands with a value exactly if an operation is it with this value and none replaces it
-  pub votes_are_unreplaced : (os : List Operation) → Agree os → (w : KeyedWrite K) (f : Flag) → (vote_at R vote down os w ≡ Some f) ↔ (((o : Operation) × (In o os × IsVote vote w (value_of down f) o)) × Stands w.dot os)
+  pub votes_are_unreplaced : (os : List Operation) → DotsDetermine os → (w : KeyedWrite K) (f : Flag) → (vote_at R vote down os w ≡ Some f) ↔ (((o : Operation) × (IsOperationOf o os × IsVote vote w (value_of down f) o)) × Stands w.dot os)
   votes_are_unreplaced os agree w f = (
     λ h.
         let parts = stands_some (is_replaced w.dot os) (vote_said R vote down w os) f h in
@@ -255,7 +255,7 @@ of_life n l o (inr s) = ap (life_said o.dot) s.1 ∙ (λ i. Some (n, record { in
 
 pub lives_are_greatest : LivesAreGreatest
 lives_are_greatest os n =
-    greatest_same lives_total (exact_lives flag_cmp flags_exact) (IsSaid life_said (pairs os) n) (λ l. (o : Operation) × (In o os × SaysLife n l o)) (map.get (meaning_of os).lives n)
+    greatest_same lives_total (exact_lives flag_cmp flags_exact) (IsSaid life_said (pairs os) n) (λ l. (o : Operation) × (IsOperationOf o os × SaysLife n l o)) (map.get (meaning_of os).lives n)
     (λ l s. let o = of_said life_said os n l s in (o.0, (o.1.0, life_of n l o.0 o.1.1)))
     (λ l s. is_said life_said os n l (s.0, (s.1.0, of_life n l s.0 s.1.1)))
     (subst (λ m. IsGreatest life_cmp (IsSaid life_said (pairs os) n) (map.get m n)) (sym (lives-meaning os)) (lives_are os n))
@@ -273,7 +273,7 @@ pub down_stays_down : DownStaysDown
 down_stays_down os n i j o le live =
     let up : Life = record { inc = j; flag = IsUp } in
     let down : Life = record { inc = i; flag = IsDown } in
-    let greatest = subst (IsGreatest life_cmp (λ l. (o : Operation) × (In o os × SaysLife n l o))) live (lives_are_greatest os n) in
+    let greatest = subst (IsGreatest life_cmp (λ l. (o : Operation) × (IsOperationOf o os × SaysLife n l o))) live (lives_are_greatest os n) in
     down_is_above i j le (greatest.1 down (o.0, (o.1.0, inr (refl, o.1.1))))
 
 -- ---- claims
@@ -295,7 +295,7 @@ of_claim app c o s = ap (claim_said o.dot) s.1 ∙ (λ i. Some (app, record { te
 
 pub claims_are_greatest : ClaimsAreGreatest
 claims_are_greatest os app =
-    greatest_same claims_total (exact_claims how_cmp exact_hows) (IsSaid claim_said (pairs os) app) (λ c. (o : Operation) × (In o os × IsClaim app c o)) (map.get (meaning_of os).claims app)
+    greatest_same claims_total (exact_claims how_cmp exact_hows) (IsSaid claim_said (pairs os) app) (λ c. (o : Operation) × (IsOperationOf o os × IsClaim app c o)) (map.get (meaning_of os).claims app)
     (λ c s. let o = of_said claim_said os app c s in (o.0, (o.1.0, claim_of app c o.0 o.1.1)))
     (λ c s. is_said claim_said os app c (s.0, (s.1.0, of_claim app c s.0 s.1.1)))
     (subst (λ m. IsGreatest claim_cmp (IsSaid claim_said (pairs os) app) (map.get m app)) (sym (claims-meaning os)) (claims_are os app))

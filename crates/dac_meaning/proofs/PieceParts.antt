@@ -18,14 +18,14 @@ use Rattle.dac_operations.specs.Operations.{Operation}
 use Rattle.dac_operations.specs.Seen.{seen_wish, seen_permit, seen_drain, seen_life, seen_claim}
 use Rattle.dac_meaning.specs.StateValue.{StateValue, bottom, join, permissions_of, wishes_of, drains_of}
 use Rattle.dac_meaning.specs.laws.StateLaws.{permissions-join, wishes-join, lives-join, claims-join, drains-join}
-use Rattle.dac_meaning.specs.Meaning.{In, Within, Agree, meaning_of}
+use Rattle.dac_meaning.specs.Meaning.{IsOperationOf, AreOperationsOf, DotsDetermine, meaning_of}
 use Rattle.dac_meaning.specs.laws.Joins.{join-meaning, meaning-same}
 use Rattle.dac_meaning.specs.PieceParts.{as_seen, PermitsAreJoined, WishesAreJoined, DrainsAreJoined, LivesAreJoined, ClaimsAreJoined}
 use Rattle.dac_meaning.proofs.Alone.{permit_delta_is_meaning, drain_delta_is_meaning, wish_delta_is_meaning, life_delta_is_meaning, claim_delta_is_meaning}
 use Rattle.dac_meaning.proofs.Nothing.{nothing_means_bottom}
 
 -- an operation put last is among those where it was put first
-last_is_first : (o : Operation) (os : List Operation) → Within (os ++ o ∷ []) (o ∷ os)
+last_is_first : (o : Operation) (os : List Operation) → AreOperationsOf (os ++ o ∷ []) (o ∷ os)
 last_is_first o [] p h = h
 last_is_first o (q ∷ os) p (inl is) = inr (inl is)
 last_is_first o (q ∷ os) p (inr rest) = elim (last_is_first o os p rest) [
@@ -33,23 +33,23 @@ last_is_first o (q ∷ os) p (inr rest) = elim (last_is_first o os p rest) [
   | inr more ↦ inr (inr more)
 ]
 
-is_last : (o : Operation) (os : List Operation) → In o (os ++ o ∷ [])
+is_last : (o : Operation) (os : List Operation) → IsOperationOf o (os ++ o ∷ [])
 is_last o [] = inl refl
 is_last o (q ∷ os) = inr (is_last o os)
 
-stays : (o p : Operation) (os : List Operation) → In p os → In p (os ++ o ∷ [])
+stays : (o p : Operation) (os : List Operation) → IsOperationOf p os → IsOperationOf p (os ++ o ∷ [])
 stays o p [] h = elim h [ ]
 stays o p (q ∷ os) (inl is) = inl is
 stays o p (q ∷ os) (inr rest) = inr (stays o p os rest)
 
-first_is_last : (o : Operation) (os : List Operation) → Within (o ∷ os) (os ++ o ∷ [])
-first_is_last o os p (inl is) = subst (λ q. In q (os ++ o ∷ [])) (sym is) (is_last o os)
+first_is_last : (o : Operation) (os : List Operation) → AreOperationsOf (o ∷ os) (os ++ o ∷ [])
+first_is_last o os p (inl is) = subst (λ q. IsOperationOf q (os ++ o ∷ [])) (sym is) (is_last o os)
 first_is_last o os p (inr rest) = stays o p os rest
 
 module _ {V A : Type 0} (join_parts : V → V → V) (none : V) (delta : Dot → A → V) (part : StateValue → V) (sees : Dot → Act → A)
     (nothing : none ≡ part bottom) (joins : (x y : StateValue) → part (join x y) ≡ join_parts (part x) (part y))
     (one : (o : Operation) → delta o.dot (sees o.dot o.act) ≡ part (meaning_of (o ∷ []))) where
-  are_joined : (os : List Operation) → Agree os → joined join_parts none delta (as_seen sees os) ≡ part (meaning_of os)
+  are_joined : (os : List Operation) → DotsDetermine os → joined join_parts none delta (as_seen sees os) ≡ part (meaning_of os)
   are_joined [] agree = nothing ∙ ap part (sym nothing_means_bottom)
   are_joined (o ∷ os) agree =
       let before = are_joined os (λ p q i j. agree p q (inr i) (inr j)) in

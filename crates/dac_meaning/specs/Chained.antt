@@ -4,8 +4,8 @@ use Rattle.std.proofs.Common.{◌≡◌, List, Option, Some}
 use Rattle.dac_dots.specs.declared.dot.Dot.{Dot}
 use Rattle.dac_operations.specs.declared.act.Act.{Act}
 use Rattle.dac_operations.specs.Operations.{Operation}
-use Rattle.dac_meaning.specs.Meaning.{In}
+use Rattle.dac_meaning.specs.Meaning.{IsOperationOf}
 
 -- some operation says the value of the key
 abbrev pub SaysFor : {K T : Type 0} → (Dot → Act → Option (K × T)) → List Operation → K → T → Type 0
-SaysFor said os k v = (o : Operation) × (In o os × (said o.dot o.act ≡ Some (k, v)))
+SaysFor said os k v = (o : Operation) × (IsOperationOf o os × (said o.dot o.act ≡ Some (k, v)))

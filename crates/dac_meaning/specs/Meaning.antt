@@ -34,17 +34,17 @@ use Rattle.dac_meaning.specs.StateValue.{StateValue}
 use Rattle.dac_meaning.specs.Tables.{table}
 
 -- o is one of the operations
-abbrev pub In : Operation → List Operation → Type 0
-In o [] = ⊥
-In o (p ∷ ps) = (o ≡ p) ⊎ In o ps
+abbrev pub IsOperationOf : Operation → List Operation → Type 0
+IsOperationOf o [] = ⊥
+IsOperationOf o (p ∷ ps) = (o ≡ p) ⊎ IsOperationOf o ps
 
 -- each operation of os is one of ps
-abbrev pub Within : List Operation → List Operation → Type 0
-Within os ps = (o : Operation) → In o os → In o ps
+abbrev pub AreOperationsOf : List Operation → List Operation → Type 0
+AreOperationsOf os ps = (o : Operation) → IsOperationOf o os → IsOperationOf o ps
 
 -- no two of the operations have one dot, unless they are one
-abbrev pub Agree : List Operation → Type 0
-Agree os = (o p : Operation) → In o os → In p os → o.dot ≡ p.dot → o ≡ p
+abbrev pub DotsDetermine : List Operation → Type 0
+DotsDetermine os = (o p : Operation) → IsOperationOf o os → IsOperationOf p os → o.dot ≡ p.dot → o ≡ p
 
 -- the operation has this dot
 abbrev pub has_dot : Dot → Operation → Bool
@@ -60,7 +60,7 @@ is_replaced d os = list_any (replaces d) os
 
 -- what has this dot stands: no operation replaces it
 abbrev pub Stands : Dot → List Operation → Type 0
-Stands d os = (o : Operation) → In o os → replaces d o ≡ false
+Stands d os = (o : Operation) → IsOperationOf o os → replaces d o ≡ false
 
 -- The dots of the operations: a dot is heard exactly if an operation has it.
 abbrev pub heard_of : List Operation → Dots
@@ -97,9 +97,9 @@ flag_said false true = Some Up
 flag_said false false = None
 
 -- what an act says, if it is a vote, is this value of this key
-abbrev pub told : {K : Type 0} → (K → K → Ordering) → K → Bool → Option (K × Bool) → Bool
-told R key v None = false
-told R key v (Some u) = eq_by_cmp R key u.0 && is_same u.1 v
+abbrev pub vote_says : {K : Type 0} → (K → K → Ordering) → K → Bool → Option (K × Bool) → Bool
+vote_says R key v None = false
+vote_says R key v (Some u) = eq_by_cmp R key u.0 && is_same u.1 v
 
 -- the value that a flag stands for
 abbrev pub value_of : Bool → Flag → Bool
@@ -107,15 +107,15 @@ value_of down Down = down
 value_of down Up = not down
 
 -- the write of a vote
-abbrev pub told_in : {K : Type 0} → Dot → Option (K × Bool) → List (KeyedWrite K)
-told_in d None = []
-told_in d (Some u) = keyed_write u.0 d ∷ []
+abbrev pub writes_by_vote : {K : Type 0} → Dot → Option (K × Bool) → List (KeyedWrite K)
+writes_by_vote d None = []
+writes_by_vote d (Some u) = keyed_write u.0 d ∷ []
 
 -- `vote` is what an act says of which key, if it does; `down` is the value that is Down
 module _ {K : Type 0} (R : K → K → Ordering) (vote : Act → Option (K × Bool)) where
   -- the operation is this vote, with this value
   abbrev pub is_vote : KeyedWrite K → Bool → Operation → Bool
-  is_vote w v o = told R w.key v (vote o.act) && has_dot w.dot o
+  is_vote w v o = vote_says R w.key v (vote o.act) && has_dot w.dot o
 
   module _ (down : Bool) where
     -- what the operations say that are this vote
@@ -128,7 +128,7 @@ module _ {K : Type 0} (R : K → K → Ordering) (vote : Act → Option (K × Bo
 
     -- The votes that stand. One stands with a value exactly if an operation is it with this value and none replaces it.
     abbrev pub votes_of : List Operation → Votes R
-    votes_of os = table (keyed_write_cmp R) (flat_map (λ (o : Operation). told_in o.dot (vote o.act)) os) (vote_at os)
+    votes_of os = table (keyed_write_cmp R) (flat_map (λ (o : Operation). writes_by_vote o.dot (vote o.act)) os) (vote_at os)
 
 -- ---- permits
 
@@ -139,7 +139,7 @@ permit_vote _ = None
 
 -- the act says this of the key
 abbrev pub says : Key → Bool → Act → Bool
-says key v a = told key_cmp key v (permit_vote a)
+says key v a = vote_says key_cmp key v (permit_vote a)
 
 -- the operation is this permit, with this value
 abbrev pub is_permit : Write → Bool → Operation → Bool

@@ -22,12 +22,12 @@ use Rattle.dac_operations.specs.declared.act.Act.{Act}
 use Rattle.dac_operations.specs.declared.act.Act.TheVariants.{Up, Down, Permit, Start, Drain, Claim}
 use Rattle.dac_operations.specs.Operations.{Operation}
 use Rattle.dac_meaning.specs.StateValue.{IsState, permissions_of, wishes_of, drains_of, bottom, join}
-use Rattle.dac_meaning.specs.Meaning.{meaning_of, replaces, In, Within, Agree, Stands}
+use Rattle.dac_meaning.specs.Meaning.{meaning_of, replaces, IsOperationOf, AreOperationsOf, DotsDetermine, Stands}
 
 -- a dot is heard exactly if it is an operation's
 abbrev pub HeardAreDots : Type 0
 HeardAreDots = (os : List Operation) (d : Dot)
-    → (set.contains (meaning_of os).heard d ≡ true) ↔ ((o : Operation) × (In o os × (o.dot ≡ d)))
+    → (set.contains (meaning_of os).heard d ≡ true) ↔ ((o : Operation) × (IsOperationOf o os × (o.dot ≡ d)))
 
 -- the operation has the dot or replaces it
 abbrev pub Names : Dot → Operation → Type 0
@@ -36,7 +36,7 @@ Names d o = (o.dot ≡ d) ⊎ (replaces d o ≡ true)
 -- a dot is known exactly if an operation has it or replaces it
 abbrev pub KnownAreNamed : Type 0
 KnownAreNamed = (os : List Operation) (d : Dot)
-    → (set.contains (meaning_of os).known d ≡ true) ↔ ((o : Operation) × (In o os × Names d o))
+    → (set.contains (meaning_of os).known d ≡ true) ↔ ((o : Operation) × (IsOperationOf o os × Names d o))
 
 -- the operation starts the key
 abbrev pub Starts : Key → Operation → Type 0
@@ -49,7 +49,7 @@ IsStart w o = (o.dot ≡ w.dot) × Starts w.key o
 -- a start wish stands exactly if an operation is it and none replaces it
 abbrev pub StartsAreUnreplaced : Type 0
 StartsAreUnreplaced = (os : List Operation) (w : Write)
-    → (set.contains (meaning_of os).starts w ≡ true) ↔ (((o : Operation) × (In o os × IsStart w o)) × Stands w.dot os)
+    → (set.contains (meaning_of os).starts w ≡ true) ↔ (((o : Operation) × (IsOperationOf o os × IsStart w o)) × Stands w.dot os)
 
 -- the operation is the vote, with this value
 abbrev pub IsVote : {K : Type 0} → (Act → Option (K × Bool)) → KeyedWrite K → Bool → Operation → Type 0
@@ -66,8 +66,8 @@ IsPermit w f o = (o.dot ≡ w.dot) × Permits w.key (says_true f) o
 -- a permit stands with a value exactly if an operation is it with this value and none replaces it. This asks that no
 -- two different operations have one dot
 abbrev pub PermitsAreUnreplaced : Type 0
-PermitsAreUnreplaced = (os : List Operation) → Agree os → (w : Write) (f : Flag)
-    → (map.get (meaning_of os).permits w ≡ Some f) ↔ (((o : Operation) × (In o os × IsPermit w f o)) × Stands w.dot os)
+PermitsAreUnreplaced = (os : List Operation) → DotsDetermine os → (w : Write) (f : Flag)
+    → (map.get (meaning_of os).permits w ≡ Some f) ↔ (((o : Operation) × (IsOperationOf o os × IsPermit w f o)) × Stands w.dot os)
 
 -- the operation drains the incarnation of the node, or ends that
 abbrev pub DrainsSo : NodeId → ℕ → Bool → Operation → Type 0
@@ -80,8 +80,8 @@ IsDrain w f o = (o.dot ≡ w.dot) × DrainsSo w.key.node w.key.inc (says_drained
 -- a drain stands with a value exactly if an operation is it with this value and none replaces it. This asks that no
 -- two different operations have one dot
 abbrev pub DrainsAreUnreplaced : Type 0
-DrainsAreUnreplaced = (os : List Operation) → Agree os → (w : DrainWrite) (f : Flag)
-    → (map.get (meaning_of os).drains w ≡ Some f) ↔ (((o : Operation) × (In o os × IsDrain w f o)) × Stands w.dot os)
+DrainsAreUnreplaced = (os : List Operation) → DotsDetermine os → (w : DrainWrite) (f : Flag)
+    → (map.get (meaning_of os).drains w ≡ Some f) ↔ (((o : Operation) × (IsOperationOf o os × IsDrain w f o)) × Stands w.dot os)
 
 -- an incarnation of the node came up by the operation
 abbrev pub IsUpOf : NodeId → ℕ → Operation → Type 0
@@ -94,11 +94,11 @@ SaysLife n l o = ((l.flag ≡ IsUp) × IsUpOf n l.inc o) ⊎ ((l.flag ≡ IsDown
 -- the life of a node is the greatest that the operations say of it
 abbrev pub LivesAreGreatest : Type 0
 LivesAreGreatest = (os : List Operation) (n : NodeId)
-    → IsGreatest life_cmp (λ l. (o : Operation) × (In o os × SaysLife n l o)) (map.get (meaning_of os).lives n)
+    → IsGreatest life_cmp (λ l. (o : Operation) × (IsOperationOf o os × SaysLife n l o)) (map.get (meaning_of os).lives n)
 
 -- an incarnation that a Down names isn't live, and no earlier one of the node is, whatever else the operations say
 abbrev pub DownStaysDown : Type 0
-DownStaysDown = (os : List Operation) (n : NodeId) (i j : ℕ) → ((o : Operation) × (In o os × (o.act ≡ Down n i)))
+DownStaysDown = (os : List Operation) (n : NodeId) (i j : ℕ) → ((o : Operation) × (IsOperationOf o os × (o.act ≡ Down n i)))
     → j ≤ i → ¬ (IsLive (meaning_of os).lives n j)
 
 -- the operation is this claim of the application
@@ -108,7 +108,7 @@ IsClaim app c o = (o.dot.origin ≡ c.origin) × (o.act ≡ Claim app c.term c.h
 -- the claim of an application is the greatest of its claims
 abbrev pub ClaimsAreGreatest : Type 0
 ClaimsAreGreatest = (os : List Operation) (app : AppId)
-    → IsGreatest claim_cmp (λ c. (o : Operation) × (In o os × IsClaim app c o)) (map.get (meaning_of os).claims app)
+    → IsGreatest claim_cmp (λ c. (o : Operation) × (IsOperationOf o os × IsClaim app c o)) (map.get (meaning_of os).claims app)
 
 -- what is heard and what stands in a meaning is known in it
 abbrev pub MeaningsAreStates : Type 0
@@ -120,21 +120,21 @@ NothingMeansBottom = meaning_of [] ≡ bottom
 
 -- lists of the same operations mean the same, whatever their order and repeats
 abbrev pub OrderAndRepeatsAreNothing : Type 0
-OrderAndRepeatsAreNothing = (os ps : List Operation) → Within os ps → Within ps os → meaning_of os ≡ meaning_of ps
+OrderAndRepeatsAreNothing = (os ps : List Operation) → AreOperationsOf os ps → AreOperationsOf ps os → meaning_of os ≡ meaning_of ps
 
 -- two meanings joined are the meaning of both together
 abbrev pub JoinsAreTogether : Type 0
 JoinsAreTogether =
-    (os ps : List Operation) → Agree (os ++ ps) → join (meaning_of os) (meaning_of ps) ≡ meaning_of (os ++ ps)
+    (os ps : List Operation) → DotsDetermine (os ++ ps) → join (meaning_of os) (meaning_of ps) ≡ meaning_of (os ++ ps)
 
 -- some start of a key stands exactly if an operation starts it that none replaces
 abbrev pub WishedHaveStarts : Type 0
 WishedHaveStarts = (os : List Operation) (key : Key)
-    → SomeStands key (wishes_of (meaning_of os)) ↔ ((o : Operation) × (In o os × (Starts key o × Stands o.dot os)))
+    → SomeStands key (wishes_of (meaning_of os)) ↔ ((o : Operation) × (IsOperationOf o os × (Starts key o × Stands o.dot os)))
 
 -- an operation permits the key, or forbids it, and none replaces that operation
 abbrev pub StandsSaying : Key → Bool → List Operation → Type 0
-StandsSaying key value os = (o : Operation) × (In o os × (Permits key value o × Stands o.dot os))
+StandsSaying key value os = (o : Operation) × (IsOperationOf o os × (Permits key value o × Stands o.dot os))
 
 -- no permit of the key stands and the default is true, or one stands that says true and none that says false
 abbrev pub IsPermittedBy : Key → Bool → List Operation → Type 0
@@ -143,12 +143,12 @@ IsPermittedBy key default os = (((value : Bool) → ¬ (StandsSaying key value o
 
 -- a key is permitted in a meaning exactly if the operations permit it, where no two different ones have one dot
 abbrev pub PermittedAreSaid : Type 0
-PermittedAreSaid = (os : List Operation) → Agree os → (key : Key) (default : Bool)
+PermittedAreSaid = (os : List Operation) → DotsDetermine os → (key : Key) (default : Bool)
     → IsPermitted key default (permissions_of (meaning_of os)) ↔ IsPermittedBy key default os
 
 -- an incarnation of a node is drained in a meaning exactly if an operation drains it that none replaces, where no two
 -- different ones have one dot
 abbrev pub DrainedAreSaid : Type 0
-DrainedAreSaid = (os : List Operation) → Agree os → (n : NodeId) (i : ℕ)
+DrainedAreSaid = (os : List Operation) → DotsDetermine os → (n : NodeId) (i : ℕ)
     → IsDrained (origin n i) (drains_of (meaning_of os))
-    ↔ ((o : Operation) × (In o os × (DrainsSo n i true o × Stands o.dot os)))
+    ↔ ((o : Operation) × (IsOperationOf o os × (DrainsSo n i true o × Stands o.dot os)))

@@ -17,30 +17,30 @@ use Rattle.dac_operations.specs.declared.act.Act.{Act}
 use Rattle.dac_operations.specs.Operations.{Operation}
 use Rattle.dac_operations.specs.Seen.{seen_wish, seen_permit, seen_drain, seen_life, seen_claim}
 use Rattle.dac_meaning.specs.StateValue.{permissions_of, wishes_of, drains_of}
-use Rattle.dac_meaning.specs.Meaning.{Agree, meaning_of}
+use Rattle.dac_meaning.specs.Meaning.{DotsDetermine, meaning_of}
 
 -- what a piece sees of the operations
 abbrev pub as_seen : {A : Type 0} → (Dot → Act → A) → List Operation → List (Dot × A)
 as_seen sees os = list_map (λ (o : Operation). (o.dot, sees o.dot o.act)) os
 
 abbrev pub PermitsAreJoined : Type 0
-PermitsAreJoined = (os : List Operation) → Agree os
+PermitsAreJoined = (os : List Operation) → DotsDetermine os
     → joined join_permissions no_permissions permit_delta (as_seen seen_permit os) ≡ permissions_of (meaning_of os)
 
 abbrev pub WishesAreJoined : Type 0
-WishesAreJoined = (os : List Operation) → Agree os
+WishesAreJoined = (os : List Operation) → DotsDetermine os
     → joined join_wishes no_wishes wish_delta (as_seen seen_wish os) ≡ wishes_of (meaning_of os)
 
 abbrev pub DrainsAreJoined : Type 0
-DrainsAreJoined = (os : List Operation) → Agree os
+DrainsAreJoined = (os : List Operation) → DotsDetermine os
     → joined join_drains no_drains drain_delta (as_seen seen_drain os) ≡ drains_of (meaning_of os)
 
 abbrev pub LivesAreJoined : Type 0
-LivesAreJoined = (os : List Operation) → Agree os
+LivesAreJoined = (os : List Operation) → DotsDetermine os
     → joined (greater life_cmp) map.empty (λ d a. alone (said_life d a)) (as_seen (λ _ a. seen_life a) os)
     ≡ (meaning_of os).lives
 
 abbrev pub ClaimsAreJoined : Type 0
-ClaimsAreJoined = (os : List Operation) → Agree os
+ClaimsAreJoined = (os : List Operation) → DotsDetermine os
     → joined (greater claim_cmp) map.empty (λ d a. alone (said_claim d a)) (as_seen (λ _ a. seen_claim a) os)
     ≡ (meaning_of os).claims

@@ -5,21 +5,21 @@ use Rattle.dac_dots.specs.declared.dot.Origin.{Origin}
 use Rattle.dac_config.specs.Table.{Table}
 use Rattle.dac_meaning.specs.StateValue.{StateValue, IsState, bottom, join}
 use Rattle.dac_meaning.specs.Meaning.{meaning_of}
-use Rattle.dac_deltas.specs.Kept.{Kept, empty, pushed, trimmed}
+use Rattle.dac_deltas.specs.KeptDeltas.{KeptDeltas, empty, pushed, trimmed}
 use Rattle.dac_peers.specs.Peers.{no_peers}
 use Rattle.dac_decide.specs.declared.waits.Noted.{Noted}
 use Rattle.dac_decide.specs.FailoverWait.{Note, waits_of}
 use Rattle.dac_messages.specs.declared.event.Event.{Event}
 use Rattle.dac_messages.specs.declared.reply.Reply.{Reply}
 use Rattle.dac_messages.specs.declared.reply.Reply.TheVariants.{Booted}
-use Rattle.dac_model_node.specs.NodeValue.{NodeValue, RunValue}
+use Rattle.dac_model_node.specs.NodeValue.{NodeValue, RunningValue}
 use Rattle.dac_model_node.specs.EventRefusals.{refusal_of}
 use Rattle.dac_model_node.specs.Deeds.{Deed, deed_of, moment_of, note_of}
 use Rattle.dac_model_node.specs.Step.{up}
 use Rattle.dac_deltas.specs.declared.buffer.TheConstants.{MAX_DELTAS}
 
 -- what runs after a boot at this moment
-abbrev pub booted : Table → Origin → ℕ → RunValue
+abbrev pub booted : Table → Origin → ℕ → RunningValue
 booted t own now = record {
   origin = own;
   moments = record { booted = now; last = now };
@@ -31,8 +31,8 @@ booted t own now = record {
 }
 
 -- what runs after a deed, where so much is noted by then
-abbrev pub run_by : RunValue → List (Option Noted) → Deed → Option RunValue
-run_by r noted deed = cond deed.goes_off None (Some (record {
+abbrev pub running_by : RunningValue → List (Option Noted) → Deed → Option RunningValue
+running_by r noted deed = cond deed.goes_off None (Some (record {
   origin = r.origin;
   moments = record { booted = r.moments.booted; last = deed.last };
   is_open = deed.is_open;
@@ -43,28 +43,28 @@ run_by r noted deed = cond deed.goes_off None (Some (record {
 }))
 
 -- the reply to an accepted event
-abbrev pub reply_by : Table → NodeId → ℕ → Option RunValue → List (Option Noted) → Event → Reply
+abbrev pub reply_by : Table → NodeId → ℕ → Option RunningValue → List (Option Noted) → Event → Reply
 reply_by t me last None noted e = Booted (up (record { node = me; inc = last + 1 }))
 reply_by t me last (Some r) noted e = (deed_of t r noted e).reply
 
 -- what an accepted event leaves
-abbrev pub left_by : Table → NodeId → ℕ → Option RunValue → List (Option Noted) → Event → NodeValue
+abbrev pub left_by : Table → NodeId → ℕ → Option RunningValue → List (Option Noted) → Event → NodeValue
 left_by t me last None noted e =
-    record { last = last + 1; run = Some (booted t (record { node = me; inc = last + 1 }) (moment_of e)) }
-left_by t me last (Some r) noted e = record { last = last; run = run_by r noted (deed_of t r noted e) }
+    record { last = last + 1; running = Some (booted t (record { node = me; inc = last + 1 }) (moment_of e)) }
+left_by t me last (Some r) noted e = record { last = last; running = running_by r noted (deed_of t r noted e) }
 
 -- where the event notes which claims are lost, this is noted by then: the notes before and one more
-abbrev pub IsNoting : Table → RunValue → List (Option Noted) → Event → Type 0
+abbrev pub IsNoting : Table → RunningValue → List (Option Noted) → Event → Type 0
 IsNoting t r noted e = (deed_of t r noted e).notes ≡ true → (notes : List Note) → r.waits ≡ waits_of t notes
     → noted ≡ waits_of t (note_of r.state e ∷ notes)
 
 -- the same of a node that may be off; one that is off notes nothing
-abbrev pub IsNotingBy : Table → Option RunValue → List (Option Noted) → Event → Type 0
+abbrev pub IsNotingBy : Table → Option RunningValue → List (Option Noted) → Event → Type 0
 IsNotingBy t None noted e = Unit {0}
 IsNotingBy t (Some r) noted e = IsNoting t r noted e
 
 -- the deltas kept are the newest, at most 256
-pub record AreNewest (k : Kept StateValue) : Type 0 where
+pub record AreNewest (k : KeptDeltas StateValue) : Type 0 where
   pub numbered : k.base + length k.deltas ≡ k.count
   pub few : length k.deltas ≤ MAX_DELTAS
 
@@ -72,9 +72,9 @@ pub record AreNewest (k : Kept StateValue) : Type 0 where
 pub record AcceptedAs (t : Table) (me : NodeId) (old : NodeValue) (e : Event) (new : NodeValue)
     (answer : Reply) : Type 0 where
   pub accepted : refusal_of t old e ≡ None
-  pub newest : IfSome old.run (λ (r : RunValue). AreNewest r.kept)
-  pub state : IfSome old.run (λ (r : RunValue). IsState r.state)
+  pub newest : IfSome old.running (λ (r : RunningValue). AreNewest r.kept)
+  pub state : IfSome old.running (λ (r : RunningValue). IsState r.state)
   pub noted : List (Option Noted)
-  pub noting : IsNotingBy t old.run noted e
-  pub left : new ≡ left_by t me old.last old.run noted e
-  pub reply : answer ≡ reply_by t me old.last old.run noted e
+  pub noting : IsNotingBy t old.running noted e
+  pub left : new ≡ left_by t me old.last old.running noted e
+  pub reply : answer ≡ reply_by t me old.last old.running noted e

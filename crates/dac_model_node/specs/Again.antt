@@ -11,12 +11,12 @@ use Rattle.dac_messages.specs.declared.reply.Reply.{Reply}
 use Rattle.dac_messages.specs.declared.reply.Reply.TheVariants.{Ticked}
 use Rattle.dac_events.specs.declared.refusal.Refusal.{Refusal}
 use Rattle.dac_events.specs.declared.refusal.Refusal.TheVariants.{DotsUsedUp}
-use Rattle.dac_model_node.specs.ModelNode.{ModelNode, ModelRun, joined}
+use Rattle.dac_model_node.specs.ModelNode.{ModelNode, ModelRunning, joined}
 use Rattle.dac_model_node.specs.Step.{model_step}
 
 -- the log of a running node joins to a state
 abbrev pub HoldsState : ModelNode → Type 0
-HoldsState d = IfSome d.run (λ (r : ModelRun). IsState (joined r.log))
+HoldsState d = IfSome d.running (λ (r : ModelRunning). IsState (joined r.log))
 
 -- Nothing is claimed, and no application is passed but some of these. Or the counters that a tick is taken to need
 -- are left no more.

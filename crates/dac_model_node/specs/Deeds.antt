@@ -7,9 +7,9 @@ use Rattle.dac_meaning.specs.StateValue.{StateValue, bottom, join}
 use Rattle.dac_meaning.specs.Meaning.{meaning_of}
 use Rattle.dac_meaning.specs.Below.{is_below}
 use Rattle.dac_config.specs.Table.{Table, node_count}
-use Rattle.dac_deltas.specs.Kept.{numbered_from}
-use Rattle.dac_peers.specs.declared.places.Place.{Place}
-use Rattle.dac_peers.specs.Peers.{PeersValue, begins, has_all, receipt, shipped_to, heard_from, acked_by_all}
+use Rattle.dac_deltas.specs.KeptDeltas.{numbered_from}
+use Rattle.dac_peers.specs.declared.positions.Position.{Position}
+use Rattle.dac_peers.specs.Peers.{PeersValue, begins, has_all, ack_for, shipped_to, heard_from, acked_by_all}
 use Rattle.dac_decide.specs.declared.start_gate.Opening.{Opening}
 use Rattle.dac_decide.specs.declared.start_gate.Opening.TheVariants.{Shut, Opened, GiveUp}
 use Rattle.dac_decide.specs.declared.waits.Noted.{Noted}
@@ -21,14 +21,15 @@ use Rattle.dac_messages.specs.declared.message.Body.TheVariants.{Whole, Interval
 use Rattle.dac_messages.specs.declared.message.Message.{Message}
 use Rattle.dac_messages.specs.Bodies.{content_of}
 use Rattle.dac_messages.specs.declared.event.Event.{Event}
-use Rattle.dac_messages.specs.declared.event.Event.TheVariants.{Boot, Crash, Command as Told, Tick, Ship, Hear, HearOp}
+use Rattle.dac_messages.specs.declared.event.Event.TheVariants.{Boot, Crash, Command as Commanded, Tick, Ship, Hear, HearOp}
 use Rattle.dac_messages.specs.declared.reply.Reply.{Reply}
 use Rattle.dac_messages.specs.declared.reply.Reply.TheVariants.{Crashed, Issued, Ticked, Held, GaveUp, Shipped, Heard}
 use Rattle.dac_commands.specs.Commands.{next_operation, act_of}
-use Rattle.dac_model_node.specs.NodeValue.{RunValue}
+use Rattle.dac_model_node.specs.NodeValue.{RunningValue}
 
 -- What an event does: its reply, the states that it adds, and whether the node goes off by it. Then the last moment
--- and the gate from then on, whether the lost claims were noted, and what is kept of peers. No state below the number
+-- and the start gate from then on, whether the lost claims were noted, and what is kept of peers. No state below the
+-- number
 -- `trim` is kept any more.
 pub record Deed : Type 0 where
   pub reply : Reply
@@ -41,7 +42,7 @@ pub record Deed : Type 0 where
   pub trim : ℕ
 
 -- a reply and some states, and nothing else
-abbrev pub keeps : RunValue → Reply → List StateValue → Deed
+abbrev pub keeps : RunningValue → Reply → List StateValue → Deed
 keeps r reply adds = record {
   reply = reply;
   adds = adds;
@@ -54,28 +55,28 @@ keeps r reply adds = record {
 }
 
 -- the node goes down
-abbrev pub goes_down : RunValue → Reply → Deed
+abbrev pub goes_down : RunningValue → Reply → Deed
 goes_down r reply = record (keeps r reply []) { goes_off = true }
 
 -- an operation is issued
-abbrev pub issues : RunValue → Operation → Deed
+abbrev pub issues : RunningValue → Operation → Deed
 issues r o = keeps r (Issued o) (meaning_of (o ∷ []) ∷ [])
 
--- What is shipped from a place on: nothing where the node has all, else the interval from there. It is the whole
--- state where there is no place to begin
-abbrev pub body_from : RunValue → Option Place → Body
+-- What is shipped from a position on: nothing where the node has all, else the interval from there. It is the whole
+-- state where there is no position to begin
+abbrev pub body_from : RunningValue → Option Position → Body
 body_from r None = Whole r.state
 body_from r (Some p) =
     cond (has_all r.kept.count (Some p)) Nothing (Interval (fold join bottom (numbered_from r.kept p.number)))
 
 -- the message that is shipped to a node
-abbrev pub message_of : RunValue → NodeId → Message
+abbrev pub message_of : RunningValue → NodeId → Message
 message_of r to =
     let from = begins r.peers r.state r.kept.base to in
-    record { from = r.origin; to = to; only = option_map (λ (p : Place). p.inc) from; up_to = r.kept.count; body = body_from r from; ack = receipt r.peers to }
+    record { from = r.origin; to = to; only = option_map (λ (p : Position). p.inc) from; up_to = r.kept.count; body = body_from r from; ack = ack_for r.peers to }
 
 -- the message is shipped, and the node is owed no answer any more
-abbrev pub ships : RunValue → NodeId → Deed
+abbrev pub ships : RunningValue → NodeId → Deed
 ships r to = record (keeps r (Shipped (message_of r to)) []) { peers = shipped_to r.peers to }
 
 -- a state comes to another: it is added unless it is below
@@ -83,11 +84,11 @@ abbrev pub brings : StateValue → StateValue → List StateValue
 brings s body = cond (is_below body s) [] (body ∷ [])
 
 -- a state comes by itself
-abbrev pub hears : RunValue → StateValue → Deed
+abbrev pub hears : RunningValue → StateValue → Deed
 hears r body = keeps r (Heard (not (is_below body r.state))) (brings r.state body)
 
 -- A message comes. What all other nodes have acknowledged by then is kept no longer.
-abbrev pub hears_message : Table → RunValue → Message → Deed
+abbrev pub hears_message : Table → RunningValue → Message → Deed
 hears_message t r m =
     let body = content_of m.body in
     let adds = brings r.state body in
@@ -102,30 +103,30 @@ abbrev pub meanings : List Operation → List StateValue
 meanings os = map (λ (o : Operation). meaning_of (o ∷ [])) os
 
 -- the applications are looked after
-abbrev pub looks_after : RunValue → ℕ → Turn → Deed
+abbrev pub looks_after : RunningValue → ℕ → Turn → Deed
 looks_after r now turn =
     record (keeps r (Ticked turn.ops turn.passed) (meanings turn.ops)) { last = now; is_open = true; notes = true }
 
 -- the node still waits for others
-abbrev pub holds_back : RunValue → ℕ → Deed
+abbrev pub holds_back : RunningValue → ℕ → Deed
 holds_back r now = record (keeps r Held []) { last = now; is_open = false }
 
--- a tick, where the gate answers so
-abbrev pub ticks_by : Opening → Table → RunValue → List (Option Noted) → ℕ → Deed
+-- a tick, where the start gate answers so
+abbrev pub ticks_by : Opening → Table → RunningValue → List (Option Noted) → ℕ → Deed
 ticks_by Shut t r noted now = holds_back r now
 ticks_by GiveUp t r noted now = goes_down r GaveUp
 ticks_by Opened t r noted now = looks_after r now (turn_of t r.origin noted now r.state)
 
--- what the gate answers: it stays open once it is
-abbrev pub opening_at : Table → RunValue → ℕ → Opening
+-- what the start gate answers: it stays open once it is
+abbrev pub opening_at : Table → RunningValue → ℕ → Opening
 opening_at t r now = cond r.is_open Opened (opening_of t r.state (now - r.moments.booted))
 
 -- What an accepted event does at a running node, where so much is noted by then if the event notes anything. (A running
 -- node never accepts a boot.)
-abbrev pub deed_of : Table → RunValue → List (Option Noted) → Event → Deed
+abbrev pub deed_of : Table → RunningValue → List (Option Noted) → Event → Deed
 deed_of t r noted (Boot now) = keeps r (Heard false) []
 deed_of t r noted Crash = goes_down r Crashed
-deed_of t r noted (Told c) = issues r (next_operation r.state r.origin (act_of t r.state c))
+deed_of t r noted (Commanded c) = issues r (next_operation r.state r.origin (act_of t r.state c))
 deed_of t r noted (Tick now) = ticks_by (opening_at t r now) t r noted now
 deed_of t r noted (Ship to) = ships r to
 deed_of t r noted (Hear m) = hears_message t r m

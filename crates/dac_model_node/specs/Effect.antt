@@ -6,10 +6,10 @@ use Rattle.dac_config.specs.Table.{Table}
 use Rattle.dac_ticks.specs.TakesEffect.{TakesEffect}
 use Rattle.dac_ticks.specs.Staying.{AreKeptAt, AreLaterClaims}
 use Rattle.dac_messages.specs.declared.event.Event.{Event}
-use Rattle.dac_messages.specs.declared.event.Event.TheVariants.{Command as Told, Tick}
+use Rattle.dac_messages.specs.declared.event.Event.TheVariants.{Command as Commanded, Tick}
 use Rattle.dac_messages.specs.declared.reply.Reply.{Reply}
 use Rattle.dac_messages.specs.declared.reply.Reply.TheVariants.{Booted, Issued, Ticked}
-use Rattle.dac_model_node.specs.NodeValue.{NodeValue, RunValue}
+use Rattle.dac_model_node.specs.NodeValue.{NodeValue, RunningValue}
 use Rattle.dac_model_node.specs.Accepted.{AcceptedAs}
 
 -- the operations that a reply issues
@@ -21,16 +21,16 @@ issued_by _ = []
 
 -- What is so once the event is over: a command has taken effect, and what a tick claimed is kept at the own node and
 -- runs there.
-abbrev pub IsBroughtAbout : Table → Event → Reply → RunValue → Type 0
-IsBroughtAbout t (Told c) reply r = TakesEffect t r.origin r.state c
+abbrev pub IsBroughtAbout : Table → Event → Reply → RunningValue → Type 0
+IsBroughtAbout t (Commanded c) reply r = TakesEffect t r.origin r.state c
 IsBroughtAbout t (Tick now) reply r = AreKeptAt t r.state r.origin.node (issued_by reply)
 IsBroughtAbout t e reply r = Unit {0}
 
 -- the event takes effect at the node
 pub record HasEffect (t : Table) (old : NodeValue) (e : Event) (reply : Reply) (new : NodeValue) : Type 0 where
-  pub left : IfSome new.run (IsBroughtAbout t e reply)
+  pub left : IfSome new.running (IsBroughtAbout t e reply)
   -- what is claimed is claimed under a later term than any claim of the application that the node had heard
-  pub later : IfSome old.run (λ (r : RunValue). AreLaterClaims r.state (issued_by reply))
+  pub later : IfSome old.running (λ (r : RunningValue). AreLaterClaims r.state (issued_by reply))
 
 -- so each accepted event does
 abbrev pub EventsTakeEffect : Type 0

@@ -14,12 +14,12 @@ use Rattle.dac_events.specs.declared.Command.{Command}
 use Rattle.dac_messages.specs.Bodies.{content_of}
 use Rattle.dac_messages.specs.declared.message.Message.{Message}
 use Rattle.dac_messages.specs.declared.event.Event.{Event}
-use Rattle.dac_messages.specs.declared.event.Event.TheVariants.{Boot, Crash, Command as Told, Tick, Ship, Hear, HearOp}
+use Rattle.dac_messages.specs.declared.event.Event.TheVariants.{Boot, Crash, Command as Commanded, Tick, Ship, Hear, HearOp}
 use Rattle.dac_events.specs.declared.refusal.Refusal.{Refusal}
 use Rattle.dac_events.specs.declared.refusal.Refusal.TheVariants.{Off, AlreadyOn, DeclaredDown, UnknownNode, OnSelf, MomentBack, NotForMe, UpToDate, DotsUsedUp, IncarnationsUsedUp}
 use Rattle.dac_commands.specs.Commands.{greatest_counter}
 use Rattle.dac_commands.specs.Causes.{first, no_node, declared_down, refusal_of_command}
-use Rattle.dac_model_node.specs.NodeValue.{NodeValue, RunValue}
+use Rattle.dac_model_node.specs.NodeValue.{NodeValue, RunningValue}
 
 -- how many counters a tick is taken to need, whatever it does: one for each application, and one at least
 abbrev pub needed : Table → ℕ
@@ -30,20 +30,20 @@ abbrev pub too_few_left : Table → StateValue → Origin → Bool
 too_few_left t s own = nat_lt MAX_COUNTER (greatest_counter own s.known + needed t)
 
 -- so many deltas more would pass the last number
-abbrev pub too_many_deltas : RunValue → ℕ → Bool
+abbrev pub too_many_deltas : RunningValue → ℕ → Bool
 too_many_deltas r more = nat_lt MAX_COUNTER (r.kept.count + more)
 
 -- why a running node doesn't tick, if it doesn't
-abbrev pub causes_to_tick : Table → RunValue → ℕ → List (Bool × Refusal)
+abbrev pub causes_to_tick : Table → RunningValue → ℕ → List (Bool × Refusal)
 causes_to_tick t r now = (declared_down r.origin r.state, DeclaredDown) ∷ (nat_lt now r.moments.last, MomentBack) ∷
     (too_few_left t r.state r.origin || too_many_deltas r (needed t), DotsUsedUp) ∷ []
 
 -- the first of these causes that there is
-abbrev pub refusal_to_tick : Table → RunValue → ℕ → Option Refusal
+abbrev pub refusal_to_tick : Table → RunningValue → ℕ → Option Refusal
 refusal_to_tick t r now = first (causes_to_tick t r now)
 
 -- why a running node doesn't ship, if it doesn't
-abbrev pub refusal_to_ship : Table → RunValue → NodeId → Option Refusal
+abbrev pub refusal_to_ship : Table → RunningValue → NodeId → Option Refusal
 refusal_to_ship t r to = first ((no_node t to, UnknownNode) ∷ (nat_eq to.0 r.origin.node.0, OnSelf) ∷
     (is_up_to_date r.peers r.state r.kept.base r.kept.count to, UpToDate) ∷ [])
 
@@ -52,20 +52,20 @@ abbrev pub is_for : Origin → Message → Bool
 is_for own m = nat_eq m.to.0 own.node.0 && option_map_or (λ inc. nat_eq inc own.inc) m.only true
 
 -- a state would be added as one delta more than there can be
-abbrev pub overflows : RunValue → StateValue → Bool
+abbrev pub overflows : RunningValue → StateValue → Bool
 overflows r body = not (is_below body r.state) && too_many_deltas r 1
 
 -- why a running node doesn't hear a message, if it doesn't
-abbrev pub causes_to_hear : RunValue → Message → List (Bool × Refusal)
+abbrev pub causes_to_hear : RunningValue → Message → List (Bool × Refusal)
 causes_to_hear r m = (nat_eq m.from.node.0 r.origin.node.0, OnSelf) ∷ (not (is_for r.origin m), NotForMe) ∷
     (overflows r (content_of m.body), DotsUsedUp) ∷ []
 
 -- the first of these causes that there is
-abbrev pub refusal_to_hear : RunValue → Message → Option Refusal
+abbrev pub refusal_to_hear : RunningValue → Message → Option Refusal
 refusal_to_hear r m = first (causes_to_hear r m)
 
 -- why a running node doesn't hear an operation that comes by itself, if it doesn't
-abbrev pub refusal_to_hear_op : RunValue → Operation → Option Refusal
+abbrev pub refusal_to_hear_op : RunningValue → Operation → Option Refusal
 refusal_to_hear_op r o = first ((overflows r (meaning_of (o ∷ [])), DotsUsedUp) ∷ [])
 
 -- the first of two causes that there is
@@ -74,15 +74,15 @@ otherwise None other = other
 otherwise (Some why) other = Some why
 
 -- why a running node doesn't do what a command says, if it doesn't
-abbrev pub refusal_to_obey : Table → RunValue → Command → Option Refusal
+abbrev pub refusal_to_obey : Table → RunningValue → Command → Option Refusal
 refusal_to_obey t r c =
     otherwise (refusal_of_command t r.origin r.state c) (first ((too_many_deltas r 1, DotsUsedUp) ∷ []))
 
 -- why a running node refuses an event, if it does
-abbrev pub refusal_on : Table → RunValue → Event → Option Refusal
+abbrev pub refusal_on : Table → RunningValue → Event → Option Refusal
 refusal_on t r (Boot now) = Some AlreadyOn
 refusal_on t r Crash = None
-refusal_on t r (Told c) = refusal_to_obey t r c
+refusal_on t r (Commanded c) = refusal_to_obey t r c
 refusal_on t r (Tick now) = refusal_to_tick t r now
 refusal_on t r (Ship to) = refusal_to_ship t r to
 refusal_on t r (Hear m) = refusal_to_hear r m
@@ -92,17 +92,17 @@ refusal_on t r (HearOp o) = refusal_to_hear_op r o
 abbrev pub refusal_off : ℕ → Event → Option Refusal
 refusal_off last (Boot now) = first ((nat_le MAX_INCARNATION last, IncarnationsUsedUp) ∷ [])
 refusal_off last Crash = Some Off
-refusal_off last (Told c) = Some Off
+refusal_off last (Commanded c) = Some Off
 refusal_off last (Tick now) = Some Off
 refusal_off last (Ship to) = Some Off
 refusal_off last (Hear m) = Some Off
 refusal_off last (HearOp o) = Some Off
 
 -- why a node with this last incarnation refuses an event, if it does, by what it runs
-abbrev pub refusal_by : Table → ℕ → Option RunValue → Event → Option Refusal
+abbrev pub refusal_by : Table → ℕ → Option RunningValue → Event → Option Refusal
 refusal_by t last None e = refusal_off last e
 refusal_by t last (Some r) e = refusal_on t r e
 
 -- why a node refuses an event, if it does.
 abbrev pub refusal_of : Table → NodeValue → Event → Option Refusal
-refusal_of t v e = refusal_by t v.last v.run e
+refusal_of t v e = refusal_by t v.last v.running e

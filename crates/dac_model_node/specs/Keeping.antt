@@ -6,7 +6,7 @@ use Rattle.dac_operations.specs.Operations.{Operation}
 use Rattle.dac_meaning.specs.StateValue.{StateValue, bottom, join}
 use Rattle.dac_meaning.specs.Meaning.{meaning_of}
 use Rattle.dac_config.specs.Table.{Table, node_count}
-use Rattle.dac_deltas.specs.Kept.{Kept}
+use Rattle.dac_deltas.specs.KeptDeltas.{KeptDeltas}
 use Rattle.dac_peers.specs.Peers.{PeersValue, no_peers, shipped_to, heard_from, acked_by_all}
 use Rattle.dac_decide.specs.declared.waits.Noted.{Noted}
 use Rattle.dac_decide.specs.FailoverWait.{Note, waits_of}
@@ -15,20 +15,21 @@ use Rattle.dac_messages.specs.declared.event.Event.{Event}
 use Rattle.dac_messages.specs.declared.event.Event.TheVariants.{Boot, Tick, Ship, Hear, HearOp}
 use Rattle.dac_messages.specs.declared.reply.Reply.{Reply}
 use Rattle.dac_messages.specs.declared.reply.Reply.TheVariants.{Booted, Crashed, Issued, Ticked, GaveUp, Heard}
-use Rattle.dac_model_node.specs.NodeValue.{NodeValue, RunValue}
+use Rattle.dac_model_node.specs.NodeValue.{NodeValue, RunningValue}
 use Rattle.dac_model_node.specs.Refused.{tick_in, Some! }
 use Rattle.dac_deltas.specs.declared.buffer.TheConstants.{MAX_DELTAS}
 
 -- ---- what becomes of each part of what runs
 
--- Whether the gate is open: it is after a tick that looks after the applications. Anything else leaves it as it was.
+-- Whether the start gate is open: it is after a tick that looks after the applications. Anything else leaves it as it
+-- was.
 abbrev pub is_open_after : Bool → Reply → Bool
 is_open_after was (Ticked ops passed) = true
 is_open_after was _ = was
 
 -- Which claims are noted as lost. A tick that looks after the applications adds a note of what it found to all notes
 -- before. Nothing else notes anything, a tick that is held or a takeover neither.
-abbrev pub AreWaitsAfter : Table → RunValue → Event → Reply → List (Option Noted) → Type 0
+abbrev pub AreWaitsAfter : Table → RunningValue → Event → Reply → List (Option Noted) → Type 0
 AreWaitsAfter t r (Tick now) (Ticked ops passed) waits = (notes : List Note) → r.waits ≡ waits_of t notes
     → waits ≡ waits_of t (record { state = r.state; moment = now } ∷ notes)
 AreWaitsAfter t r e reply waits = waits ≡ r.waits
@@ -49,19 +50,19 @@ deltas_in e _ = []
 
 -- What is kept of peers: a ship and a message that comes change it, as `dac_peers` says in words,
 -- and nothing else does.
-abbrev pub peers_after : RunValue → Event → PeersValue
+abbrev pub peers_after : RunningValue → Event → PeersValue
 peers_after r (Ship to) = shipped_to r.peers to
 peers_after r (Hear m) = heard_from r.origin r.kept.count r.peers m
 peers_after r _ = r.peers
 
 -- How many of its deltas the node finds all others to have, as it runs from then on. It looks where a message comes.
-abbrev pub had_by_all : Table → Event → RunValue → ℕ
+abbrev pub had_by_all : Table → Event → RunningValue → ℕ
 had_by_all t (Hear m) u = acked_by_all u.peers u.state (node_count t) u.origin.node
 had_by_all t _ u = 0
 
 -- The deltas kept, once some come and all others have so many. They are, of those kept before and these, the newest
 -- 256, without those that all others have.
-abbrev pub kept_after : Kept StateValue → List StateValue → ℕ → Kept StateValue
+abbrev pub kept_after : KeptDeltas StateValue → List StateValue → ℕ → KeptDeltas StateValue
 kept_after k deltas had =
     let count = k.count + length deltas in
     let base = max (max k.base (count - MAX_DELTAS)) (min had count) in
@@ -70,7 +71,7 @@ kept_after k deltas had =
 -- ---- what runs
 
 -- It runs on as the same incarnation. Its last moment is that of the tick, or as before.
-pub record RunsOn (t : Table) (r : RunValue) (e : Event) (reply : Reply) (u : RunValue) : Type 0 where
+pub record RunsOn (t : Table) (r : RunningValue) (e : Event) (reply : Reply) (u : RunningValue) : Type 0 where
   pub origin : u.origin ≡ r.origin
   pub booted : u.moments.booted ≡ r.moments.booted
   pub last : u.moments.last ≡ unwrap_or (tick_in e) r.moments.last
@@ -80,8 +81,9 @@ pub record RunsOn (t : Table) (r : RunValue) (e : Event) (reply : Reply) (u : Ru
   pub peers : u.peers ≡ peers_after r e
   pub kept : u.kept ≡ kept_after r.kept (deltas_in e reply) (had_by_all t e u)
 
--- It comes up as this incarnation at this moment: its gate is shut, and it has its first operation and nothing else.
-pub record ComesUp (t : Table) (own : Origin) (now : ℕ) (o : Operation) (u : RunValue) : Type 0 where
+-- It comes up as this incarnation at this moment: its start gate is shut, and it has its first operation and nothing
+-- else.
+pub record ComesUp (t : Table) (own : Origin) (now : ℕ) (o : Operation) (u : RunningValue) : Type 0 where
   pub origin : u.origin ≡ own
   pub booted : u.moments.booted ≡ now
   pub last : u.moments.last ≡ now
@@ -91,20 +93,20 @@ pub record ComesUp (t : Table) (own : Origin) (now : ℕ) (o : Operation) (u : R
   pub peers : u.peers ≡ no_peers
   pub kept : u.kept ≡ record { count = 1; base = 0; deltas = meaning_of (o ∷ []) ∷ [] }
 
--- A crash and a gate that gives up leave nothing running; whatever else is answered, the node runs on.
-abbrev pub LeavesRunning : Table → RunValue → Event → Reply → Option RunValue → Type 0
-LeavesRunning t r e Crashed run = run ≡ None
-LeavesRunning t r e GaveUp run = run ≡ None
-LeavesRunning t r e reply run = Some! run (RunsOn t r e reply)
+-- A crash and a start gate that gives up leave nothing running; whatever else is answered, the node runs on.
+abbrev pub LeavesRunning : Table → RunningValue → Event → Reply → Option RunningValue → Type 0
+LeavesRunning t r e Crashed running = running ≡ None
+LeavesRunning t r e GaveUp running = running ≡ None
+LeavesRunning t r e reply running = Some! running (RunsOn t r e reply)
 
 -- A node that is off comes up by a boot alone, as the incarnation after the last. One that runs keeps the
 -- number of its incarnation.
-abbrev pub KeepsBy : Table → NodeId → ℕ → Option RunValue → Event → Reply → NodeValue → Type 0
+abbrev pub KeepsBy : Table → NodeId → ℕ → Option RunningValue → Event → Reply → NodeValue → Type 0
 KeepsBy t me last None (Boot now) (Booted o) new =
-    (new.last ≡ last + 1) × Some! new.run (ComesUp t (record { node = me; inc = last + 1 }) now o)
+    (new.last ≡ last + 1) × Some! new.running (ComesUp t (record { node = me; inc = last + 1 }) now o)
 KeepsBy t me last None e reply new = ⊥
-KeepsBy t me last (Some r) e reply new = (new.last ≡ last) × LeavesRunning t r e reply new.run
+KeepsBy t me last (Some r) e reply new = (new.last ≡ last) × LeavesRunning t r e reply new.running
 
 -- what an event that is answered so leaves of a node
 abbrev pub Keeps : Table → NodeId → NodeValue → Event → Reply → NodeValue → Type 0
-Keeps t me old e reply new = KeepsBy t me old.last old.run e reply new
+Keeps t me old e reply new = KeepsBy t me old.last old.running e reply new

@@ -13,7 +13,7 @@ pub mod Effect
 pub mod Again
 pub mod laws
 pub use Rattle.dac_peers.specs.Peers
-pub use Rattle.dac_peers.specs.declared.places.Place
+pub use Rattle.dac_peers.specs.declared.positions.Position
 pub use Rattle.dac_ticks.specs.Issued
 pub use Rattle.dac_ticks.specs.Ticks
 pub use Rattle.dac_ticks.specs as dac_ticks

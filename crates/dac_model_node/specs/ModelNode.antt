@@ -9,14 +9,14 @@ use Rattle.dac_deltas.specs.Logs.{kept_of}
 use Rattle.dac_peers.specs.Peers.{PeersValue}
 use Rattle.dac_decide.specs.FailoverWait.{Note, waits_of}
 use Rattle.dac_decide.specs.declared.moments.Moments.{Moments}
-use Rattle.dac_model_node.specs.NodeValue.{NodeValue, RunValue}
+use Rattle.dac_model_node.specs.NodeValue.{NodeValue, RunningValue}
 use Rattle.dac_deltas.specs.declared.buffer.TheConstants.{MAX_DELTAS}
 
 -- A node that runs: its present incarnation, when it was booted and ticked last, and whether its start gate is open.
 -- It keeps the notes of its ticks, newest first, and each state that it issued or heard, oldest first. Neither list
 -- is ever cut. The base is the number of the first state from which an interval may begin. Beside it stands what is
 -- kept of peers.
-pub record ModelRun : Type 0 where
+pub record ModelRunning : Type 0 where
   pub origin : Origin
   pub moments : Moments
   pub is_open : Bool
@@ -28,7 +28,7 @@ pub record ModelRun : Type 0 where
 -- the number of the last incarnation, and what runs under it
 pub record ModelNode : Type 0 where
   pub last : ℕ
-  pub run : Option ModelRun
+  pub running : Option ModelRunning
 
 -- the base after so many states, and a trim: the newest 256 are kept at most, and none below the trim
 abbrev pub base_after : ℕ → ℕ → ℕ → ℕ
@@ -39,8 +39,8 @@ abbrev pub joined : List StateValue → StateValue
 joined states = fold join bottom states
 
 -- the program's node that it shows as, under a configuration
-abbrev pub run_shown : Table → ModelRun → RunValue
-run_shown t r = record {
+abbrev pub running_shown : Table → ModelRunning → RunningValue
+running_shown t r = record {
   origin = r.origin;
   moments = r.moments;
   is_open = r.is_open;
@@ -52,4 +52,4 @@ run_shown t r = record {
 
 -- and so the whole node is shown: the number of its last incarnation is the same
 abbrev pub shown : Table → ModelNode → NodeValue
-shown t d = record { last = d.last; run = option_map (run_shown t) d.run }
+shown t d = record { last = d.last; running = option_map (running_shown t) d.running }

@@ -12,22 +12,22 @@ use Rattle.dac_chains.specs.Lives.{IsLive}
 use Rattle.dac_wishes.specs.WishesValue.{SomeStands}
 use Rattle.dac_meaning.specs.StateValue.{StateValue, wishes_of, IsBelow}
 use Rattle.dac_meaning.specs.Meaning.{meaning_of}
-use Rattle.dac_peers.specs.declared.places.Place.{Place}
+use Rattle.dac_peers.specs.declared.positions.Position.{Position}
 use Rattle.dac_messages.specs.Bodies.{content_of}
 use Rattle.dac_decide.specs.Placement.{IsEligible, RunsAt, IsEarlier}
 use Rattle.dac_events.specs.declared.Command.{Command}
 use Rattle.dac_events.specs.declared.Command.TheVariants.{Down, Permit, Start, Stop, Drain, Takeover}
 use Rattle.dac_messages.specs.declared.message.Message.{Message}
 use Rattle.dac_messages.specs.declared.event.Event.{Event}
-use Rattle.dac_messages.specs.declared.event.Event.TheVariants.{Boot, Crash, Command as Told, Tick, Ship, Hear, HearOp}
+use Rattle.dac_messages.specs.declared.event.Event.TheVariants.{Boot, Crash, Command as Commanded, Tick, Ship, Hear, HearOp}
 use Rattle.dac_events.specs.declared.refusal.Refusal.{Refusal}
 use Rattle.dac_events.specs.declared.refusal.Refusal.TheVariants.{Off, AlreadyOn, DeclaredDown, UnknownApp, UnknownNode, OnSelf, NotInList, MomentBack, NotLive, NotStarted, NotEligible, NotRunning, AlreadyHolder, LowerPriority, NotForMe, UpToDate, TooManyDots, TermsUsedUp, DotsUsedUp, IncarnationsUsedUp, NoMemory}
 use Rattle.dac_events.specs.Refusals.{number_of}
 use Rattle.dac_commands.specs.Commands.{live_key, live_origin, standing_starts, standing_permits, standing_drains}
 use Rattle.dac_commands.specs.Written.{HasLastTerm}
-use Rattle.dac_model_node.specs.NodeValue.{NodeValue, RunValue}
+use Rattle.dac_model_node.specs.NodeValue.{NodeValue, RunningValue}
 use Rattle.dac_model_node.specs.EventRefusals.{refusal_of}
-use Rattle.dac_model_node.specs.Shipping.{IsPlace}
+use Rattle.dac_model_node.specs.Shipping.{IsPosition}
 
 -- ---- which causes an event can have, beside running out of memory
 
@@ -46,7 +46,7 @@ causes_of_command (Takeover app) = Off ∷ DeclaredDown ∷ UnknownApp ∷ NotIn
 abbrev pub causes_of_event : Event → List Refusal
 causes_of_event (Boot now) = AlreadyOn ∷ IncarnationsUsedUp ∷ []
 causes_of_event Crash = Off ∷ []
-causes_of_event (Told c) = causes_of_command c
+causes_of_event (Commanded c) = causes_of_command c
 causes_of_event (Tick now) = Off ∷ DeclaredDown ∷ MomentBack ∷ DotsUsedUp ∷ []
 causes_of_event (Ship to) = Off ∷ UnknownNode ∷ OnSelf ∷ UpToDate ∷ []
 causes_of_event (Hear m) = Off ∷ OnSelf ∷ NotForMe ∷ DotsUsedUp ∷ []
@@ -72,33 +72,33 @@ Some! (Some x) P = P x
 
 -- the node runs, and P holds of its incarnation and its state
 abbrev pub Running : NodeValue → (Origin → StateValue → Type 0) → Type 0
-Running v P = Some! v.run (λ (r : RunValue). P r.origin r.state)
+Running v P = Some! v.running (λ (r : RunningValue). P r.origin r.state)
 
 -- among the dots the origin has a counter, or none yet, after which there are fewer than so many up to the last
 abbrev pub LeavesFewer : Dots → Origin → ℕ → Type 0
 LeavesFewer dots own count = (n : ℕ) × (((n ≡ 0) ⊎ (set.contains dots (dot own n) ≡ true)) × (MAX_COUNTER < n + count))
 
 -- so many deltas more are too many for their numbers
-abbrev pub LacksNumbers : RunValue → ℕ → Type 0
+abbrev pub LacksNumbers : RunningValue → ℕ → Type 0
 LacksNumbers r more = MAX_COUNTER < r.kept.count + more
 
 -- fewer counters than so many are left, or fewer numbers of deltas
-abbrev pub LacksFor : RunValue → ℕ → Type 0
+abbrev pub LacksFor : RunningValue → ℕ → Type 0
 LacksFor r count = LeavesFewer r.state.known r.origin count ⊎ LacksNumbers r count
 
 -- The counters or the numbers of deltas that are left are too few. A tick is taken to need one for each application and
 -- one at least, whatever it does. A command needs one. What a message brings, and an operation that comes by itself,
 -- needs a number where it is new.
-abbrev pub Lacks : Table → RunValue → Event → Type 0
-Lacks t r (Told c) = IsUsedUp r.state.known r.origin ⊎ LacksNumbers r 1
+abbrev pub Lacks : Table → RunningValue → Event → Type 0
+Lacks t r (Commanded c) = IsUsedUp r.state.known r.origin ⊎ LacksNumbers r 1
 Lacks t r (Tick now) = LacksFor r 1 ⊎ LacksFor r (app_count t)
 Lacks t r (Hear m) = (¬ IsBelow (content_of m.body) r.state) × LacksNumbers r 1
 Lacks t r (HearOp o) = (¬ IsBelow (meaning_of (o ∷ [])) r.state) × LacksNumbers r 1
 Lacks t r _ = ⊥
 
 -- the node has acknowledged all deltas, and is owed no answer
-abbrev pub IsUpToDate : RunValue → NodeId → Type 0
-IsUpToDate r to = (p : Place) × (IsPlace r to p × ((r.kept.count ≤ p.number) × (set.contains r.peers.owed to ≡ false)))
+abbrev pub IsUpToDate : RunningValue → NodeId → Type 0
+IsUpToDate r to = (p : Position) × (IsPosition r to p × ((r.kept.count ≤ p.number) × (set.contains r.peers.owed to ≡ false)))
 
 -- no incarnation of the node is live
 abbrev pub IsNotLive : StateValue → NodeId → Type 0
@@ -143,8 +143,8 @@ HoldsOfCommand t own s (Takeover app) TermsUsedUp = HasLastTerm s app
 HoldsOfCommand t own s c why = ⊥
 
 -- the cause holds of the event at a node that runs
-abbrev pub HoldsRunning : Table → RunValue → Event → Refusal → Type 0
-HoldsRunning t r (Told c) why = HoldsOfCommand t r.origin r.state c why
+abbrev pub HoldsRunning : Table → RunningValue → Event → Refusal → Type 0
+HoldsRunning t r (Commanded c) why = HoldsOfCommand t r.origin r.state c why
 HoldsRunning t r (Tick now) MomentBack = now < r.moments.last
 HoldsRunning t r (Ship to) UnknownNode = node_count t ≤ to.0
 HoldsRunning t r (Ship to) OnSelf = to ≡ r.origin.node
@@ -155,13 +155,13 @@ HoldsRunning t r e why = ⊥
 
 -- the cause holds of the event at the node
 abbrev pub Holds : Table → NodeValue → Event → Refusal → Type 0
-Holds t v e Off = v.run ≡ None
+Holds t v e Off = v.running ≡ None
 Holds t v e AlreadyOn = Running v (λ own s. Unit {0})
 Holds t v e DeclaredDown = Running v (λ own s. ¬ IsLive s.lives own.node own.inc)
-Holds t v e DotsUsedUp = Some! v.run (λ (r : RunValue). Lacks t r e)
+Holds t v e DotsUsedUp = Some! v.running (λ (r : RunningValue). Lacks t r e)
 Holds t v e IncarnationsUsedUp = MAX_INCARNATION ≤ v.last
 Holds t v e NoMemory = ⊥
-Holds t v e why = Some! v.run (λ (r : RunValue). HoldsRunning t r e why)
+Holds t v e why = Some! v.running (λ (r : RunningValue). HoldsRunning t r e why)
 
 -- ---- what is answered
 

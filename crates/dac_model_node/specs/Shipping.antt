@@ -5,7 +5,7 @@ use Rattle.dac_base.specs.declared.NodeId.{NodeId}
 use Rattle.dac_dots.specs.declared.dot.Origin.{Origin}
 use Rattle.dac_chains.specs.declared.lives.Life.{Life}
 use Rattle.dac_config.specs.Table.{Table}
-use Rattle.dac_peers.specs.declared.places.Place.{Place}
+use Rattle.dac_peers.specs.declared.positions.Position.{Position}
 use Rattle.dac_messages.specs.declared.message.Body.{Body}
 use Rattle.dac_messages.specs.declared.message.Body.TheVariants.{Whole, Interval, Nothing}
 use Rattle.dac_messages.specs.declared.message.Message.{Message}
@@ -13,55 +13,55 @@ use Rattle.dac_messages.specs.declared.event.Event.{Event}
 use Rattle.dac_messages.specs.declared.event.Event.TheVariants.{Ship}
 use Rattle.dac_messages.specs.declared.reply.Reply.{Reply}
 use Rattle.dac_messages.specs.declared.reply.Reply.TheVariants.{Shipped}
-use Rattle.dac_model_node.specs.NodeValue.{NodeValue, RunValue}
+use Rattle.dac_model_node.specs.NodeValue.{NodeValue, RunningValue}
 use Rattle.dac_model_node.specs.Step.{model_step}
-use Rattle.dac_model_node.specs.ModelNode.{ModelNode, ModelRun, joined, run_shown, shown}
+use Rattle.dac_model_node.specs.ModelNode.{ModelNode, ModelRunning, joined, running_shown, shown}
 
--- The place is that from which an interval for a node may begin. The incarnation is that of the node's greatest life,
--- it acknowledged the number, and nothing from there on is dropped.
-pub record IsPlace (r : RunValue) (to : NodeId) (p : Place) : Type 0 where
+-- The position is that from which an interval for a node may begin. The incarnation is that of the node's greatest
+-- life, it acknowledged the number, and nothing from there on is dropped.
+pub record IsPosition (r : RunningValue) (to : NodeId) (p : Position) : Type 0 where
   pub life : Life
   pub lives : map.get r.state.lives to ≡ Some life
   pub present : life.inc ≡ p.inc
   pub acked : map.get r.peers.acked (record { node = to; inc = p.inc }) ≡ Some p.number
   pub kept : r.kept.base ≤ p.number
 
--- The whole state, for any incarnation, exactly where there is no such place. Else the body is for the incarnation of
--- the place alone. It is what the log got from the place on, or nothing where the log ends there.
-abbrev pub IsBody : Table → ModelRun → NodeId → Option ℕ → Body → Type 0
-IsBody t r to only (Whole s) = (only ≡ None) × ((s ≡ joined r.log) × ((p : Place) → ¬ IsPlace (run_shown t r) to p))
-IsBody t r to only (Interval s) = (p : Place)
-    × (IsPlace (run_shown t r) to p
+-- The whole state, for any incarnation, exactly where there is no such position. Else the body is for the incarnation
+-- of the position alone. It is what the log got from the position on, or nothing where the log ends there.
+abbrev pub IsBody : Table → ModelRunning → NodeId → Option ℕ → Body → Type 0
+IsBody t r to only (Whole s) = (only ≡ None) × ((s ≡ joined r.log) × ((p : Position) → ¬ IsPosition (running_shown t r) to p))
+IsBody t r to only (Interval s) = (p : Position)
+    × (IsPosition (running_shown t r) to p
     × ((only ≡ Some p.inc) × ((p.number < length r.log) × (s ≡ joined (drop p.number r.log)))))
 IsBody t r to only Nothing =
-    (p : Place) × (IsPlace (run_shown t r) to p × ((only ≡ Some p.inc) × (length r.log ≤ p.number)))
+    (p : Position) × (IsPosition (running_shown t r) to p × ((only ≡ Some p.inc) × (length r.log ≤ p.number)))
 
--- the place in its deltas up to which something was got from a node last, if anything was
-abbrev pub IsReceipt : ModelRun → NodeId → Option (Origin × ℕ) → Type 0
-IsReceipt r node None = map.get r.peers.got node ≡ None
-IsReceipt r node (Some ack) =
+-- the position in its deltas up to which something was got from a node last, if anything was
+abbrev pub IsAckShipped : ModelRunning → NodeId → Option (Origin × ℕ) → Type 0
+IsAckShipped r node None = map.get r.peers.got node ≡ None
+IsAckShipped r node (Some ack) =
     (ack.0.node ≡ node) × (map.get r.peers.got node ≡ Some (record { inc = ack.0.inc; number = ack.1 }))
 
 -- what a running node ships to another
-pub record IsShipped (t : Table) (r : ModelRun) (node : NodeId) (m : Message) : Type 0 where
+pub record IsShipped (t : Table) (r : ModelRunning) (node : NodeId) (m : Message) : Type 0 where
   pub from : m.from ≡ r.origin
   pub to : m.to ≡ node
   pub up_to : m.up_to ≡ length r.log
   pub body : IsBody t r node m.only m.body
-  pub ack : IsReceipt r node m.ack
+  pub ack : IsAckShipped r node m.ack
 
 -- the reply to a ship is such a message
-abbrev pub ShipsBy : Table → Option ModelRun → Event → Reply → Type 0
+abbrev pub ShipsBy : Table → Option ModelRunning → Event → Reply → Type 0
 ShipsBy t (Some r) (Ship to) (Shipped m) = IsShipped t r to m
 ShipsBy t (Some r) (Ship to) _ = ⊥
 ShipsBy t None (Ship to) reply = ⊥
-ShipsBy t run e reply = Unit {0}
+ShipsBy t running e reply = Unit {0}
 
 -- so it is by each model node that shows as the value
 abbrev pub ShipsSo : Table → NodeValue → Event → Reply → Type 0
-ShipsSo t old e reply = (d : ModelNode) → shown t d ≡ old → ShipsBy t d.run e reply
+ShipsSo t old e reply = (d : ModelNode) → shown t d ≡ old → ShipsBy t d.running e reply
 
 -- whatever the model node answers to a ship that it accepts is such a message
 abbrev pub ShipsInWords : Type 0
 ShipsInWords = (t : Table) (me : NodeId) (d : ModelNode) (e : Event) (reply : Reply)
-    → (model_step t me d e).answer ≡ Ok reply → ShipsBy t d.run e reply
+    → (model_step t me d e).answer ≡ Ok reply → ShipsBy t d.running e reply

@@ -14,7 +14,7 @@ use Rattle.dac_messages.specs.declared.reply.Reply.{Reply}
 use Rattle.dac_messages.specs.declared.reply.Reply.TheVariants.{Booted}
 use Rattle.dac_events.specs.declared.refusal.Refusal.{Refusal}
 use Rattle.dac_model_node.specs.NodeValue.{NodeValue}
-use Rattle.dac_model_node.specs.ModelNode.{ModelNode, ModelRun, joined, base_after, run_shown, shown}
+use Rattle.dac_model_node.specs.ModelNode.{ModelNode, ModelRunning, joined, base_after, running_shown, shown}
 use Rattle.dac_model_node.specs.Deeds.{Deed, deed_of, moment_of, note_of}
 use Rattle.dac_model_node.specs.EventRefusals.{refusal_of}
 
@@ -23,7 +23,7 @@ abbrev pub up : Origin → Operation
 up own = operation (dot own 1) Up
 
 -- a node that comes up as this incarnation at this moment
-abbrev pub comes_up : Origin → ℕ → ModelRun
+abbrev pub comes_up : Origin → ℕ → ModelRunning
 comes_up own now = record {
   origin = own;
   moments = record { booted = now; last = now };
@@ -35,7 +35,7 @@ comes_up own now = record {
 }
 
 -- what runs after a deed, with this note if it notes
-abbrev pub goes_on : ModelRun → Note → Deed → Option ModelRun
+abbrev pub goes_on : ModelRunning → Note → Deed → Option ModelRunning
 goes_on r note deed = cond deed.goes_off None (Some (record {
   origin = r.origin;
   moments = record { booted = r.moments.booted; last = deed.last };
@@ -47,8 +47,8 @@ goes_on r note deed = cond deed.goes_off None (Some (record {
 }))
 
 -- what an accepted event does at a running model node
-abbrev pub deed_on : Table → ModelRun → Event → Deed
-deed_on t r e = deed_of t (run_shown t r) (waits_of t (note_of (joined r.log) e ∷ r.notes)) e
+abbrev pub deed_on : Table → ModelRunning → Event → Deed
+deed_on t r e = deed_of t (running_shown t r) (waits_of t (note_of (joined r.log) e ∷ r.notes)) e
 
 -- what a step gives: the node after it, and the answer
 pub record Stepped : Type 0 where
@@ -56,19 +56,19 @@ pub record Stepped : Type 0 where
   pub answer : Result Reply Refusal
 
 -- an event that isn't refused
-abbrev pub accepted : Table → NodeId → ℕ → Option ModelRun → Event → Stepped
+abbrev pub accepted : Table → NodeId → ℕ → Option ModelRunning → Event → Stepped
 accepted t me last None e =
     let own : Origin = record { node = me; inc = last + 1 } in
-    record { node = record { last = last + 1; run = Some (comes_up own (moment_of e)) }; answer = Ok (Booted (up own)) }
+    record { node = record { last = last + 1; running = Some (comes_up own (moment_of e)) }; answer = Ok (Booted (up own)) }
 accepted t me last (Some r) e = record {
-  node = record { last = last; run = goes_on r (note_of (joined r.log) e) (deed_on t r e) };
+  node = record { last = last; running = goes_on r (note_of (joined r.log) e) (deed_on t r e) };
   answer = Ok (deed_on t r e).reply;
 }
 
 -- a step, where this refuses the event, if anything does
 abbrev pub step_by : Option Refusal → Table → NodeId → ModelNode → Event → Stepped
 step_by (Some why) t me d e = record { node = d; answer = Err why }
-step_by None t me d e = accepted t me d.last d.run e
+step_by None t me d e = accepted t me d.last d.running e
 
 -- one event at a node, which boots as node me
 abbrev pub model_step : Table → NodeId → ModelNode → Event → Stepped

@@ -2,7 +2,7 @@ pub mod Options
 pub mod Steps
 pub mod Heard
 pub mod Tests
-pub mod Places
+pub mod Positions
 pub mod Refused
 pub mod Counters
 pub mod Numbers

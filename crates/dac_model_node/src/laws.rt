@@ -18,9 +18,9 @@ pub fn second_tick_claims_nothing()
 {}
 
 /// A node that ships answers a message that is in words what is to be shipped. It brings the whole state, for any
-/// incarnation of the receiver, exactly where there is no place from which an interval may begin. Else it brings what
-/// the log got from that place on, or nothing where the log ends there. It is then for the incarnation of the place
-/// alone.
+/// incarnation of the receiver, exactly where there is no position from which an interval may begin. Else it brings
+/// what the log got from that position on, or nothing where the log ends there. It is then for the incarnation of the
+/// position alone.
 pub fn ships_in_words()
     ensures { ShipsInWords }
 {}

@@ -11,7 +11,7 @@ use Rattle.dac_operations.specs.declared.act.Act.{Act}
 use Rattle.dac_operations.specs.declared.act.Act.TheVariants.{Permit, Start, Stop, Drain}
 use Rattle.dac_operations.specs.Operations.{Operation}
 use Rattle.dac_meaning.specs.StateValue.{StateValue}
-use Rattle.dac_meaning.specs.Meaning.{In}
+use Rattle.dac_meaning.specs.Meaning.{IsOperationOf}
 use Rattle.dac_commands.specs.Written.{PermitStands, StartStands, DrainStands}
 use Rattle.dac_events.specs.declared.WorldEvent.{WorldEvent}
 use Rattle.dac_events.specs.declared.What.{What}
@@ -34,11 +34,11 @@ pub record IsCausallyBefore (w : SetWorld) (a b : Operation) : Type 0 where
   pub issue : Issue
   pub issued : IsAmong issue w.issued
   pub is : issue.operation ≡ b
-  pub held : In a issue.before
+  pub held : IsOperationOf a issue.before
 
 -- with each of the operations come all that were causally before it
 abbrev pub IsClosed : SetWorld → List Operation → Type 0
-IsClosed w os = (a b : Operation) → In b os → IsCausallyBefore w a b → In a os
+IsClosed w os = (a b : Operation) → IsOperationOf b os → IsCausallyBefore w a b → IsOperationOf a os
 
 -- ---- maximal writes
 -- the act is a permit of the key
@@ -63,9 +63,9 @@ IsDrainOf at _ = ⊥
 
 -- one of the operations that writes so, where none of them that ends such a write comes after it
 pub record IsMaximal (Writes Ends : Act → Type 0) (w : SetWorld) (os : List Operation) (o : Operation) : Type 0 where
-  pub there : In o os
+  pub there : IsOperationOf o os
   pub writes : Writes o.act
-  pub last : (later : Operation) → In later os → Ends later.act → ¬ (IsCausallyBefore w o later)
+  pub last : (later : Operation) → IsOperationOf later os → Ends later.act → ¬ (IsCausallyBefore w o later)
 
 -- a permit of the key after which no permit of the key comes
 abbrev pub IsMaximalPermit : SetWorld → List Operation → Key → Operation → Type 0

@@ -9,7 +9,7 @@ use Rattle.dac_dots.specs.declared.dot.Origin.{Origin}
 use Rattle.dac_dots.specs.Dots.{Dots}
 use Rattle.dac_operations.specs.Operations.{Operation}
 use Rattle.dac_meaning.specs.StateValue.{StateValue}
-use Rattle.dac_meaning.specs.Meaning.{meaning_of, has_dot, Within}
+use Rattle.dac_meaning.specs.Meaning.{meaning_of, has_dot, AreOperationsOf}
 use Rattle.dac_config.specs.Table.{Table}
 use Rattle.dac_messages.specs.StateSpelling.{spelling_of}
 use Rattle.dac_decide.specs.Placement.{holder_of, verdict_of, candidate_of}
@@ -76,4 +76,4 @@ pub record ListsAll (v : WorldValue) (sets : SetWorld) : Type 0 where
 -- each message carries the meaning of a set of issued operations
 pub record CarryMeanings (v : WorldValue) : Type 0 where
   pub each : (k : ℕ) (m : Message) → slice_get v.messages k ≡ Some m
-      → (os : List Operation) × (Within os v.operations × (content_of m.body ≡ meaning_of os))
+      → (os : List Operation) × (AreOperationsOf os v.operations × (content_of m.body ≡ meaning_of os))

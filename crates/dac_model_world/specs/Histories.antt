@@ -10,7 +10,7 @@ use Rattle.dac_model_node.specs.Step.{model_step}
 
 -- a model node that is off after so many incarnations
 abbrev pub off_after : ℕ → ModelNode
-off_after last = record { last = last; run = None }
+off_after last = record { last = last; running = None }
 
 -- an event of a node, and its answer
 pub record Entry : Type 0 where

@@ -6,7 +6,7 @@ use Rattle.dac_dots.specs.declared.dot.Origin.{Origin}
 use Rattle.dac_dots.specs.Dots.{dot, origin_cmp}
 use Rattle.dac_operations.specs.declared.act.Act.TheVariants.{Up}
 use Rattle.dac_operations.specs.Operations.{Operation}
-use Rattle.dac_meaning.specs.Meaning.{In}
+use Rattle.dac_meaning.specs.Meaning.{IsOperationOf}
 use Rattle.dac_events.specs.declared.WorldEvent.{WorldEvent}
 use Rattle.dac_messages.specs.declared.reply.Reply.{Reply}
 use Rattle.dac_messages.specs.declared.reply.Reply.TheVariants.{Booted, Issued, Ticked}
@@ -20,7 +20,7 @@ pub record IsBoot (n : NodeId) (before : List Operation) (o : Operation) : Type 
   pub act : o.act ≡ Up
   pub inc : ℕ
   pub first : o.dot ≡ dot (record { node = n; inc = inc }) 1
-  pub later : (p : Operation) → In p before → p.dot.origin.node ≡ n → p.dot.origin.inc < inc
+  pub later : (p : Operation) → IsOperationOf p before → p.dot.origin.node ≡ n → p.dot.origin.inc < inc
 
 -- the operation is the incarnation's
 abbrev pub is_of : Origin → Operation → Bool

@@ -9,7 +9,7 @@ use Rattle.dac_events.specs.declared.What.{What}
 use Rattle.dac_events.specs.declared.What.TheVariants.{Boot as Boots, Crash as Crashes, Command as Tells, Tick as Ticks, Ship as Ships, Deliver, Hand}
 use Rattle.dac_messages.specs.declared.message.Message.{Message}
 use Rattle.dac_messages.specs.declared.event.Event.{Event}
-use Rattle.dac_messages.specs.declared.event.Event.TheVariants.{Boot, Crash, Command as Told, Tick, Ship, Hear, HearOp}
+use Rattle.dac_messages.specs.declared.event.Event.TheVariants.{Boot, Crash, Command as Commanded, Tick, Ship, Hear, HearOp}
 use Rattle.dac_messages.specs.declared.reply.Reply.{Reply}
 use Rattle.dac_messages.specs.declared.reply.Reply.TheVariants.{Crashed, Shipped}
 use Rattle.dac_events.specs.declared.refusal.Refusal.{Refusal}
@@ -64,7 +64,7 @@ handed_by (Some o) = Ok (HearOp o)
 abbrev pub event_of : List Operation → List Message → What → Result Event WorldFault
 event_of os ms (Boots now) = Ok (Boot now)
 event_of os ms Crashes = Ok Crash
-event_of os ms (Tells c) = Ok (Told c)
+event_of os ms (Tells c) = Ok (Commanded c)
 event_of os ms (Ticks now) = Ok (Tick now)
 event_of os ms (Ships to) = Ok (Ship to)
 event_of os ms (Deliver k) = heard_by (counted ms k)

@@ -2,7 +2,7 @@
 use Rattle.std.specs.Prelude.{◌≡◌, ◌↔◌, IsTrue, List, [], ◌∷◌, Result, Ok}
 use Rattle.dac_dots.specs.declared.dot.Dot.{Dot}
 use Rattle.dac_operations.specs.Operations.{Operation}
-use Rattle.dac_meaning.specs.Meaning.{In}
+use Rattle.dac_meaning.specs.Meaning.{IsOperationOf}
 use Rattle.dac_events.specs.declared.WorldEvent.{WorldEvent}
 use Rattle.dac_messages.specs.declared.reply.Reply.{Reply}
 use Rattle.dac_messages.specs.declared.reply.Reply.TheVariants.{Heard}
@@ -11,11 +11,11 @@ use Rattle.dac_model_world.specs.SetWorld.{SetWorld, held_by, brought_to, set_st
 
 -- one of the operations has this dot
 abbrev pub HasDot : Dot → List Operation → Type 0
-HasDot d os = (o : Operation) × (In o os × (o.dot ≡ d))
+HasDot d os = (o : Operation) × (IsOperationOf o os × (o.dot ≡ d))
 
 -- some of the operations ps has a dot that none of os has
 abbrev pub HasNews : List Operation → List Operation → Type 0
-HasNews os ps = (o : Operation) × (In o ps × ¬ (HasDot o.dot os))
+HasNews os ps = (o : Operation) × (IsOperationOf o ps × ¬ (HasDot o.dot os))
 
 -- an event that is heard is answered by whether it brings its node a dot that the node hadn't heard
 abbrev pub TellsNews : SetWorld → WorldEvent → Result Reply WorldFault → Type 0

@@ -4,7 +4,7 @@ use Rattle.std.specs.FinMap as map
 use Rattle.dac_base.specs.declared.NodeId.{NodeId}
 use Rattle.dac_chains.specs.declared.lives.Life.{Life}
 use Rattle.dac_operations.specs.Operations.{Operation}
-use Rattle.dac_meaning.specs.Meaning.{meaning_of, In}
+use Rattle.dac_meaning.specs.Meaning.{meaning_of, IsOperationOf}
 use Rattle.dac_events.specs.declared.WorldEvent.{WorldEvent}
 use Rattle.dac_events.specs.declared.What.{What}
 use Rattle.dac_events.specs.declared.What.TheVariants.{Ship as Ships, Deliver}
@@ -73,14 +73,14 @@ pub record IsHeld (w : SetWorld) (o : Operation) : Type 0 where
   pub node : NodeId
   pub held : NodeSet
   pub on : w.node node ≡ Some held
-  pub there : In o held.operations
+  pub there : IsOperationOf o held.operations
 
 -- the node runs as this incarnation, and has exactly what the running nodes of w had together
 pub record HasUnion (w : SetWorld) (inc : ℕ) (after : Option NodeSet) : Type 0 where
   pub set : NodeSet
   pub on : after ≡ Some set
   pub same : set.inc ≡ inc
-  pub all : (o : Operation) → In o set.operations ↔ IsHeld w o
+  pub all : (o : Operation) → IsOperationOf o set.operations ↔ IsHeld w o
 
 -- Who ran in w runs on as the same incarnation, with all that the running nodes had together. Who was off is off.
 pub record HaveUnion (w next : SetWorld) : Type 0 where

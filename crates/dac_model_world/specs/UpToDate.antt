@@ -3,7 +3,7 @@ use Rattle.std.specs.Prelude.{◌≡◌, List, [], ◌∷◌, Some, Result, Err}
 use Rattle.std.specs.FinMap as map
 use Rattle.dac_base.specs.declared.NodeId.{NodeId}
 use Rattle.dac_chains.specs.declared.lives.Life.{Life}
-use Rattle.dac_meaning.specs.Meaning.{meaning_of, Within}
+use Rattle.dac_meaning.specs.Meaning.{meaning_of, AreOperationsOf}
 use Rattle.dac_events.specs.declared.WorldEvent.{WorldEvent}
 use Rattle.dac_events.specs.declared.What.TheVariants.{Ship as Ships}
 use Rattle.dac_messages.specs.declared.reply.Reply.{Reply}
@@ -20,7 +20,7 @@ pub record HasAll (w : SetWorld) (from to : NodeId) : Type 0 where
   pub life : Life
   pub known : map.get (meaning_of mine.operations).lives to ≡ Some life
   pub has : (theirs : NodeSet) → w.node to ≡ Some theirs → theirs.inc ≡ life.inc
-      → Within mine.operations theirs.operations
+      → AreOperationsOf mine.operations theirs.operations
 
 -- a ship that is refused as up to date is to a node that has all
 abbrev pub TellsUpToDate : SetWorld → WorldEvent → Result Reply WorldFault → Type 0

@@ -1,4 +1,4 @@
--- What a tick does, by what its gate answers.
+-- What a tick does, by what its start gate answers.
 use Rattle.std.proofs.Common.{◌≡◌, ℕ, true, false, List, [], ◌∷◌, Option, refl, sym, ap, ◌∙◌, Some, None}
 use Rattle.std.specs.Prelude.{unwrap_or, MatchOption}
 use Rattle.dac_meaning.specs.StateValue.{StateValue}
@@ -10,8 +10,8 @@ use Rattle.dac_messages.specs.declared.event.Event.TheVariants.{Tick}
 use Rattle.dac_messages.specs.declared.reply.Reply.TheVariants.{Ticked as HasTicked, Held as IsHeld, GaveUp}
 use Rattle.dac_model_node.specs.dac_ticks.declared.turning.Turn.{Turn as Made}
 use Rattle.dac_model_node.specs.dac_ticks.Ticks.{Turn, turn_of}
-use Rattle.dac_model_node.specs.dac_ticks.Progress.{IsMade}
-use Rattle.dac_model_node.specs.NodeValue.{RunValue}
+use Rattle.dac_model_node.specs.dac_ticks.TurnSoFar.{IsMade}
+use Rattle.dac_model_node.specs.NodeValue.{RunningValue}
 use Rattle.dac_model_node.specs.Deeds.{ticks_by, opening_at, meanings}
 use Rattle.dac_node.specs.declared.change.After.TheVariants.{Off, GoesOn}
 use Rattle.dac_node.specs.Knowing.{ticking, knowledge_of}
@@ -19,7 +19,7 @@ use Rattle.dac_node.specs.After.{after_by}
 use Rattle.dac_node.specs.Changes.{ChangeValue, Effect}
 use Rattle.dac_node.proofs.Effects.{quiet_effect}
 
-module _ (t : Table) (number : ℕ) (r : RunValue) (now : ℕ) where
+module _ (t : Table) (number : ℕ) (r : RunningValue) (now : ℕ) where
   pub held_effect : opening_at t r now ≡ Shut → (change : ChangeValue) → change ≡ record { last = number; after = GoesOn (ticking (knowledge_of r) now false r.waits []); reply = IsHeld } → Effect t number r (Tick now) change
   held_effect is change same =
       quiet_effect t number r (Tick now) change (ap (λ o. (ticks_by o t r [] now).notes) is) (ap (λ (c : ChangeValue). c.last) same)

@@ -3,40 +3,40 @@ use Rattle.std.specs.Prelude.{◌≡◌, ◌+◌, ◌≤◌, cond, List, length,
 use Rattle.std.specs.Option.{option_map}
 use Rattle.dac_base.specs.declared.limits.TheConstants.{MAX_COUNTER}
 use Rattle.dac_meaning.specs.StateValue.{join}
-use Rattle.dac_deltas.specs.Kept.{pushed, trimmed}
+use Rattle.dac_deltas.specs.KeptDeltas.{pushed, trimmed}
 use Rattle.dac_decide.specs.declared.waits.Noted.{Noted}
 use Rattle.dac_messages.specs.declared.reply.Reply.{Reply}
 use Rattle.dac_messages.specs.declared.reply.Reply.TheVariants.{Shipped}
-use Rattle.dac_model_node.specs.NodeValue.{RunValue}
+use Rattle.dac_model_node.specs.NodeValue.{RunningValue}
 use Rattle.dac_model_node.specs.Deeds.{Deed, message_of}
 use Rattle.dac_node.specs.declared.change.After.{After}
 use Rattle.dac_node.specs.declared.change.After.TheVariants.{Off, Boots, GoesOn}
-use Rattle.dac_node.specs.Knowing.{NextValue, run_of}
+use Rattle.dac_node.specs.Knowing.{AdvanceValue, running_of}
 
 -- what ran before goes on so
-abbrev pub gone_on : NextValue → RunValue → RunValue
-gone_on next r = run_of next.knowledge (trimmed (fold pushed r.kept next.deltas) next.trim)
+abbrev pub gone_on : AdvanceValue → RunningValue → RunningValue
+gone_on next r = running_of next.knowledge (trimmed (fold pushed r.kept next.deltas) next.trim)
 
 -- what runs from then on, where this ran before
-abbrev pub run_after : After → Option RunValue → Option RunValue
-run_after Off old = None
-run_after (Boots b) old = Some b.value
-run_after (GoesOn next) old = option_map (gone_on next) old
+abbrev pub running_after : After → Option RunningValue → Option RunningValue
+running_after Off old = None
+running_after (Boots b) old = Some b.value
+running_after (GoesOn next) old = option_map (gone_on next) old
 
 -- numbers are left for the deltas that come
-abbrev pub FitsIn : Option RunValue → After → Type 0
+abbrev pub FitsIn : Option RunningValue → After → Type 0
 FitsIn (Some r) (GoesOn next) = r.kept.count + length next.deltas ≤ MAX_COUNTER
 FitsIn old after = Unit {0}
 
 -- a message that a reply ships is the one that this ships as it is
-abbrev pub ShipsOwnIn : Option RunValue → Reply → Type 0
+abbrev pub ShipsOwnIn : Option RunningValue → Reply → Type 0
 ShipsOwnIn (Some r) (Shipped m) = m ≡ message_of r m.to
 ShipsOwnIn old reply = Unit {0}
 
 -- ---- what a deed asks for
 
 -- what goes on by a deed, where so much is noted by then
-abbrev pub next_by : RunValue → List (Option Noted) → Deed → NextValue
+abbrev pub next_by : RunningValue → List (Option Noted) → Deed → AdvanceValue
 next_by r noted deed = record {
   knowledge = record {
     origin = r.origin;
@@ -50,5 +50,5 @@ next_by r noted deed = record {
   trim = deed.trim;
 }
 
-abbrev pub after_by : RunValue → List (Option Noted) → Deed → After
+abbrev pub after_by : RunningValue → List (Option Noted) → Deed → After
 after_by r noted deed = cond deed.goes_off Off (GoesOn (next_by r noted deed))

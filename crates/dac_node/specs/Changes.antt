@@ -7,12 +7,12 @@ use Rattle.dac_decide.specs.declared.waits.Noted.{Noted}
 use Rattle.dac_messages.specs.declared.event.Event.{Event}
 use Rattle.dac_messages.specs.declared.reply.Reply.{Reply}
 use Rattle.dac_messages.specs.declared.reply.Reply.TheVariants.{Booted}
-use Rattle.dac_model_node.specs.NodeValue.{NodeValue, RunValue}
+use Rattle.dac_model_node.specs.NodeValue.{NodeValue, RunningValue}
 use Rattle.dac_model_node.specs.Deeds.{deed_of}
 use Rattle.dac_model_node.specs.Step.{up}
 use Rattle.dac_model_node.specs.Accepted.{AcceptedAs, IsNoting, booted}
 use Rattle.dac_node.specs.declared.change.After.{After}
-use Rattle.dac_node.specs.After.{run_after, FitsIn, ShipsOwnIn, after_by}
+use Rattle.dac_node.specs.After.{running_after, FitsIn, ShipsOwnIn, after_by}
 
 -- the number of the last incarnation from then on, what runs from then on, and the reply
 pub record ChangeValue : Type 0 where
@@ -29,21 +29,21 @@ coded_change after reply =
 
 -- a node after a change
 abbrev pub changed : NodeValue → ChangeValue → NodeValue
-changed v change = record { last = change.last; run = run_after change.after v.run }
+changed v change = record { last = change.last; running = running_after change.after v.running }
 
 -- Where the node goes on, numbers are left for the deltas that come. A message that it ships is its own as it is
 pub record Fits (v : NodeValue) (change : ChangeValue) : Type 0 where
-  pub numbers : FitsIn v.run change.after
-  pub ships : ShipsOwnIn v.run change.reply
+  pub numbers : FitsIn v.running change.after
+  pub ships : ShipsOwnIn v.running change.reply
 
 -- what a boot does as this node at this moment, after so many incarnations
 pub record BootsBy (t : Table) (me : NodeId) (number : ℕ) (now : ℕ) (change : ChangeValue) : Type 0 where
   pub last : change.last ≡ number + 1
-  pub after : run_after change.after None ≡ Some (booted t (record { node = me; inc = number + 1 }) now)
+  pub after : running_after change.after None ≡ Some (booted t (record { node = me; inc = number + 1 }) now)
   pub reply : change.reply ≡ Booted (up (record { node = me; inc = number + 1 }))
 
 -- what an accepted event does at a running node
-pub record Effect (t : Table) (number : ℕ) (r : RunValue) (e : Event) (change : ChangeValue) : Type 0 where
+pub record Effect (t : Table) (number : ℕ) (r : RunningValue) (e : Event) (change : ChangeValue) : Type 0 where
   pub noted : List (Option Noted)
   pub noting : IsNoting t r noted e
   pub last : change.last ≡ number

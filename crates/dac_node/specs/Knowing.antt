@@ -6,12 +6,12 @@ use Rattle.dac_dots.specs.Dots.{coded_origin}
 use Rattle.dac_meaning.specs.StateValue.{StateValue, bottom, join, coded_state}
 use Rattle.dac_meaning.specs.Meaning.{meaning_of}
 use Rattle.dac_config.specs.Table.{Table}
-use Rattle.dac_deltas.specs.Kept.{Kept}
+use Rattle.dac_deltas.specs.KeptDeltas.{KeptDeltas}
 use Rattle.dac_peers.specs.Peers.{PeersValue, no_peers, coded_peers}
 use Rattle.dac_decide.specs.declared.waits.Noted.{Noted}
 use Rattle.dac_decide.specs.FailoverWait.{coded_noted, waits_of}
 use Rattle.dac_decide.specs.declared.moments.Moments.{Moments}
-use Rattle.dac_model_node.specs.NodeValue.{RunValue, coded_moments}
+use Rattle.dac_model_node.specs.NodeValue.{RunningValue, coded_moments}
 use Rattle.dac_model_node.specs.Deeds.{brings}
 use Rattle.dac_model_node.specs.Step.{up}
 
@@ -35,8 +35,8 @@ coded_knowledge =
     (λ _. refl)
 
 -- what runs with this knowledge and these deltas
-abbrev pub run_of : KnowledgeValue → Kept StateValue → RunValue
-run_of k kept = record {
+abbrev pub running_of : KnowledgeValue → KeptDeltas StateValue → RunningValue
+running_of k kept = record {
   origin = k.origin;
   moments = k.moments;
   is_open = k.is_open;
@@ -47,7 +47,7 @@ run_of k kept = record {
 }
 
 -- what such a node knows
-abbrev pub knowledge_of : RunValue → KnowledgeValue
+abbrev pub knowledge_of : RunningValue → KnowledgeValue
 knowledge_of r = record {
   origin = r.origin;
   moments = r.moments;
@@ -59,13 +59,13 @@ knowledge_of r = record {
 
 -- what goes on after an event: what the node knows by then, and the deltas that come. With them comes the number
 -- below which no delta is kept any more
-pub record NextValue : Type 0 where
+pub record AdvanceValue : Type 0 where
   pub knowledge : KnowledgeValue
   pub deltas : List StateValue
   pub trim : ℕ
 
-abbrev pub coded_next : Coded NextValue
-coded_next =
+abbrev pub coded_advance : Coded AdvanceValue
+coded_advance =
     code_by (KnowledgeValue × (List StateValue × ℕ)) (coded× coded_knowledge (coded× (coded_list coded_state) coded_ℕ)) (λ n. (n.knowledge, (n.deltas, n.trim))) (λ p. record { knowledge = p.0; deltas = p.1.0; trim = p.1.1 }) (λ _. refl)
 
 -- ---- what goes on
@@ -93,15 +93,15 @@ joining k states peers = record {
 }
 
 -- so it goes on once states come
-abbrev pub adding : KnowledgeValue → List StateValue → PeersValue → NextValue
+abbrev pub adding : KnowledgeValue → List StateValue → PeersValue → AdvanceValue
 adding k states peers = record { knowledge = joining k states peers; deltas = states; trim = 0 }
 
 -- so it goes on once a body comes, which is added unless it is below
-abbrev pub hearing : KnowledgeValue → StateValue → PeersValue → NextValue
+abbrev pub hearing : KnowledgeValue → StateValue → PeersValue → AdvanceValue
 hearing k body peers = adding k (brings k.state body) peers
 
--- so it goes on after a tick, where the gate is so, so much is noted and these are the claims' states
-abbrev pub ticking : KnowledgeValue → ℕ → Bool → List (Option Noted) → List StateValue → NextValue
+-- so it goes on after a tick, where the start gate is so, so much is noted and these are the claims' states
+abbrev pub ticking : KnowledgeValue → ℕ → Bool → List (Option Noted) → List StateValue → AdvanceValue
 ticking k now is_open waits states = record {
   knowledge = record { origin = k.origin; moments = record { booted = k.moments.booted; last = now }; is_open = is_open; waits = waits; state = fold join k.state states; peers = k.peers };
   deltas = states;

@@ -7,7 +7,7 @@ ghost use Rattle.dac_meaning.specs.Below.{is_below};
 ghost use Rattle.dac_meaning.specs.Meaning.{meaning_of};
 ghost use Rattle.dac_model_node.specs.EventRefusals.{refusal_on, refusal_to_obey};
 
-use crate::next::Next;
+use crate::advance::Advance;
 use crate::running::Running;
 use crate::ticking::tick;
 use dac_base::{NoMemory, NodeId};
@@ -28,7 +28,7 @@ pub(crate) enum After {
     /// A node that came up. It stands behind a pointer, so that what other events do is small where it moves.
     Boots(Box<Running, Global>),
     /// What ran before, with these changes.
-    GoesOn(Next),
+    GoesOn(Advance),
 }
 
 /// What an accepted event does: the number of the last incarnation from then on, what runs, and the reply.
@@ -65,16 +65,16 @@ impl Change {
     }
 
     /// Where it ships an interval that equals this state, it ships a copy of it from then on: the two share memory.
-    pub fn share(&mut self, other: &State)
+    pub fn ship_copy_of(&mut self, other: &State)
         ensures { self.new ≡ self.old }
     {
         if let Reply::Shipped(message) = &mut self.reply {
-            share_body(&mut message.body, other);
+            make_copy_of(&mut message.body, other);
         }
     }
 
     /// What ran goes on so, with this reply.
-    pub(crate) fn going_on(last: u64, next: Next, reply: Reply) -> Self
+    pub(crate) fn going_on(last: u64, next: Advance, reply: Reply) -> Self
         ensures { result ≡ record { last = last; after = After.GoesOn next; reply = reply } }
     {
         Change {
@@ -99,11 +99,11 @@ impl Change {
             node,
             inc: last + 1,
         };
-        let (run, operation) = Running::boot(alloc, config, origin, now)?;
-        let run = Box::new(alloc, run)?;
+        let (running, operation) = Running::new(alloc, config, origin, now)?;
+        let running = Box::new(alloc, running)?;
         Ok(Change {
             last: last + 1,
-            after: After::Boots(run),
+            after: After::Boots(running),
             reply: Reply::Booted(operation),
         })
     }
@@ -112,11 +112,11 @@ impl Change {
     pub(crate) fn of(
         config: &Config,
         last: u64,
-        run: &Running,
+        running: &Running,
         event: &Event,
     ) -> Result<Self, NoMemory>
-        requires { refusal_on config.now run.now event.now ≡ None }
-        ensures effect { IfOk result (Effect config.now last run.now event.now) }
+        requires { refusal_on config.now running.now event.now ≡ None }
+        ensures effect { IfOk result (Effect config.now last running.now event.now) }
         ensures crash { IfErr result (λ _. event.now ≡ Event.Crash → ⊥) }
     {
         match event {
@@ -126,30 +126,30 @@ impl Change {
                 after: After::Off,
                 reply: Reply::Crashed,
             }),
-            Event::Command(command) => Change::obey(config, last, run, *command),
-            Event::Tick { now } => tick(config, last, run, *now),
-            Event::Ship { to } => Change::ship(last, run, *to),
-            Event::Hear(message) => Change::hear(config, last, run, message),
-            Event::HearOp(operation) => Change::hear_op(last, run, operation),
+            Event::Command(command) => Change::obey(config, last, running, *command),
+            Event::Tick { now } => tick(config, last, running, *now),
+            Event::Ship { to } => Change::ship(last, running, *to),
+            Event::Hear(message) => Change::hear(config, last, running, message),
+            Event::HearOp(operation) => Change::hear_op(last, running, operation),
         }
     }
 
     /// What a command that isn't refused does at a running controller.
-    fn obey(config: &Config, last: u64, run: &Running, command: Command) -> Result<Self, NoMemory>
-        requires { refusal_to_obey config.now run.now command ≡ None }
-        ensures { IfOk result (Effect config.now last run.now (Event.Command command)) }
+    fn obey(config: &Config, last: u64, running: &Running, command: Command) -> Result<Self, NoMemory>
+        requires { refusal_to_obey config.now running.now command ≡ None }
+        ensures { IfOk result (Effect config.now last running.now (Event.Command command)) }
     {
-        let (next, operation) = run.command(config, command)?;
+        let (next, operation) = running.command(config, command)?;
         Ok(Change::going_on(last, next, Reply::Issued(operation)))
     }
 
     /// What a ship that isn't refused does at a running controller.
-    fn ship(last: u64, run: &Running, to: NodeId) -> Result<Self, NoMemory>
+    fn ship(last: u64, running: &Running, to: NodeId) -> Result<Self, NoMemory>
         ensures { IfOk result
-            (λ change. (t : Table) → Effect t last run.now (Event.Ship to) change) }
+            (λ change. (t : Table) → Effect t last running.now (Event.Ship to) change) }
     {
-        let message = run.message_to(to)?;
-        let next = run.shipped_to(to)?;
+        let message = running.message_to(to)?;
+        let next = running.shipped_to(to)?;
         Ok(Change::going_on(last, next, Reply::Shipped(message)))
     }
 
@@ -157,33 +157,33 @@ impl Change {
     pub(crate) fn hear(
         config: &Config,
         last: u64,
-        run: &Running,
+        running: &Running,
         message: &Message,
     ) -> Result<Self, NoMemory>
-        ensures { IfOk result (Effect config.now last run.now (Event.Hear message.now)) }
+        ensures { IfOk result (Effect config.now last running.now (Event.Hear message.now)) }
     {
-        let next = run.hear(config, message)?;
+        let next = running.after_message(config, message)?;
         let fresh = next.has_news();
         Ok(Change::going_on(last, next, Reply::Heard(fresh)))
     }
 
     /// What an operation that comes by itself does at a running controller.
-    pub(crate) fn hear_op(last: u64, run: &Running, operation: &Op) -> Result<Self, NoMemory>
+    pub(crate) fn hear_op(last: u64, running: &Running, operation: &Op) -> Result<Self, NoMemory>
         ensures effect { IfOk result
-            (λ change. (t : Table) → Effect t last run.now (Event.HearOp operation.now) change) }
+            (λ change. (t : Table) → Effect t last running.now (Event.HearOp operation.now) change) }
         ensures after { IfOk result (λ change. change.after
             ≡ After.GoesOn
-            (hearing (knowledge_of run.now) (meaning_of (operation.now ∷ [])) run.now.peers)) }
+            (hearing (knowledge_of running.now) (meaning_of (operation.now ∷ [])) running.now.peers)) }
         ensures reply { IfOk result (λ change. change.reply
-            ≡ Reply.Heard (not (is_below (meaning_of (operation.now ∷ [])) run.now.state))) }
+            ≡ Reply.Heard (not (is_below (meaning_of (operation.now ∷ [])) running.now.state))) }
     {
-        let (next, fresh) = run.hear_op(operation)?;
+        let (next, fresh) = running.after_operation(operation)?;
         Ok(Change::going_on(last, next, Reply::Heard(fresh)))
     }
 }
 
 /// An interval that equals a state becomes a copy of it.
-fn share_body(body: &mut Body, other: &State)
+fn make_copy_of(body: &mut Body, other: &State)
     ensures { body.new ≡ body.old }
 {
     let Body::Interval(state) = body else {

@@ -8,7 +8,7 @@ ghost use Rattle.dac_peers.specs.Peers.{acked_by_all};
 ghost use Rattle.dac_messages.specs.Bodies.{content_of};
 ghost use Rattle.dac_model_node.specs.Step.{up};
 
-use crate::next::Next;
+use crate::advance::Advance;
 use dac_base::NoMemory;
 use dac_config::Config;
 use dac_decide::{Moments, Waits};
@@ -84,7 +84,7 @@ impl Knowledge {
     }
 
     /// What a controller knows that comes up as this incarnation at this moment; the operation that says so; and its delta.
-    pub(crate) fn boot(
+    pub(crate) fn at_boot(
         alloc: Global,
         config: &Config,
         origin: Origin,
@@ -168,13 +168,13 @@ impl Knowledge {
     }
 
     /// What goes on after a delta comes that is to be added, where this is kept of peers.
-    pub(crate) fn add_delta(&self, delta: State, peers: Peers) -> Result<Next, NoMemory>
+    pub(crate) fn add_delta(&self, delta: State, peers: Peers) -> Result<Advance, NoMemory>
         ensures { IfOk result (λ next. next ≡ adding self.now (delta ∷ []) peers) }
     {
         let knowledge = self.join_state(&delta, peers)?;
         let mut deltas = Vec::new(self.alloc);
         deltas.push(delta)?;
-        Ok(Next {
+        Ok(Advance {
             knowledge,
             deltas,
             trim: 0,
@@ -182,12 +182,12 @@ impl Knowledge {
     }
 
     /// What goes on after a state comes that may be below, where this is kept of peers.
-    pub(crate) fn hear_state(&self, body: &State, peers: Peers) -> Result<Next, NoMemory>
+    pub(crate) fn hear_state(&self, body: &State, peers: Peers) -> Result<Advance, NoMemory>
         ensures { IfOk result (λ next. next ≡ hearing self.now body.now peers) }
     {
         if is_below(body, &self.state) {
             let knowledge = self.with_peers(peers)?;
-            return Ok(Next {
+            return Ok(Advance {
                 knowledge,
                 deltas: Vec::new(self.alloc),
                 trim: 0,
@@ -199,7 +199,7 @@ impl Knowledge {
     }
 
     /// What goes on after a message's body comes, where this is kept of peers.
-    pub(crate) fn hear_body(&self, body: &Body, peers: Peers) -> Result<Next, NoMemory>
+    pub(crate) fn hear_body(&self, body: &Body, peers: Peers) -> Result<Advance, NoMemory>
         ensures { IfOk result (λ next. next ≡ hearing self.now (content_of body.now) peers) }
     {
         match body.state() {

@@ -35,7 +35,7 @@ pub use node::Node;
 
 mod change;
 mod knowledge;
-mod next;
+mod advance;
 mod node;
 mod running;
 mod shipping;

@@ -25,7 +25,7 @@ use std::marker::Model;
 pub struct Node {
     alloc: Global,
     last: u64,
-    run: Option<Running>,
+    running: Option<Running>,
 }
 
 /// Written out: a drop is one call for a proof, wherever it stands.
@@ -34,7 +34,7 @@ impl Drop for Node {
         let Node {
             alloc: _alloc,
             last: _last,
-            run: _run,
+            running: _running,
         } = self;
     }
 }
@@ -46,7 +46,7 @@ impl Model for Node {
 
     ghost coded = { coded_node_value };
 
-    ghost view = { λ a. record { last = a.last; run = a.run } };
+    ghost view = { λ a. record { last = a.last; running = a.running } };
 }
 
 impl Node {
@@ -71,7 +71,7 @@ impl Node {
         Node {
             alloc,
             last,
-            run: None,
+            running: None,
         }
     }
 
@@ -79,9 +79,9 @@ impl Node {
     pub fn state(&self) -> Option<&State>
         ensures { option_copied result ≡ state_of self.now }
     {
-        match &self.run {
+        match &self.running {
             None => None,
-            Some(run) => Some(run.state()),
+            Some(running) => Some(running.state()),
         }
     }
 
@@ -89,9 +89,9 @@ impl Node {
     pub fn origin(&self) -> Option<Origin>
         ensures { result ≡ origin_of self.now }
     {
-        match &self.run {
+        match &self.running {
             None => None,
-            Some(run) => Some(run.origin()),
+            Some(running) => Some(running.origin()),
         }
     }
 
@@ -99,17 +99,17 @@ impl Node {
     pub fn copy(&self) -> Result<Self, NoMemory>
         ensures { IfOk result (λ copied. copied ≡ self.now) }
     {
-        let run = match &self.run {
+        let running = match &self.running {
             None => None,
-            Some(run) => {
-                let run = run.copy()?;
-                Some(run)
+            Some(running) => {
+                let running = running.copy()?;
+                Some(running)
             }
         };
         Ok(Node {
             alloc: self.alloc,
             last: self.last,
-            run,
+            running,
         })
     }
 
@@ -135,11 +135,11 @@ impl Node {
         // answered as new exactly where it isn't below the state.
         ensures writes { IfOk result (λ reply. Writes config.now self_id self.old event reply) }
         // A ship is answered by the message that the log says in words. It brings the whole state where there is no
-        // place to begin an interval. Else it brings what the log got from there on, or nothing.
+        // position to begin an interval. Else it brings what the log got from there on, or nothing.
         ensures ships { IfOk result (λ reply. ShipsSo config.now self.old event reply) }
-        // What comes up is the next incarnation. What ran runs on as the same one, or is off by a crash or a gate that gave
-        // up. Its gate stays open once it is, and each tick that looks after the applications adds its note. Its state, its
-        // deltas and what it keeps of its peers grow by what the event brings, and by no more.
+        // What comes up is the next incarnation. What ran runs on as the same one, or is off by a crash or a start gate
+        // that gave up. Its start gate stays open once it is, and each tick that looks after the applications adds its
+        // note. Its state, its deltas and what it keeps of its peers grow by what the event brings, and by no more.
         ensures keeps { IfOk result
             (λ reply. Keeps config.now self_id self.old event reply self.new) }
         // A command takes effect in the state that is left. What a tick claims is kept at the own node to the end of the tick,
@@ -159,9 +159,9 @@ impl Node {
     fn refusal(&self, config: &Config, event: &Event) -> Option<Refusal>
         ensures { result ≡ refusal_of config.now self.now event.now }
     {
-        match &self.run {
+        match &self.running {
             None => refusal_off(self.last, event),
-            Some(run) => run.refusal(config, event),
+            Some(running) => running.refusal(config, event),
         }
     }
 
@@ -193,14 +193,14 @@ impl Node {
         ensures err { IfErr result (λ why. why ≡ Refusal.NoMemory) }
         ensures crash { IfErr result (λ _. event.now ≡ Event.Crash → ⊥) }
     {
-        match &self.run {
+        match &self.running {
             None => {
                 let now = moment_of(event);
                 Ok(Change::boot(self.alloc, config, self_id, self.last, now)?)
             }
-            Some(run) => {
-                run.tells_invariant();
-                Ok(Change::of(config, self.last, run, event)?)
+            Some(running) => {
+                running.tells_invariant();
+                Ok(Change::of(config, self.last, running, event)?)
             }
         }
     }
@@ -214,14 +214,14 @@ impl Node {
         ensures err { IfErr result (λ why. (t : Table)
             → why ≡ unwrap_or (refusal_of t self.now (Event.Hear message.now)) Refusal.NoMemory) }
     {
-        let Some(run) = &self.run else {
+        let Some(running) = &self.running else {
             return Err(Refusal::Off);
         };
-        if let Some(why) = run.refusal_to_hear(message) {
+        if let Some(why) = running.refusal_to_hear(message) {
             return Err(why);
         }
-        run.tells_invariant();
-        Ok(Change::hear(config, self.last, run, message)?)
+        running.tells_invariant();
+        Ok(Change::hear(config, self.last, running, message)?)
     }
 
     /// What an operation that comes by itself would do, as [`Node::prepare`] of that event, without a copy of the
@@ -234,14 +234,14 @@ impl Node {
             → why
             ≡ unwrap_or (refusal_of t self.now (Event.HearOp operation.now)) Refusal.NoMemory) }
     {
-        let Some(run) = &self.run else {
+        let Some(running) = &self.running else {
             return Err(Refusal::Off);
         };
-        if let Some(why) = run.refusal_to_hear_op(operation) {
+        if let Some(why) = running.refusal_to_hear_op(operation) {
             return Err(why);
         }
-        run.tells_invariant();
-        Ok(Change::hear_op(self.last, run, operation)?)
+        running.tells_invariant();
+        Ok(Change::hear_op(self.last, running, operation)?)
     }
 
     /// Does what was prepared, and gives the reply. It is a step of the event where this node prepared the change, and
@@ -252,15 +252,15 @@ impl Node {
         ensures new { OnOk result (self.new ≡ changed self.old change) }
         ensures reply { IfOk result (λ reply. reply ≡ change.reply) }
         ensures unchanged { OnErr result (self.new ≡ self.old) }
-        ensures off { IfErr result (λ _. (changed self.old change).run ≡ None → ⊥) }
+        ensures off { IfErr result (λ _. (changed self.old change).running ≡ None → ⊥) }
     {
         let Change { last, after, reply } = change;
         match after {
             After::Off => self.go_off(),
-            After::Boots(run) => self.come_up(run),
+            After::Boots(running) => self.come_up(running),
             After::GoesOn(next) => {
-                if let Some(run) = &mut self.run {
-                    run.go_on(next, &reply)?;
+                if let Some(running) = &mut self.running {
+                    running.go_on(next, &reply)?;
                 }
             }
         }
@@ -270,16 +270,16 @@ impl Node {
 
     /// Nothing runs any more.
     fn go_off(&mut self)
-        ensures { self.new ≡ record { last = self.old.last; run = None } }
+        ensures { self.new ≡ record { last = self.old.last; running = None } }
     {
-        self.run = None;
+        self.running = None;
     }
 
     /// This runs from now on.
-    fn come_up(&mut self, run: Box<Running, Global>)
-        ensures { self.new ≡ record { last = self.old.last; run = Some run.value } }
+    fn come_up(&mut self, running: Box<Running, Global>)
+        ensures { self.new ≡ record { last = self.old.last; running = Some running.value } }
     {
-        self.run = Some(Box::into_inner(run));
+        self.running = Some(Box::into_inner(running));
     }
 }
 

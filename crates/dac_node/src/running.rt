@@ -12,7 +12,7 @@ ghost use Rattle.dac_model_node.specs.EventRefusals.{refusal_to_tick as refused_
 ghost use Rattle.dac_model_node.specs.Step.{up};
 
 use crate::knowledge::{Knowledge, covers, is_below};
-use crate::next::Next;
+use crate::advance::Advance;
 use dac_base::{MAX_COUNTER, NoMemory, NodeId};
 use dac_config::Config;
 use dac_deltas::Buffer;
@@ -43,14 +43,14 @@ impl Drop for Running {
 }
 
 impl Model for Running {
-    ghost use Rattle.dac_model_node.specs.NodeValue.{RunValue, coded_run};
-    ghost use Rattle.dac_node.specs.Knowing.{run_of};
+    ghost use Rattle.dac_model_node.specs.NodeValue.{RunningValue, coded_running};
+    ghost use Rattle.dac_node.specs.Knowing.{running_of};
 
-    ghost Value = { RunValue };
+    ghost Value = { RunningValue };
 
-    ghost coded = { coded_run };
+    ghost coded = { coded_running };
 
-    ghost view = { λ a. run_of a.knowledge a.buffer };
+    ghost view = { λ a. running_of a.knowledge a.buffer };
 }
 
 impl Running {
@@ -94,16 +94,16 @@ impl Running {
     }
 
     /// A controller that comes up as this incarnation at this moment, and the operation that says so.
-    pub(crate) fn boot(
+    pub(crate) fn new(
         alloc: Global,
         config: &Config,
         origin: Origin,
         now: u64,
     ) -> Result<(Self, Op), NoMemory>
-        ensures run { IfOk result (λ both. both.0 ≡ booted config.now origin now) }
+        ensures running { IfOk result (λ both. both.0 ≡ booted config.now origin now) }
         ensures operation { IfOk result (λ both. both.1 ≡ up origin) }
     {
-        let (knowledge, operation, delta) = Knowledge::boot(alloc, config, origin, now)?;
+        let (knowledge, operation, delta) = Knowledge::at_boot(alloc, config, origin, now)?;
         let mut buffer = Buffer::new(alloc);
         buffer.push(delta)?;
         Ok((Running { knowledge, buffer }, operation))
@@ -111,7 +111,7 @@ impl Running {
 
     /// Goes on so, with this reply. Where memory is refused for the deltas that come, all is as before. An interval that
     /// the reply ships is remembered.
-    pub(crate) fn go_on(&mut self, next: Next, reply: &Reply) -> Result<(), NoMemory>
+    pub(crate) fn go_on(&mut self, next: Advance, reply: &Reply) -> Result<(), NoMemory>
         requires numbers { self.old.kept.count + length next.deltas ≤ LAST_NUMBER }
         requires ships { ShipsOwnIn (Some self.old) reply.now }
         ensures ok { OnOk result (self.new ≡ gone_on next self.old) }
@@ -261,7 +261,7 @@ impl Running {
     }
 
     /// What goes on after a command that isn't refused, and the operation that it issues.
-    pub(crate) fn command(&self, config: &Config, command: Command) -> Result<(Next, Op), NoMemory>
+    pub(crate) fn command(&self, config: &Config, command: Command) -> Result<(Advance, Op), NoMemory>
         requires { refused_command config.now self.now.origin self.now.state command ≡ None }
         ensures next { IfOk result (λ both. both.0
             ≡ adding (knowledge_of self.now) (meaning_of (both.1 ∷ []) ∷ []) self.now.peers) }
@@ -277,7 +277,7 @@ impl Running {
     }
 
     /// What goes on after an operation of its own.
-    fn issue(&self, operation: &Op) -> Result<Next, NoMemory>
+    fn issue(&self, operation: &Op) -> Result<Advance, NoMemory>
         ensures { IfOk result (λ next. next
             ≡ adding (knowledge_of self.now) (meaning_of (operation.now ∷ []) ∷ [])
             self.now.peers) }

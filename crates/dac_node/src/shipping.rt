@@ -8,13 +8,13 @@ ghost use Rattle.dac_model_node.specs.Deeds.{body_from, message_of, hears_messag
 ghost use Rattle.dac_node.specs.Knowing.{adding, hearing, knowledge_of};
 ghost use Rattle.dac_node.specs.After.{next_by};
 
-use crate::next::Next;
+use crate::advance::Advance;
 use crate::running::Running;
 use dac_base::{NoMemory, NodeId};
 use dac_config::Config;
 use dac_lattice::Lattice;
 use dac_messages::{Body, Message};
-use dac_peers::Place;
+use dac_peers::Position;
 use dac_state::{Op, State};
 
 impl Running {
@@ -29,20 +29,20 @@ impl Running {
             .is_up_to_date(&known.state, self.buffer.base(), self.buffer.count(), to)
     }
 
-    /// What is shipped from a place on: nothing where the node has all, else the interval from there. It is the whole
-    /// state where there is no place to begin.
-    fn body_from(&self, from: Option<Place>) -> Result<Body, NoMemory>
-        requires { IfSome from (λ place. self.now.kept.base ≤ place.number) }
+    /// What is shipped from a position on: nothing where the node has all, else the interval from there. It is the
+    /// whole state where there is no position to begin.
+    fn body_from(&self, from: Option<Position>) -> Result<Body, NoMemory>
+        requires { IfSome from (λ position. self.now.kept.base ≤ position.number) }
         ensures { IfOk result (λ body. body ≡ body_from self.now from) }
     {
-        let Some(place) = from else {
+        let Some(position) = from else {
             let state = self.knowledge.state.copy()?;
             return Ok(Body::Whole(state));
         };
-        if self.buffer.count() <= place.number {
+        if self.buffer.count() <= position.number {
             return Ok(Body::Nothing);
         }
-        match self.buffer.interval(place.number)? {
+        match self.buffer.interval(position.number)? {
             Some(state) => Ok(Body::Interval(state)),
             None => unreachable!(),
         }
@@ -59,12 +59,12 @@ impl Running {
             from: known.origin,
             to,
             only: match from {
-                Some(place) => Some(place.inc),
+                Some(position) => Some(position.inc),
                 None => None,
             },
             up_to: self.buffer.count(),
             body,
-            ack: known.peers.receipt(to),
+            ack: known.peers.ack_for(to),
         })
     }
 
@@ -79,22 +79,22 @@ impl Running {
         };
         let known = &self.knowledge;
         let base = self.buffer.base();
-        if let Some(place) = known.peers.begins(&known.state, base, message.to) {
+        if let Some(position) = known.peers.begins(&known.state, base, message.to) {
             if let Ok(joined) = state.copy() {
-                self.buffer.remember(place.number, joined);
+                self.buffer.remember(position.number, joined);
             }
         }
     }
 
     /// What goes on once a node was shipped to: it is owed no answer any more.
-    pub(crate) fn shipped_to(&self, to: NodeId) -> Result<Next, NoMemory>
+    pub(crate) fn shipped_to(&self, to: NodeId) -> Result<Advance, NoMemory>
         ensures { IfOk result
             (λ next. next ≡ adding (knowledge_of self.now) [] (shipped_to self.now.peers to)) }
     {
         let known = &self.knowledge;
         let peers = known.peers.shipped_to(to)?;
         let knowledge = known.with_peers(peers)?;
-        Ok(Next {
+        Ok(Advance {
             knowledge,
             deltas: Vec::new(known.alloc),
             trim: 0,
@@ -102,7 +102,7 @@ impl Running {
     }
 
     /// What goes on after a message is heard. What all other nodes have acknowledged by then is kept no longer.
-    pub(crate) fn hear(&self, config: &Config, message: &Message) -> Result<Next, NoMemory>
+    pub(crate) fn after_message(&self, config: &Config, message: &Message) -> Result<Advance, NoMemory>
         ensures { IfOk result
             (λ next. next ≡ next_by self.now [] (hears_message config.now self.now message.now)) }
     {
@@ -115,7 +115,7 @@ impl Running {
     }
 
     /// What goes on after one operation is heard that comes by itself, and whether it is new.
-    pub(crate) fn hear_op(&self, operation: &Op) -> Result<(Next, bool), NoMemory>
+    pub(crate) fn after_operation(&self, operation: &Op) -> Result<(Advance, bool), NoMemory>
         ensures next { IfOk result (λ both. both.0
             ≡ hearing (knowledge_of self.now) (meaning_of (operation.now ∷ [])) self.now.peers) }
         ensures fresh { IfOk result

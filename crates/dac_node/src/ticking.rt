@@ -6,7 +6,7 @@ ghost use Rattle.dac_meaning.specs.StateValue.{join};
 ghost use Rattle.dac_messages.specs.declared.event.Event.TheVariants.{Tick};
 ghost use Rattle.dac_decide.specs.FailoverWait.{Note, waits_of};
 ghost use Rattle.dac_model_node.specs.dac_ticks.Ticks.{turn_of};
-ghost use Rattle.dac_model_node.specs.dac_ticks.Progress.{IsMade};
+ghost use Rattle.dac_model_node.specs.dac_ticks.TurnSoFar.{IsMade};
 ghost use Rattle.dac_model_node.specs.EventRefusals.{refusal_to_tick, too_few_left};
 ghost use Rattle.dac_model_node.specs.Deeds.{meanings, opening_at};
 ghost use Rattle.dac_node.specs.Knowing.{ticking};
@@ -14,26 +14,26 @@ ghost use Rattle.dac_node.specs.Changes.{Effect};
 
 use crate::change::{After, Change};
 use crate::knowledge::Knowledge;
-use crate::next::Next;
+use crate::advance::Advance;
 use crate::running::Running;
 use dac_base::NoMemory;
 use dac_config::Config;
 use dac_decide::{Moments, Opening, Waits, gate};
 use dac_lattice::Lattice;
 use dac_messages::Reply;
-use dac_model_node::dac_ticks::{Turn, tick as turn};
+use dac_model_node::dac_ticks::{Turn, turn_of};
 use dac_state::{Op, State};
 use std::alloc::Global;
 use std::sync::Arc;
 
 /// What a tick that isn't refused does at a running controller. Where it gives up, that takes no memory.
-pub(crate) fn tick(config: &Config, last: u64, run: &Running, now: u64) -> Result<Change, NoMemory>
-    requires { refusal_to_tick config.now run.now now ≡ None }
-    ensures { IfOk result (Effect config.now last run.now (Tick now)) }
+pub(crate) fn tick(config: &Config, last: u64, running: &Running, now: u64) -> Result<Change, NoMemory>
+    requires { refusal_to_tick config.now running.now now ≡ None }
+    ensures { IfOk result (Effect config.now last running.now (Tick now)) }
 {
-    match run.opening(config, now) {
+    match running.opening(config, now) {
         Opening::Shut => {
-            let next = run.knowledge.held_tick(now)?;
+            let next = running.knowledge.held_tick(now)?;
             Ok(Change::going_on(last, next, Reply::Held))
         }
         Opening::GiveUp => Ok(Change {
@@ -41,18 +41,18 @@ pub(crate) fn tick(config: &Config, last: u64, run: &Running, now: u64) -> Resul
             after: After::Off,
             reply: Reply::GaveUp,
         }),
-        Opening::Opened => look_after(config, last, run, now),
+        Opening::Opened => open_tick(config, last, running, now),
     }
 }
 
 /// What a tick that isn't refused does where the start gate is open.
-fn look_after(config: &Config, last: u64, run: &Running, now: u64) -> Result<Change, NoMemory>
-    requires accepted { refusal_to_tick config.now run.now now ≡ None }
-    requires open { opening_at config.now run.now now ≡ Opening.Opened }
-    ensures { IfOk result (Effect config.now last run.now (Tick now)) }
+fn open_tick(config: &Config, last: u64, running: &Running, now: u64) -> Result<Change, NoMemory>
+    requires accepted { refusal_to_tick config.now running.now now ≡ None }
+    requires open { opening_at config.now running.now now ≡ Opening.Opened }
+    ensures { IfOk result (Effect config.now last running.now (Tick now)) }
 {
-    let known = &run.knowledge;
-    let (waits, turn) = known.look_after(config, now)?;
+    let known = &running.knowledge;
+    let (waits, turn) = known.note_and_turn(config, now)?;
     let Turn { ops, passed, left } = turn;
     let deltas = deltas_of(known.alloc, ops.as_slice())?;
     let noted = Arc::new(known.alloc, waits)?;
@@ -89,7 +89,7 @@ impl Running {
 
 impl Knowledge {
     /// What is noted by a tick at this moment, and what the applications come to by it.
-    fn look_after(&self, config: &Config, now: u64) -> Result<(Waits, Turn), NoMemory>
+    fn note_and_turn(&self, config: &Config, now: u64) -> Result<(Waits, Turn), NoMemory>
         requires { too_few_left config.now self.now.state self.now.origin ≡ false }
         ensures noted { IfOk result (λ both. (notes : List Note)
             → self.now.waits ≡ waits_of config.now notes
@@ -100,12 +100,12 @@ impl Knowledge {
     {
         let mut waits = self.waits.copy()?;
         waits.note(config, &self.state, now);
-        let turn = turn(self.alloc, config, self.origin, &self.state, &waits, now)?;
+        let turn = turn_of(self.alloc, config, self.origin, &self.state, &waits, now)?;
         Ok((waits, turn))
     }
 
-    /// What goes on after a tick at this moment that finds the gate shut.
-    fn held_tick(&self, now: u64) -> Result<Next, NoMemory>
+    /// What goes on after a tick at this moment that finds the start gate shut.
+    fn held_tick(&self, now: u64) -> Result<Advance, NoMemory>
         requires { self.now.moments.last ≤ now }
         ensures { IfOk result (λ next. next ≡ ticking self.now now false self.now.waits []) }
     {
@@ -130,8 +130,8 @@ impl Knowledge {
         }
     }
 
-    /// What goes on after a tick at this moment. The gate is so, so much is noted, and the claims' deltas left this
-    /// state.
+    /// What goes on after a tick at this moment. The start gate is so, so much is noted, and the claims' deltas left
+    /// this state.
     fn after_tick(
         &self,
         now: u64,
@@ -139,7 +139,7 @@ impl Knowledge {
         waits: Arc<Waits, Global>,
         state: Arc<State, Global>,
         deltas: Vec<State>,
-    ) -> Result<Next, NoMemory>
+    ) -> Result<Advance, NoMemory>
         requires order { self.now.moments.last ≤ now }
         requires grown { arc_value state ≡ fold join self.now.state deltas.items }
         ensures { IfOk result
@@ -158,7 +158,7 @@ impl Knowledge {
             state,
             peers,
         };
-        Ok(Next {
+        Ok(Advance {
             knowledge,
             deltas,
             trim: 0,

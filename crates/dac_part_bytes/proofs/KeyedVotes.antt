@@ -12,7 +12,7 @@ use Rattle.dac_dots.specs.Dots.{Dots, dot_cmp}
 use Rattle.dac_dots.specs.laws.Dots.{dots_total, exact_dots}
 use Rattle.dac_lattice.specs.declared.flags.Flag.{Flag}
 use Rattle.dac_lattice.specs.Chains.{IsAny}
-use Rattle.dac_lattice.specs.Lattices.{IsIn}
+use Rattle.dac_lattice.specs.Lattices.{IsOptionOf}
 use Rattle.dac_lattice.specs.Maps.{IsMap}
 use Rattle.dac_store.specs.DotFuns.{is_empty_list}
 use Rattle.dac_store.specs.DotMaps.{store_at, IsKept}
@@ -32,7 +32,7 @@ not_none : {X : Type 0} (xs : List X) → is_empty_list xs ≡ false → 1 ≤ l
 not_none [] e = absurd (true≢false e)
 not_none (x ∷ xs) e = omega arith
 
-any_flag : (v : Option Flag) → IsIn {T = Flag} IsAny v
+any_flag : (v : Option Flag) → IsOptionOf {T = Flag} IsAny v
 any_flag None = tt
 any_flag (Some f) = tt
 

@@ -1,4 +1,4 @@
--- Reading the parts of a state from left to right, with the first fault that is met and its place. The names in them
+-- Reading the parts of a state from left to right, with the first fault that is met and its offset. The names in them
 -- are those of a configuration, and the dots that stand are among those that are known.
 use Rattle.std.specs.Prelude.{ℕ, zero, suc, ◌-◌, ◌^◌, Bool, ◌==◌, List, Option, Some, None, is_some, Ok, nat_lt, if◌then◌else◌}
 use Rattle.std.specs.Int.{w8, w16, w32}

@@ -6,7 +6,7 @@
 //!
 //! A count that doesn't fit its field is written by its lowest bits.
 //!
-//! Each call that reads answers the part and what is after it, or the first fault from left to right with its place.
+//! Each call that reads answers the part and what is after it, or the first fault from left to right with its offset.
 //! It does so exactly as the reading functions of `specs/Reading` say. Only `NoMemory`, at 0, may come in place of
 //! either. The names are those of a configuration, and the dots that stand are known. The contract of each call that
 //! reads says that what is read is spelled so and is in the form of `specs/ChainForm` and `specs/KeyedForm`. It also

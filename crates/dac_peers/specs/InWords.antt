@@ -9,8 +9,8 @@ use Rattle.dac_chains.specs.declared.lives.Life.{Life}
 use Rattle.dac_messages.specs.StateValue.{StateValue}
 use Rattle.dac_messages.specs.declared.message.Body.TheVariants.{Nothing}
 use Rattle.dac_messages.specs.declared.message.Message.{Message}
-use Rattle.dac_peers.specs.declared.places.Place.{Place}
-use Rattle.dac_peers.specs.Peers.{PeersValue, no_peers, begins, receipt, is_up_to_date, shipped_to, heard_from, acked_by_all}
+use Rattle.dac_peers.specs.declared.positions.Position.{Position}
+use Rattle.dac_peers.specs.Peers.{PeersValue, no_peers, begins, ack_for, is_up_to_date, shipped_to, heard_from, acked_by_all}
 
 -- ---- what a node has
 -- as its present incarnation, which is that of its life, the node acknowledged so many deltas
@@ -32,21 +32,21 @@ abbrev pub NothingIsKept : Type 0
 NothingIsKept = HasNothing no_peers
 
 -- ---- from where is shipped
--- the present incarnation of the node acknowledged all deltas before this place, and those from there on are kept
-pub record IsBegin (p : PeersValue) (s : StateValue) (base : ℕ) (to : NodeId) (place : Place) : Type 0 where
-  pub acked : HasAcked p s to place.number
-  pub present : place.inc ≡ acked.life.inc
-  pub kept : base ≤ place.number
+-- the present incarnation of the node acknowledged all deltas before this position, and those from there on are kept
+pub record IsBegin (p : PeersValue) (s : StateValue) (base : ℕ) (to : NodeId) (position : Position) : Type 0 where
+  pub acked : HasAcked p s to position.number
+  pub present : position.inc ≡ acked.life.inc
+  pub kept : base ≤ position.number
 
 -- an interval begins there and nowhere else
 abbrev pub BeginsWhereAcked : Type 0
-BeginsWhereAcked = (p : PeersValue) (s : StateValue) (base : ℕ) (to : NodeId) (place : Place)
-    → (begins p s base to ≡ Some place) ↔ IsBegin p s base to place
+BeginsWhereAcked = (p : PeersValue) (s : StateValue) (base : ℕ) (to : NodeId) (position : Position)
+    → (begins p s base to ≡ Some position) ↔ IsBegin p s base to position
 
 -- what is acknowledged is what was got last
-abbrev pub ReceiptsAreGot : Type 0
-ReceiptsAreGot = (p : PeersValue) (node : NodeId) (origin : Origin) (n : ℕ)
-    → (receipt p node ≡ Some (origin, n)) ↔ ((origin.node ≡ node) × (map.get p.got node ≡ Some (record { inc = origin.inc; number = n })))
+abbrev pub AcksAreGot : Type 0
+AcksAreGot = (p : PeersValue) (node : NodeId) (origin : Origin) (n : ℕ)
+    → (ack_for p node ≡ Some (origin, n)) ↔ ((origin.node ≡ node) × (map.get p.got node ≡ Some (record { inc = origin.inc; number = n })))
 
 -- Nothing is to be shipped to a node exactly where three things hold. Its present incarnation acknowledged all, from
 -- there on all is kept, and it is owed nothing
@@ -76,25 +76,25 @@ AllHaveTheLeast = (p : PeersValue) (s : StateValue) (nodes : ℕ) (own : NodeId)
     → IsLeastOfAll p s nodes own (acked_by_all p s nodes own)
 
 -- ---- what was got
--- the first place isn't after the second: its incarnation is less, or it is the same and the number isn't greater
-abbrev pub IsUpTo : Place → Place → Type 0
+-- the first position isn't after the second: its incarnation is less, or it is the same and the number isn't greater
+abbrev pub IsUpTo : Position → Position → Type 0
 IsUpTo a b = (a.inc < b.inc) ⊎ ((a.inc ≡ b.inc) × (a.number ≤ b.number))
 
--- the place in its sender's deltas that a message brings
-abbrev pub place_of : Message → Place
-place_of m = record { inc = m.from.inc; number = m.up_to }
+-- the position in its sender's deltas that a message brings
+abbrev pub position_of : Message → Position
+position_of m = record { inc = m.from.inc; number = m.up_to }
 
 -- what was got after a message
 pub record IsOnward (p : PeersValue) (m : Message) (after : PeersValue) : Type 0 where
   -- of no node it goes back
-  pub onward : (node : NodeId) (old : Place) → map.get p.got node ≡ Some old
-      → (place : Place) × (map.get after.got node ≡ Some place) × IsUpTo old place
+  pub onward : (node : NodeId) (old : Position) → map.get p.got node ≡ Some old
+      → (position : Position) × (map.get after.got node ≡ Some position) × IsUpTo old position
   -- of the sender it is at least what the message brings
   pub reached : m.body ≢ Nothing
-      → (place : Place) × (map.get after.got m.from.node ≡ Some place) × IsUpTo (place_of m) place
-  -- each place is an old one, or the one that the message brings
-  pub only : (node : NodeId) (place : Place) → map.get after.got node ≡ Some place
-      → (map.get p.got node ≡ Some place) ⊎ ((node ≡ m.from.node) × (m.body ≢ Nothing) × (place ≡ place_of m))
+      → (position : Position) × (map.get after.got m.from.node ≡ Some position) × IsUpTo (position_of m) position
+  -- each position is an old one, or the one that the message brings
+  pub only : (node : NodeId) (position : Position) → map.get after.got node ≡ Some position
+      → (map.get p.got node ≡ Some position) ⊎ ((node ≡ m.from.node) × (m.body ≢ Nothing) × (position ≡ position_of m))
   -- no other node's changes
   pub others : (node : NodeId) → node ≢ m.from.node → map.get after.got node ≡ map.get p.got node
 
@@ -140,14 +140,14 @@ ShippedAreNotOwed = (p : PeersValue) (to : NodeId) → IsShipped p to (shipped_t
 
 -- ---- how much is acknowledged
 -- no incarnation acknowledged more deltas than there are
-abbrev pub IsWithin : ℕ → PeersValue → Type 0
-IsWithin count p = (origin : Origin) (n : ℕ) → map.get p.acked origin ≡ Some n → n ≤ count
+abbrev pub AcknowledgesAtMost : ℕ → PeersValue → Type 0
+AcknowledgesAtMost count p = (origin : Origin) (n : ℕ) → map.get p.acked origin ≡ Some n → n ≤ count
 
 -- so an interval never begins after the last delta
 pub record AcksAreWithin : Type 0 where
-  pub none : IsWithin 0 no_peers
-  pub heard : (own : Origin) (count : ℕ) (p : PeersValue) (m : Message) → IsWithin count p
-      → IsWithin count (heard_from own count p m)
-  pub shipped : (count : ℕ) (p : PeersValue) (to : NodeId) → IsWithin count p → IsWithin count (shipped_to p to)
-  pub begun : (count : ℕ) (p : PeersValue) (s : StateValue) (base : ℕ) (to : NodeId) (place : Place) → IsWithin count p
-      → begins p s base to ≡ Some place → place.number ≤ count
+  pub none : AcknowledgesAtMost 0 no_peers
+  pub heard : (own : Origin) (count : ℕ) (p : PeersValue) (m : Message) → AcknowledgesAtMost count p
+      → AcknowledgesAtMost count (heard_from own count p m)
+  pub shipped : (count : ℕ) (p : PeersValue) (to : NodeId) → AcknowledgesAtMost count p → AcknowledgesAtMost count (shipped_to p to)
+  pub begun : (count : ℕ) (p : PeersValue) (s : StateValue) (base : ℕ) (to : NodeId) (position : Position) → AcknowledgesAtMost count p
+      → begins p s base to ≡ Some position → position.number ≤ count

@@ -12,25 +12,25 @@ use Rattle.dac_dots.specs.Dots.{coded_origin}
 use Rattle.dac_deltas.specs.Numbers.{Numbers, raised}
 use Rattle.dac_chains.specs.declared.lives.Life.{Life}
 use Rattle.dac_messages.specs.StateValue.{StateValue}
-use Rattle.dac_peers.specs.declared.places.Place.{Place}
+use Rattle.dac_peers.specs.declared.positions.Position.{Position}
 use Rattle.dac_messages.specs.declared.message.Body.{Body}
 use Rattle.dac_messages.specs.declared.message.Body.TheVariants.{Nothing}
 use Rattle.dac_messages.specs.declared.message.Message.{Message}
 
--- Of each incarnation of another node, how many of the own deltas it acknowledged. Of each node, the place in its
+-- Of each incarnation of another node, how many of the own deltas it acknowledged. Of each node, the position in its
 -- deltas up to which something was got from it last. Beside these, the nodes that are owed an answer.
 pub record PeersValue : Type 0 where
   pub acked : Numbers
-  pub got : map.FinMap node_cmp Place
+  pub got : map.FinMap node_cmp Position
   pub owed : set.FinSet node_cmp
 
-abbrev pub coded_place : Coded Place
-coded_place = code_by (ℕ × ℕ) (coded× coded_ℕ coded_ℕ) (λ p. (p.inc, p.number))
+abbrev pub coded_position : Coded Position
+coded_position = code_by (ℕ × ℕ) (coded× coded_ℕ coded_ℕ) (λ p. (p.inc, p.number))
     (λ p. record { inc = p.0; number = p.1 }) (λ _. refl)
 
 abbrev pub coded_peers : Coded PeersValue
 coded_peers =
-    code_by (Numbers × (map.FinMap node_cmp Place × set.FinSet node_cmp)) (coded× (map.code coded_origin coded_ℕ) (coded× (map.code coded_node coded_place) (set.code coded_node)))
+    code_by (Numbers × (map.FinMap node_cmp Position × set.FinSet node_cmp)) (coded× (map.code coded_origin coded_ℕ) (coded× (map.code coded_node coded_position) (set.code coded_node)))
     (λ p. (p.acked, (p.got, p.owed)))
     (λ p. record { acked = p.0; got = p.1.0; owed = p.1.1 })
     (λ _. refl)
@@ -41,31 +41,31 @@ no_peers = record { acked = map.empty; got = map.empty; owed = set.empty }
 
 -- ---- what was acknowledged
 -- how many deltas an incarnation of a node acknowledged, if it acknowledged any
-abbrev pub acked_by : PeersValue → NodeId → Life → Option Place
+abbrev pub acked_by : PeersValue → NodeId → Life → Option Position
 acked_by p node life = option_map (λ (n : ℕ). record { inc = life.inc; number = n })
     (map.get p.acked (record { node = node; inc = life.inc }))
 
 -- how many deltas a node acknowledged, as the incarnation that has its greatest life
-abbrev pub acked_at : PeersValue → StateValue → NodeId → Option Place
+abbrev pub acked_at : PeersValue → StateValue → NodeId → Option Position
 acked_at p s node = option_and_then (acked_by p node) (map.get s.lives node)
 
 -- ---- from where is shipped
--- the place, unless deltas from there on are no longer kept
-abbrev pub kept_from : ℕ → Option Place → Option Place
+-- the position, unless deltas from there on are no longer kept
+abbrev pub kept_from : ℕ → Option Position → Option Position
 kept_from base None = None
 kept_from base (Some p) = cond (nat_le base p.number) (Some p) None
 
 -- from where an interval for a node begins, and the incarnation that it is for; none where the whole state
 -- has to be shipped
-abbrev pub begins : PeersValue → StateValue → ℕ → NodeId → Option Place
+abbrev pub begins : PeersValue → StateValue → ℕ → NodeId → Option Position
 begins p s base to = kept_from base (acked_at p s to)
 
 -- what was got from a node last, as it is acknowledged
-abbrev pub receipt : PeersValue → NodeId → Option (Origin × ℕ)
-receipt p node = option_map (λ (g : Place). (record { node = node; inc = g.inc }, g.number)) (map.get p.got node)
+abbrev pub ack_for : PeersValue → NodeId → Option (Origin × ℕ)
+ack_for p node = option_map (λ (g : Position). (record { node = node; inc = g.inc }, g.number)) (map.get p.got node)
 
 -- the node has acknowledged all deltas, of which there are so many
-abbrev pub has_all : ℕ → Option Place → Bool
+abbrev pub has_all : ℕ → Option Position → Bool
 has_all count None = false
 has_all count (Some p) = nat_le count p.number
 
@@ -78,12 +78,12 @@ abbrev pub shipped_to : PeersValue → NodeId → PeersValue
 shipped_to p to = record { acked = p.acked; got = p.got; owed = set.remove p.owed to }
 
 -- ---- what is heard
--- the later of two places: that of the greater incarnation, and of one incarnation the greater number
-abbrev pub later : Place → Place → Place
+-- the later of two positions: that of the greater incarnation, and of one incarnation the greater number
+abbrev pub later : Position → Position → Position
 later old new = cond (nat_lt old.inc new.inc) new
     (cond (nat_eq old.inc new.inc) (record { inc = old.inc; number = max old.number new.number }) old)
 
-abbrev pub got_after : Option Place → Place → Place
+abbrev pub got_after : Option Position → Position → Position
 got_after None new = new
 got_after (Some old) new = later old new
 
@@ -125,7 +125,7 @@ lesser (Some least) n = Some (min least n)
 
 -- how many deltas a node acknowledged, 0 where it acknowledged none
 abbrev pub number_acked : PeersValue → StateValue → NodeId → ℕ
-number_acked p s node = unwrap_or (option_map (λ (g : Place). g.number) (acked_at p s node)) 0
+number_acked p s node = unwrap_or (option_map (λ (g : Position). g.number) (acked_at p s node)) 0
 
 -- how many deltas each of the other nodes acknowledged, 0 where there are no others
 abbrev pub acked_by_all : PeersValue → StateValue → ℕ → NodeId → ℕ

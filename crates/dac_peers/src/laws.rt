@@ -1,7 +1,7 @@
 //! The laws of what is kept of peers, as the contract of a function that does nothing.
 //!
 //! A proof that needs a law calls it. It takes nothing and answers nothing.
-ghost use Rattle.dac_peers.specs.InWords.{NothingIsKept, BeginsWhereAcked, ReceiptsAreGot, UpToDateHaveAll, AllHaveTheLeast, GotGoesOnward, AckedIsGreatest, HeardAreOwed, ShippedAreNotOwed, AcksAreWithin};
+ghost use Rattle.dac_peers.specs.InWords.{NothingIsKept, BeginsWhereAcked, AcksAreGot, UpToDateHaveAll, AllHaveTheLeast, GotGoesOnward, AckedIsGreatest, HeardAreOwed, ShippedAreNotOwed, AcksAreWithin};
 
 /// What is kept of peers, in words.
 ///
@@ -16,7 +16,7 @@ ghost use Rattle.dac_peers.specs.InWords.{NothingIsKept, BeginsWhereAcked, Recei
 pub fn peers_in_words()
     ensures new { NothingIsKept }
     ensures begins { BeginsWhereAcked }
-    ensures receipt { ReceiptsAreGot }
+    ensures acks { AcksAreGot }
     ensures up_to_date { UpToDateHaveAll }
     ensures all { AllHaveTheLeast }
     ensures kept { GotGoesOnward }

@@ -7,9 +7,9 @@
 #![tactic(auto)]
 
 pub use peers::Peers;
-pub use places::Place;
+pub use positions::Position;
 
 pub mod laws;
 mod nodes;
 mod peers;
-mod places;
+mod positions;

@@ -1,9 +1,9 @@
 //! What a controller keeps of its peers.
 ghost use Rattle.std.specs.Prelude.{◌≡◌, IfOk, Some};
-ghost use Rattle.dac_peers.specs.Peers.{no_peers, acked_at, begins, receipt, is_up_to_date, shipped_to, counts, lesser, acked_after, got_by, heard_from, number_acked, acked_by_all};
+ghost use Rattle.dac_peers.specs.Peers.{no_peers, acked_at, begins, ack_for, is_up_to_date, shipped_to, counts, lesser, acked_after, got_by, heard_from, number_acked, acked_by_all};
 
 use crate::nodes::NodeSet;
-use crate::places::{Place, Places};
+use crate::positions::{Position, Positions};
 use dac_base::{NoMemory, NodeId};
 use dac_deltas::Acks;
 use dac_dots::Origin;
@@ -29,10 +29,11 @@ fn lesser(least: Option<u64>, number: u64) -> u64
 }
 
 /// What a controller keeps of its peers: how many of its own deltas each of their incarnations acknowledged. It also
-/// keeps the latest place in the deltas of each node up to which it got something, and which nodes it owes an answer.
+/// keeps the latest position in the deltas of each node up to which it got something, and which nodes it owes an
+/// answer.
 pub struct Peers {
     acks: Acks,
-    got: Places,
+    got: Positions,
     owed: NodeSet,
 }
 
@@ -64,7 +65,7 @@ impl Peers {
     {
         Peers {
             acks: Acks::new(alloc),
-            got: Places::new(alloc),
+            got: Positions::new(alloc),
             owed: NodeSet::new(alloc),
         }
     }
@@ -80,38 +81,38 @@ impl Peers {
     }
 
     /// How many deltas a node acknowledged, as the incarnation that has its greatest life.
-    fn acked_at(&self, state: &State, node: NodeId) -> Option<Place>
+    fn acked_at(&self, state: &State, node: NodeId) -> Option<Position>
         ensures { result ≡ acked_at self.now state.now node }
     {
         let inc = state.lives().greatest_life(node)?.inc;
         let number = self.acks.get(Origin { node, inc })?;
-        Some(Place { inc, number })
+        Some(Position { inc, number })
     }
 
     /// From where an interval for a node begins, and the incarnation that it is for, where deltas from `base`
     /// on are kept. There is none where the whole state has to be shipped.
-    pub fn begins(&self, state: &State, base: u64, to: NodeId) -> Option<Place>
+    pub fn begins(&self, state: &State, base: u64, to: NodeId) -> Option<Position>
         ensures { result ≡ begins self.now state.now base to }
     {
-        let place = self.acked_at(state, to)?;
-        if base <= place.number {
-            Some(place)
+        let position = self.acked_at(state, to)?;
+        if base <= position.number {
+            Some(position)
         } else {
             None
         }
     }
 
-    /// The latest place up to which something was got from a node, as it is acknowledged. It is which of its
+    /// The latest position up to which something was got from a node, as it is acknowledged. It is which of its
     /// incarnations it came from, and how many deltas that one had then.
-    pub fn receipt(&self, node: NodeId) -> Option<(Origin, u64)>
-        ensures { result ≡ receipt self.now node }
+    pub fn ack_for(&self, node: NodeId) -> Option<(Origin, u64)>
+        ensures { result ≡ ack_for self.now node }
     {
-        let place = self.got.get(node)?;
+        let position = self.got.get(node)?;
         let origin = Origin {
             node,
-            inc: place.inc,
+            inc: position.inc,
         };
-        Some((origin, place.number))
+        Some((origin, position.number))
     }
 
     /// Whether nothing is to be shipped to a node: it has acknowledged all deltas, of which there are `count`, and
@@ -120,7 +121,7 @@ impl Peers {
         ensures { result ≡ is_up_to_date self.now state.now base count to }
     {
         match self.begins(state, base, to) {
-            Some(place) => count <= place.number && !self.owed.contains(to),
+            Some(position) => count <= position.number && !self.owed.contains(to),
             None => false,
         }
     }
@@ -163,18 +164,18 @@ impl Peers {
     }
 
     /// What was got once a message is heard.
-    fn got_after(&self, message: &Message) -> Result<Places, NoMemory>
+    fn got_after(&self, message: &Message) -> Result<Positions, NoMemory>
         ensures { IfOk result (λ got. got
             ≡ (got_by self.now message.now.from message.now.up_to message.now.body).got) }
     {
         let mut got = self.got.copy()?;
         match message.body {
             Body::Whole(_) | Body::Interval(_) => {
-                let place = Place {
+                let position = Position {
                     inc: message.from.inc,
                     number: message.up_to,
                 };
-                got.raise(message.from.node, place)?;
+                got.raise(message.from.node, position)?;
                 Ok(got)
             }
             Body::Nothing => Ok(got),
@@ -201,7 +202,7 @@ impl Peers {
         ensures { result ≡ number_acked self.now state.now node }
     {
         match self.acked_at(state, node) {
-            Some(place) => place.number,
+            Some(position) => position.number,
             None => 0,
         }
     }

@@ -14,7 +14,7 @@ use Rattle.dac_events.specs.declared.WorldEvent.{WorldEvent}
 use Rattle.dac_core.specs.WorldFault.{WorldFault}
 use Rattle.dac_core.specs.NodeValue.{origin_of, state_of}
 use Rattle.dac_core.specs.WorldValue.{WorldValue}
-use Rattle.dac_core.specs.ModelNode.{ModelRun, joined, shown}
+use Rattle.dac_core.specs.ModelNode.{ModelRunning, joined, shown}
 use Rattle.dac_core.specs.ModelWorld.{ModelWorld, Shows, Follows, Done, Lacked, start, happens, out_of_memory, numbered, counted}
 use Rattle.dac_wire.specs.Decoding.{packet_at}
 use Rattle.dac_play.specs.declared.answers.Counts.{Counts}
@@ -61,16 +61,16 @@ node_shown table w v node shows lt =
     let within : node.0 < w.count = omega (arith, shows.count) in
     shows.nodes node.0 ∙ ap (λ b. cond b (Some (shown table (w.node (numbered node.0)))) None) (lt-ltb node.0 w.count within)
 
-shown_state : (table : Table) (last : ℕ) (run : Option ModelRun) → state_of (shown table (record { last = last; run = run })) ≡ option_map (λ (r : ModelRun). joined r.log) run
+shown_state : (table : Table) (last : ℕ) (running : Option ModelRunning) → state_of (shown table (record { last = last; running = running })) ≡ option_map (λ (r : ModelRunning). joined r.log) running
 shown_state table last None = refl
 shown_state table last (Some r) = refl
 
-shown_origin : (table : Table) (last : ℕ) (run : Option ModelRun) → origin_of (shown table (record { last = last; run = run })) ≡ option_map (λ (r : ModelRun). r.origin) run
+shown_origin : (table : Table) (last : ℕ) (running : Option ModelRunning) → origin_of (shown table (record { last = last; running = running })) ≡ option_map (λ (r : ModelRunning). r.origin) running
 shown_origin table last None = refl
 shown_origin table last (Some r) = refl
 
 pub state_shown : (table : Table) (w : ModelWorld) (v : WorldValue) (node : NodeId) → Shows table w v → node.0 < length v.nodes → state_at v node ≡ state_in w node
-state_shown table w v node shows lt = ap (option_and_then state_of) (node_shown table w v node shows lt) ∙ shown_state table (w.node node).last (w.node node).run
+state_shown table w v node shows lt = ap (option_and_then state_of) (node_shown table w v node shows lt) ∙ shown_state table (w.node node).last (w.node node).running
 
 pub same_plays : (table : Table) (v : WorldValue) (first second : NodeId) (text : List ℕ) → first.0 < length v.nodes → second.0 < length v.nodes
     → text ≡ compare_text (node_name table first) (node_name table second) (state_at v first) (state_at v second) → PlaysLine table v (says.Same first second) text v
@@ -79,7 +79,7 @@ same_plays table v first second text lt mt is_text = record {
 }
 
 origin_shown : (table : Table) (w : ModelWorld) (v : WorldValue) (node : NodeId) → Shows table w v → node.0 < length v.nodes → origin_at v node ≡ origin_in w node
-origin_shown table w v node shows lt = ap (option_and_then origin_of) (node_shown table w v node shows lt) ∙ shown_origin table (w.node node).last (w.node node).run
+origin_shown table w v node shows lt = ap (option_and_then origin_of) (node_shown table w v node shows lt) ∙ shown_origin table (w.node node).last (w.node node).running
 
 pub page_plays : (table : Table) (v : WorldValue) (node : NodeId) (text : List ℕ) → node.0 < length v.nodes → text ≡ shown_text table node (origin_at v node) (state_at v node) → PlaysLine table v (says.Page node) text v
 page_plays table v node text lt is_text = record { each = λ w shows. (is_text ∙ ap₂ (shown_text table node) (origin_shown table w v node shows lt) (state_shown table w v node shows lt), shows) }

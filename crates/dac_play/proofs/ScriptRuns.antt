@@ -13,7 +13,7 @@ use Rattle.dac_core.specs.laws.Headline.{converged}
 use Rattle.dac_core.specs.laws.EveryList.{own_run, is_enough}
 use Rattle.dac_script.specs.declared.line.ScriptLine.{ScriptLine}
 use Rattle.dac_script.specs.declared.line.ScriptLine.TheVariants as says
-use Rattle.dac_play.specs.Sharing.{state_in, shipping, delivered, told}
+use Rattle.dac_play.specs.Sharing.{state_in, shipping, delivered, after_telling}
 use Rattle.dac_play.specs.Play.{after_line}
 use Rattle.dac_play.specs.Runs.{deliveries, telling, pairs_in, line_events, events_from, world_from, events_in, answers_in, IsRunOf, ShareUnites, PlaysRuns}
 use Rattle.dac_play.proofs.EachOther.{tell_each_other}
@@ -28,13 +28,13 @@ delivers : (t : Table) (to : NodeId) (shipped : WorldStepped) (b : Bool) → is_
 delivers t to shipped true e = rw e refl
 delivers t to shipped false e = rw e refl
 
-tells : (t : Table) (w : ModelWorld) (all : List (NodeId × NodeId)) → run_from t w (telling t w all) ≡ fold (told t) w all
+tells : (t : Table) (w : ModelWorld) (all : List (NodeId × NodeId)) → run_from t w (telling t w all) ≡ fold (after_telling t) w all
 tells t w [] = refl
 tells t w (pair ∷ all) =
     let shipped = happens t w (shipping pair) in
-    run_from-append t shipped.world (deliveries pair.1 shipped) (telling t (told t w pair) all)
-    ∙ ap (λ v. run_from t v (telling t (told t w pair) all)) (delivers t pair.1 shipped (is_ok shipped.answer) refl)
-    ∙ tells t (told t w pair) all
+    run_from-append t shipped.world (deliveries pair.1 shipped) (telling t (after_telling t w pair) all)
+    ∙ ap (λ v. run_from t v (telling t (after_telling t w pair) all)) (delivers t pair.1 shipped (is_ok shipped.answer) refl)
+    ∙ tells t (after_telling t w pair) all
 
 -- ---- lines
 line_leads : (t : Table) (w : ModelWorld) (line : ScriptLine) → run_from t w (line_events t w line) ≡ after_line t w line

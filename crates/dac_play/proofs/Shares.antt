@@ -17,7 +17,7 @@ use Rattle.dac_core.specs.WorldValue.{WorldValue}
 use Rattle.dac_core.specs.ModelWorld.{ModelWorld, Shows, Follows, Done, Lacked, happens, out_of_memory, numbered}
 use Rattle.dac_play.specs.Pairs.{pairs, TellsEachOther}
 use Rattle.dac_play.specs.Play.{state_at, HasState, IsShared}
-use Rattle.dac_play.specs.Sharing.{state_in, having_state, shipping, delivery, told, shared, Leads, IsAnswered}
+use Rattle.dac_play.specs.Sharing.{state_in, having_state, shipping, delivery, after_telling, shared, Leads, IsAnswered}
 use Rattle.dac_play.proofs.EachOther.{tell_each_other}
 use Rattle.dac_play.proofs.Playing.{state_shown}
 
@@ -38,7 +38,7 @@ accepts_if (Ok a) table old new event answer follows known enough = subst (λ b.
 accepts_if (Err e) table old new event answer follows known enough = tt
 
 -- ---- one pair
-pub told_nothing : (table : Table) (old new : WorldValue) (pair : NodeId × NodeId) → IsAnswered table old (shipping pair) false new → Leads table old (λ w. told table w pair) new
+pub told_nothing : (table : Table) (old new : WorldValue) (pair : NodeId × NodeId) → IsAnswered table old (shipping pair) false new → Leads table old (λ w. after_telling table w pair) new
 told_nothing table old new pair shipped = record {
   each = λ w shows.
       let ship = shipped.each w shows in
@@ -46,7 +46,7 @@ told_nothing table old new pair shipped = record {
       subst (λ (b : Bool). Shows table (cond b (happens table by.world (delivery (length by.world.messages) pair.1)).world by.world) new) ship.0 ship.1;
 }
 
-pub told_one : (table : Table) (old mid new : WorldValue) (pair : NodeId × NodeId) (heard : Bool) → IsAnswered table old (shipping pair) true mid → IsAnswered table mid (delivery (length mid.messages) pair.1) heard new → Leads table old (λ w. told table w pair) new
+pub told_one : (table : Table) (old mid new : WorldValue) (pair : NodeId × NodeId) (heard : Bool) → IsAnswered table old (shipping pair) true mid → IsAnswered table mid (delivery (length mid.messages) pair.1) heard new → Leads table old (λ w. after_telling table w pair) new
 told_one table old mid new pair heard shipped delivered = record {
   each = λ w shows.
       let ship = shipped.each w shows in
@@ -57,15 +57,15 @@ told_one table old mid new pair heard shipped delivered = record {
 }
 
 -- ---- all pairs
-pub share_none : (table : Table) (v : WorldValue) (all : List (NodeId × NodeId)) → Leads table v (λ w. fold (told table) w (take 0 all)) v
+pub share_none : (table : Table) (v : WorldValue) (all : List (NodeId × NodeId)) → Leads table v (λ w. fold (after_telling table) w (take 0 all)) v
 share_none table v all = record { each = λ w shows. shows }
 
 pub share_more : (table : Table) (old mid new : WorldValue) (all : List (NodeId × NodeId)) (i : ℕ) (pair d : NodeId × NodeId) → i < length all → pair ≡ get_or all i d
-    → Leads table old (λ w. fold (told table) w (take i all)) mid → Leads table mid (λ w. told table w pair) new → Leads table old (λ w. fold (told table) w (take (i + 1) all)) new
+    → Leads table old (λ w. fold (after_telling table) w (take i all)) mid → Leads table mid (λ w. after_telling table w pair) new → Leads table old (λ w. fold (after_telling table) w (take (i + 1) all)) new
 share_more table old mid new all i pair d lt here before more = record {
   each = λ w shows.
-      let more_is = fold_more (told table) w all i d lt ∙ ap (told table (fold (told table) w (take i all))) (sym here) in
-      subst (λ x. Shows table x new) (sym more_is) (more.each (fold (told table) w (take i all)) (before.each w shows));
+      let more_is = fold_more (after_telling table) w all i d lt ∙ ap (after_telling table (fold (after_telling table) w (take i all))) (sym here) in
+      subst (λ x. Shows table x new) (sym more_is) (more.each (fold (after_telling table) w (take i all)) (before.each w shows));
 }
 
 -- ---- who runs
@@ -94,18 +94,18 @@ runs_shown : (table : Table) (w : ModelWorld) (v : WorldValue) → Shows table w
 runs_shown table w v shows = same_having (state_at v) (state_in w) (length v.nodes) (λ k lt. state_shown table w v (numbered k) shows lt) ∙ ap (having_state (state_in w)) shows.count
 
 pub share_all : (table : Table) (old new : WorldValue) (all : List (NodeId × NodeId)) (i count : ℕ) → length all ≤ i → length old.nodes ≡ count → all ≡ pairs (having_state (state_at old) count)
-    → Leads table old (λ w. fold (told table) w (take i all)) new → Leads table old (shared table) new
+    → Leads table old (λ w. fold (after_telling table) w (take i all)) new → Leads table old (shared table) new
 share_all table old new all i count le is_count is_all leads = record {
   each = λ w shows.
       let all_is = is_all ∙ ap (λ n. pairs (having_state (state_at old) n)) (sym is_count) ∙ ap pairs (runs_shown table w old shows) in
-      subst (λ l. Shows table (fold (told table) w l) new) (take_all i all le ∙ all_is) (leads.each w shows);
+      subst (λ l. Shows table (fold (after_telling table) w l) new) (take_all i all le ∙ all_is) (leads.each w shows);
 }
 
 -- the pairs are those of the nodes that run
 pub shares_all : (table : Table) (old new : WorldValue) (all : List (NodeId × NodeId)) (i count : ℕ) → length all ≤ i → length old.nodes ≡ count → all ≡ pairs (having_state (state_at old) count)
-    → Leads table old (λ w. fold (told table) w (take i all)) new → IsShared table old new
+    → Leads table old (λ w. fold (after_telling table) w (take i all)) new → IsShared table old new
 shares_all table old new all i count le is_count is_all leads = record {
   pairs = all;
   each_other = subst (TellsEachOther (HasState (state_at old) (length old.nodes))) (sym (is_all ∙ ap (λ n. pairs (having_state (state_at old) n)) (sym is_count))) (tell_each_other (λ node. is_some (state_at old node)) (length old.nodes));
-  leads = record { each = λ w shows. subst (λ l. Shows table (fold (told table) w l) new) (take_all i all le) (leads.each w shows) };
+  leads = record { each = λ w shows. subst (λ l. Shows table (fold (after_telling table) w l) new) (take_all i all le) (leads.each w shows) };
 }

@@ -25,7 +25,7 @@ use Rattle.dac_events.specs.declared.refusal.Refusal.TheVariants.{UnknownNode, O
 use Rattle.dac_events.specs.declared.world_fault.WorldFault.{WorldFault}
 use Rattle.dac_events.specs.declared.world_fault.WorldFault.TheVariants.{NoSuchNode, Refused}
 use Rattle.dac_peers.specs.Peers.{PeersValue, acked_by, begins, is_up_to_date, kept_from}
-use Rattle.dac_model_node.specs.ModelNode.{ModelNode, ModelRun, joined, run_shown, shown}
+use Rattle.dac_model_node.specs.ModelNode.{ModelNode, ModelRunning, joined, running_shown, shown}
 use Rattle.dac_model_node.specs.EventRefusals.{refusal_of, refusal_by}
 use Rattle.dac_model_node.specs.Deeds.{message_of}
 use Rattle.dac_model_node.specs.Step.{model_step, step_by}
@@ -49,7 +49,7 @@ use Rattle.dac_model_node.specs.laws.Options.{some_same}
 use Rattle.dac_chains.specs.declared.lives.Life.{Life}
 use Rattle.dac_meaning.specs.StateValue.{StateValue}
 use Rattle.dac_meaning.specs.Meaning.{meaning_of}
-use Rattle.dac_peers.specs.declared.places.Place.{Place}
+use Rattle.dac_peers.specs.declared.positions.Position.{Position}
 use Rattle.std.specs.FinMap as map
 use Rattle.std.proofs.lemmas.Bool.{and_from}
 use Rattle.std.specs.Prelude.{not, ◌&&◌, nat_le}
@@ -58,7 +58,7 @@ use Rattle.std.proofs.Common.{eq-eqb}
 use Rattle.dac_events.specs.declared.refusal.Refusal.TheVariants.{DotsUsedUp}
 use Rattle.dac_model_world.specs.laws.SharesInRuns.{all_present, shares_run}
 use Rattle.dac_model_world.specs.laws.Sound.{Sound, held_at, seen, sound_happens, sound_run, sound_start}
-use Rattle.dac_play.specs.Pairs.{In, TellsEachOther}
+use Rattle.dac_play.specs.Pairs.{IsListed, TellsEachOther}
 use Rattle.dac_play.specs.Play.{HasState}
 use Rattle.dac_play.specs.Sharing.{state_in as state_in_world, shipping, delivery, delivered}
 use Rattle.dac_play.specs.Runs.{deliveries, telling, HaveNumbers}
@@ -86,14 +86,14 @@ as_many_copies ops v (m ∷ ms) [] h = absurd h
 as_many_copies ops v (m ∷ ms) (c ∷ cs) h = ap (λ n. suc n) (as_many_copies ops v ms cs h.1)
 
 -- ---- who runs
-run_there : (w : ModelWorld) (s : SetWorld) (n : NodeId) → Sound w s → RunsIn s n → (r : ModelRun) × ((w.node n).run ≡ Some r)
-run_there w s n h runs = by_run (w.node n).run refl ((h.nodes n).state ∙ ap (option_map state_by) runs.1)
+run_there : (w : ModelWorld) (s : SetWorld) (n : NodeId) → Sound w s → RunsIn s n → (r : ModelRunning) × ((w.node n).running ≡ Some r)
+run_there w s n h runs = by_run (w.node n).running refl ((h.nodes n).state ∙ ap (option_map state_by) runs.1)
   where
-    by_run : (run : Option ModelRun) → (w.node n).run ≡ run → option_map state_in run ≡ Some (state_by runs.0) → (r : ModelRun) × ((w.node n).run ≡ Some r)
+    by_run : (running : Option ModelRunning) → (w.node n).running ≡ running → option_map state_in running ≡ Some (state_by runs.0) → (r : ModelRunning) × ((w.node n).running ≡ Some r)
     by_run None on e = none_some e
     by_run (Some r) on e = (r, on)
 
-set_there : (w : ModelWorld) (s : SetWorld) (n : NodeId) (r : ModelRun) → Sound w s → (w.node n).run ≡ Some r → RunsIn s n
+set_there : (w : ModelWorld) (s : SetWorld) (n : NodeId) (r : ModelRunning) → Sound w s → (w.node n).running ≡ Some r → RunsIn s n
 set_there w s n r h on = by_set (s.node n) refl (sym (h.nodes n).state ∙ ap (option_map state_in) on)
   where
     by_set : (o : Option NodeSet) → s.node n ≡ o → option_map state_by o ≡ Some (state_in r) → RunsIn s n
@@ -101,30 +101,30 @@ set_there w s n r h on = by_set (s.node n) refl (sym (h.nodes n).state ∙ ap (o
     by_set (Some set) at e = (set, at)
 
 -- ---- a ship between two nodes
-module _ (t : Table) (w : ModelWorld) (from to : NodeId) (r : ModelRun) (on : (w.node from).run ≡ Some r) (inside : nat_lt from.0 w.count ≡ true) (known : no_node t to ≡ false) (other : nat_eq to.0 r.origin.node.0 ≡ false) where
+module _ (t : Table) (w : ModelWorld) (from to : NodeId) (r : ModelRunning) (on : (w.node from).running ≡ Some r) (inside : nat_lt from.0 w.count ≡ true) (known : no_node t to ≡ false) (other : nat_eq to.0 r.origin.node.0 ≡ false) where
   abbrev by_ship : WorldStepped
   by_ship = happens t w (shipping (from, to))
 
-  stepped : Option Refusal → Option ModelRun → WorldStepped
-  stepped why run = let st = step_by why t from (record { last = (w.node from).last; run = run }) (Ship to) in answered_by w from st.node st.answer
+  stepped : Option Refusal → Option ModelRunning → WorldStepped
+  stepped why running = let st = step_by why t from (record { last = (w.node from).last; running = running }) (Ship to) in answered_by w from st.node st.answer
 
   abbrev IsUpOrShipped : WorldStepped → Type 0
-  IsUpOrShipped by = (by.answer ≡ Err (Refused UpToDate)) ⊎ (by.answer ≡ Ok (Shipped (message_of (run_shown t r) to)))
+  IsUpOrShipped by = (by.answer ≡ Err (Refused UpToDate)) ⊎ (by.answer ≡ Ok (Shipped (message_of (running_shown t r) to)))
 
   by_test : (b : Bool) → IsUpOrShipped (stepped (first ((b, UpToDate) ∷ [])) (Some r))
   unfolding stepped
   by_test true = inl refl
   by_test false = inr refl
 
-  why_is : refusal_of t (shown t (w.node from)) (Ship to) ≡ first ((is_up_to_date r.peers (joined r.log) (run_shown t r).kept.base (run_shown t r).kept.count to, UpToDate) ∷ [])
+  why_is : refusal_of t (shown t (w.node from)) (Ship to) ≡ first ((is_up_to_date r.peers (joined r.log) (running_shown t r).kept.base (running_shown t r).kept.count to, UpToDate) ∷ [])
   why_is =
-      ap (λ run. refusal_by t (w.node from).last (option_map (run_shown t) run) (Ship to)) on
-      ∙ (λ i. first ((known i, UnknownNode) ∷ (other i, OnSelf) ∷ (is_up_to_date r.peers (joined r.log) (run_shown t r).kept.base (run_shown t r).kept.count to, UpToDate) ∷ []))
+      ap (λ running. refusal_by t (w.node from).last (option_map (running_shown t) running) (Ship to)) on
+      ∙ (λ i. first ((known i, UnknownNode) ∷ (other i, OnSelf) ∷ (is_up_to_date r.peers (joined r.log) (running_shown t r).kept.base (running_shown t r).kept.count to, UpToDate) ∷ []))
 
   up_or_shipped : IsUpOrShipped by_ship
   unfolding stepped
   up_or_shipped =
-      let b = is_up_to_date r.peers (joined r.log) (run_shown t r).kept.base (run_shown t r).kept.count to in
+      let b = is_up_to_date r.peers (joined r.log) (running_shown t r).kept.base (running_shown t r).kept.count to in
       let is : by_ship ≡ stepped (first ((b, UpToDate) ∷ [])) (Some r) =
       (λ i. cond (inside i) (happens_by t w from (event_of w.operations w.messages (Ships to))) (record { world = w; answer = Err NoSuchNode }))
       ∙ (λ i. stepped (why_is i) (on i)) in
@@ -168,18 +168,18 @@ unites_on : (t : Table) (w : ModelWorld) (s : SetWorld) (e : WorldEvent) → Sou
 unites_on t w s e h = (unite_run t w s (e ∷ []) (answers_of t w (e ∷ [])) (run_from t w (e ∷ [])) h (own_run t w (e ∷ []))).0
 
 -- the acknowledgement from which a message goes on is of the incarnation that the sender knows
-only_for : (p : PeersValue) (s : StateValue) (base inc : ℕ) (to : NodeId) → ((life : Life) → map.get s.lives to ≡ Some life → life.inc ≡ inc) → option_map_or (λ only. nat_eq only inc) (option_map (λ (q : Place). q.inc) (begins p s base to)) true ≡ true
+only_for : (p : PeersValue) (s : StateValue) (base inc : ℕ) (to : NodeId) → ((life : Life) → map.get s.lives to ≡ Some life → life.inc ≡ inc) → option_map_or (λ only. nat_eq only inc) (option_map (λ (q : Position). q.inc) (begins p s base to)) true ≡ true
 only_for p s base inc to know = by_life (map.get s.lives to) refl
   where
-    by_place : (b : Bool) (life : Life) (a : ℕ) → life.inc ≡ inc → option_map_or (λ only. nat_eq only inc) (option_map (λ (q : Place). q.inc) (cond b (Some (record { inc = life.inc; number = a })) None)) true ≡ true
+    by_place : (b : Bool) (life : Life) (a : ℕ) → life.inc ≡ inc → option_map_or (λ only. nat_eq only inc) (option_map (λ (q : Position). q.inc) (cond b (Some (record { inc = life.inc; number = a })) None)) true ≡ true
     by_place true life a is = eq-eqb life.inc inc is
     by_place false life a is = refl
 
-    by_number : (life : Life) → life.inc ≡ inc → (o : Option ℕ) → option_map_or (λ only. nat_eq only inc) (option_map (λ (q : Place). q.inc) (kept_from base (option_map (λ (n : ℕ). record { inc = life.inc; number = n }) o))) true ≡ true
+    by_number : (life : Life) → life.inc ≡ inc → (o : Option ℕ) → option_map_or (λ only. nat_eq only inc) (option_map (λ (q : Position). q.inc) (kept_from base (option_map (λ (n : ℕ). record { inc = life.inc; number = n }) o))) true ≡ true
     by_number life is None = refl
     by_number life is (Some a) = by_place (nat_le base a) life a is
 
-    by_life : (o : Option Life) → map.get s.lives to ≡ o → option_map_or (λ only. nat_eq only inc) (option_map (λ (q : Place). q.inc) (kept_from base (option_and_then (acked_by p to) o))) true ≡ true
+    by_life : (o : Option Life) → map.get s.lives to ≡ o → option_map_or (λ only. nat_eq only inc) (option_map (λ (q : Position). q.inc) (kept_from base (option_and_then (acked_by p to) o))) true ≡ true
     by_life None e = refl
     by_life (Some life) e = by_number life (know life e) (map.get p.acked (record { node = to; inc = life.inc }))
 
@@ -204,7 +204,7 @@ module _ (t : Table) (begin : SetWorld) (present : (n m : NodeId) (mine theirs :
   IsMid = Shared begin present
 
   -- what a node knows of another one in the share is its present incarnation
-  knows_now : (w : ModelWorld) (s : SetWorld) (from to : NodeId) (r : ModelRun) (theirs : NodeSet) → Sound w s → IsMid s → (w.node from).run ≡ Some r → s.node to ≡ Some theirs → (life : Life) → map.get (joined r.log).lives to ≡ Some life → life.inc ≡ theirs.inc
+  knows_now : (w : ModelWorld) (s : SetWorld) (from to : NodeId) (r : ModelRunning) (theirs : NodeSet) → Sound w s → IsMid s → (w.node from).running ≡ Some r → s.node to ≡ Some theirs → (life : Life) → map.get (joined r.log).lives to ≡ Some life → life.inc ≡ theirs.inc
   knows_now w s from to r theirs h mid on at life e = by_begin (begin.node to) refl
     where
       by_begin : (o : Option NodeSet) → begin.node to ≡ o → life.inc ≡ theirs.inc
@@ -219,10 +219,10 @@ module _ (t : Table) (begin : SetWorld) (present : (n m : NodeId) (mine theirs :
   -- these events from this world on are in a share, and each of the pairs tells all in them
   record Shares (w : ModelWorld) (s : SetWorld) (all : List (NodeId × NodeId)) (es : List WorldEvent) (answers : List Answer) : Type 0 where
     fits : AreInShare before es answers
-    tells : (pair : NodeId × NodeId) → In pair all → TellsAll s pair.0 pair.1 es answers
+    tells : (pair : NodeId × NodeId) → IsListed pair all → TellsAll s pair.0 pair.1 es answers
 
   abbrev ArePairs : SetWorld → List (NodeId × NodeId) → Type 0
-  ArePairs s all = (pair : NodeId × NodeId) → In pair all → IsPair t s pair
+  ArePairs s all = (pair : NodeId × NodeId) → IsListed pair all → IsPair t s pair
 
   pairs_same : (s next : SetWorld) (all : List (NodeId × NodeId)) → ((m : NodeId) → RunsIn s m → RunsIn next m) → ArePairs s all → ArePairs next all
   pairs_same s next all on are pair i = let p = are pair i in record { from = on pair.0 p.from; to = on pair.1 p.to; from_there = p.from_there; to_there = p.to_there; apart = p.apart }
@@ -241,7 +241,7 @@ module _ (t : Table) (begin : SetWorld) (present : (n m : NodeId) (mine theirs :
   abbrev TellingShares : List (NodeId × NodeId) → Type 0
   TellingShares all = (w : ModelWorld) (s : SetWorld) → Holds t w s → IsMid s → ArePairs s all → before ≤ length s.copies → HaveNumbers (answers_of t w (telling t w all)) → Shares w s all (telling t w all) (answers_of t w (telling t w all))
 
-  module _ (pair : NodeId × NodeId) (all : List (NodeId × NodeId)) (w : ModelWorld) (s : SetWorld) (h : Holds t w s) (mid : IsMid s) (are : ArePairs s (pair ∷ all)) (le : before ≤ length s.copies) (rest : TellingShares all) (r : ModelRun) (on : (w.node pair.0).run ≡ Some r) where
+  module _ (pair : NodeId × NodeId) (all : List (NodeId × NodeId)) (w : ModelWorld) (s : SetWorld) (h : Holds t w s) (mid : IsMid s) (are : ArePairs s (pair ∷ all)) (le : before ≤ length s.copies) (rest : TellingShares all) (r : ModelRunning) (on : (w.node pair.0).running ≡ Some r) where
     -- what is shown, by how the ship was answered
     abbrev Goal : WorldStepped → Type 0
     Goal by = Shares w s (pair ∷ all) (shipping pair ∷ after_ship pair all by) (by.answer ∷ answers_of t by.world (after_ship pair all by))
@@ -264,7 +264,7 @@ module _ (t : Table) (begin : SetWorld) (present : (n m : NodeId) (mine theirs :
         }
 
     abbrev m : Message
-    m = message_of (run_shown t r) pair.1
+    m = message_of (running_shown t r) pair.1
 
     module _ (world : ModelWorld) (k : Holds t world (set_step s pair.0 (Ships pair.1) (Ok (Shipped m)))) (put : Unites s pair.0 (Ships pair.1) (Ok (Shipped m))) where
       abbrev shipped_sets : SetWorld
@@ -311,15 +311,15 @@ module _ (t : Table) (begin : SetWorld) (present : (n m : NodeId) (mine theirs :
         fits = λ held at.
             and_from (nat_eq pair.1.0 pair.1.0) (not (nat_eq pair.0.0 pair.1.0) && option_map_or (λ only. nat_eq only held.inc) m.only true) (eq-eqb pair.1.0 pair.1.0 refl)
             (and_from (not (nat_eq pair.0.0 pair.1.0)) (option_map_or (λ only. nat_eq only held.inc) m.only true) (ap not (other_by pair.1 pair.0 pair.1 refl (λ e. (are pair (inl refl)).apart (sym e))))
-            (only_for r.peers (joined r.log) (run_shown t r).kept.base held.inc pair.1 (knows_now w s pair.0 pair.1 r held h.sound mid on at)));
+            (only_for r.peers (joined r.log) (running_shown t r).kept.base held.inc pair.1 (knows_now w s pair.0 pair.1 r held h.sound mid on at)));
       }
 
       deltas : NodeId → ℕ
-      deltas n = option_map_or (λ (q : ModelRun). length q.log) (world.node n).run 0
+      deltas n = option_map_or (λ (q : ModelRunning). length q.log) (world.node n).running 0
 
       few : IsFew deltas world
       unfolding deltas
-      few n q there = let same : length q.log ≤ length q.log = omega arith in subst (λ (run : Option ModelRun). length q.log ≤ option_map_or (λ (x : ModelRun). length x.log) run 0) (sym there) same
+      few n q there = let same : length q.log ≤ length q.log = omega arith in subst (λ (running : Option ModelRunning). length q.log ≤ option_map_or (λ (x : ModelRunning). length x.log) running 0) (sym there) same
 
       is_heard : by_delivery.answer ≢ Err (Refused DotsUsedUp) → IsHeard by_delivery.answer
       is_heard numbers = elim (heard_happens t world shipped_sets deltas (delivery number pair.1) k.sound few k.inside to_here is_copy) [
@@ -349,35 +349,35 @@ module _ (t : Table) (begin : SetWorld) (present : (n m : NodeId) (mine theirs :
   telling_shares [] w s h mid are le heard = record { fits = tt; tells = λ pair i. absurd i }
   telling_shares (pair ∷ all) w s h mid are le heard =
       let p = are pair (inl refl) in
-      let run = run_there w s pair.0 h.sound p.from in
-      let own : nat_eq pair.1.0 run.0.origin.node.0 ≡ false = other_by pair.0 pair.1 run.0.origin.node (ap (λ (o : Origin). o.node) ((h.sound.nodes pair.0).origin run.0 run.1)) p.apart in
+      let running = run_there w s pair.0 h.sound p.from in
+      let own : nat_eq pair.1.0 running.0.origin.node.0 ≡ false = other_by pair.0 pair.1 running.0.origin.node (ap (λ (o : Origin). o.node) ((h.sound.nodes pair.0).origin running.0 running.1)) p.apart in
       let inside : pair.0.0 < w.count = subst (λ n. pair.0.0 < n) (sym h.count) p.from_there in
-      by_answer pair all w s h mid are le (telling_shares all) run.0 run.1 (happens t w (shipping pair))
-      (up_or_shipped t w pair.0 pair.1 run.0 run.1 (lt-ltb pair.0.0 w.count inside) (lt-leb (node_count t) pair.1.0 p.to_there) own)
+      by_answer pair all w s h mid are le (telling_shares all) running.0 running.1 (happens t w (shipping pair))
+      (up_or_shipped t w pair.0 pair.1 running.0 running.1 (lt-ltb pair.0.0 w.count inside) (lt-leb (node_count t) pair.1.0 p.to_there) own)
       (holds_on t w s (shipping pair) h) (unites_on t w s (shipping pair) h.sound) heard
 
 -- ---- the pairs of a share
 -- a node beyond those of the configuration never runs
-never_runs : (t : Table) (n : NodeId) (es : List WorldEvent) (w : ModelWorld) → w.count ≤ n.0 → (w.node n).run ≡ None → ((run_from t w es).node n).run ≡ None
+never_runs : (t : Table) (n : NodeId) (es : List WorldEvent) (w : ModelWorld) → w.count ≤ n.0 → (w.node n).running ≡ None → ((run_from t w es).node n).running ≡ None
 never_runs t n [] w le off = off
 never_runs t n (e ∷ es) w le off = never_runs t n es (happens t w e).world (subst (λ c. c ≤ n.0) (sym (count_stays t w e)) le) (stays (nat_lt e.node.0 w.count) refl)
   where
-    elsewhere : (d : ModelNode) → nat_lt e.node.0 w.count ≡ true → (b : Bool) → nat_eq n.0 e.node.0 ≡ b → (cond b d (w.node n)).run ≡ None
+    elsewhere : (d : ModelNode) → nat_lt e.node.0 w.count ≡ true → (b : Bool) → nat_eq n.0 e.node.0 ≡ b → (cond b d (w.node n)).running ≡ None
     elsewhere d inside true same = absurd (apart e.node.0 n.0 w.count (ltb-true e.node.0 w.count inside) le (exact_unsigned_eq n.0 e.node.0 same))
       where
         apart : (k m c : ℕ) → k < c → c ≤ m → m ≡ k → ⊥
         apart k m c lt above is = omega arith
     elsewhere d inside false other = off
 
-    by_reply : (d : ModelNode) (a : Result Reply Refusal) → nat_lt e.node.0 w.count ≡ true → ((answered_by w e.node d a).world.node n).run ≡ None
+    by_reply : (d : ModelNode) (a : Result Reply Refusal) → nat_lt e.node.0 w.count ≡ true → ((answered_by w e.node d a).world.node n).running ≡ None
     by_reply d (Err why) inside = off
     by_reply d (Ok reply) inside = elsewhere d inside (nat_eq n.0 e.node.0) refl
 
-    by_event : (r : Result Event WorldFault) → nat_lt e.node.0 w.count ≡ true → ((happens_by t w e.node r).world.node n).run ≡ None
+    by_event : (r : Result Event WorldFault) → nat_lt e.node.0 w.count ≡ true → ((happens_by t w e.node r).world.node n).running ≡ None
     by_event (Err fault) inside = off
     by_event (Ok at) inside = by_reply (model_step t e.node (w.node e.node) at).node (model_step t e.node (w.node e.node) at).answer inside
 
-    stays : (b : Bool) → nat_lt e.node.0 w.count ≡ b → ((cond b (happens_by t w e.node (event_of w.operations w.messages e.what)) (record { world = w; answer = Err NoSuchNode })).world.node n).run ≡ None
+    stays : (b : Bool) → nat_lt e.node.0 w.count ≡ b → ((cond b (happens_by t w e.node (event_of w.operations w.messages e.what)) (record { world = w; answer = Err NoSuchNode })).world.node n).running ≡ None
     stays true inside = by_event (event_of w.operations w.messages e.what) inside
     stays false outside = off
 
@@ -405,7 +405,7 @@ module _ (t : Table) (es : List WorldEvent) (all : List (NodeId × NodeId)) wher
   sound_here : Sound here sets
   sound_here = sound_run t (start t) no_sets es answers here (sound_start t) (own_run t (start t) es)
 
-  is_inside : (n : NodeId) (r : ModelRun) → (here.node n).run ≡ Some r → n.0 < here.count
+  is_inside : (n : NodeId) (r : ModelRunning) → (here.node n).running ≡ Some r → n.0 < here.count
   is_inside n r on = by_test (nat_lt n.0 here.count) refl
     where
       by_test : (b : Bool) → nat_lt n.0 here.count ≡ b → n.0 < here.count
@@ -417,18 +417,18 @@ module _ (t : Table) (es : List WorldEvent) (all : List (NodeId × NodeId)) wher
 
   module _ (each_other : TellsEachOther (HasState (state_in_world here) here.count) all) (numbers : HaveNumbers replies) (know : KnowPresent sets) where
     runs_if : (n : NodeId) → HasState (state_in_world here) here.count n → RunsIn sets n
-    runs_if n has = by_run (here.node n).run refl has.1
+    runs_if n has = by_run (here.node n).running refl has.1
       where
-        by_run : (run : Option ModelRun) → (here.node n).run ≡ run → IsTrue (is_some (option_map (λ (r : ModelRun). joined r.log) run)) → RunsIn sets n
+        by_run : (running : Option ModelRunning) → (here.node n).running ≡ running → IsTrue (is_some (option_map (λ (r : ModelRunning). joined r.log) running)) → RunsIn sets n
         by_run None on is = absurd (false≢true is)
         by_run (Some r) on is = set_there here sets n r holds_here.sound on
 
     has_if : (n : NodeId) → RunsIn sets n → HasState (state_in_world here) here.count n
     has_if n runs =
         let r = run_there here sets n holds_here.sound runs in
-        (is_inside n r.0 r.1, ap (λ run. is_some (option_map (λ (r : ModelRun). joined r.log) run)) r.1)
+        (is_inside n r.0 r.1, ap (λ running. is_some (option_map (λ (r : ModelRunning). joined r.log) running)) r.1)
 
-    are_pairs : (pair : NodeId × NodeId) → In pair all → IsPair t sets pair
+    are_pairs : (pair : NodeId × NodeId) → IsListed pair all → IsPair t sets pair
     are_pairs pair i =
         let p = (each_other.each pair.0 pair.1).0 i in
         record { from = runs_if pair.0 p.0; to = runs_if pair.1 p.1.0; from_there = subst (λ c. pair.0.0 < c) holds_here.count p.0.0; to_there = subst (λ c. pair.1.0 < c) holds_here.count p.1.0.0; apart = p.1.1 }

@@ -12,9 +12,9 @@ abbrev pub pairs : List NodeId → List (NodeId × NodeId)
 pairs nodes = flat_map (pairs_of nodes) nodes
 
 -- it is one of these
-abbrev pub In : {X : Type 0} → X → List X → Type 0
-In x [] = ⊥
-In x (y ∷ ys) = (x ≡ y) ⊎ In x ys
+abbrev pub IsListed : {X : Type 0} → X → List X → Type 0
+IsListed x [] = ⊥
+IsListed x (y ∷ ys) = (x ≡ y) ⊎ IsListed x ys
 
 -- each comes before all that stand behind it
 abbrev pub IsOrdered : {X : Type 0} → (X → X → Type 0) → List X → Type 0
@@ -28,5 +28,5 @@ ComesBefore pair other = (pair.0.0 < other.0.0) ⊎ ((pair.0 ≡ other.0) × (pa
 -- Each node that runs tells each other one that runs, and no other does, each once. They do so in the order of their
 -- numbers, which is that of their names.
 pub record TellsEachOther (Runs : NodeId → Type 0) (pairs : List (NodeId × NodeId)) : Type 0 where
-  pub each : (from to : NodeId) → In (from, to) pairs ↔ (Runs from × (Runs to × (from ≢ to)))
+  pub each : (from to : NodeId) → IsListed (from, to) pairs ↔ (Runs from × (Runs to × (from ≢ to)))
   pub ordered : IsOrdered ComesBefore pairs

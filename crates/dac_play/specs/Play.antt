@@ -20,7 +20,7 @@ use Rattle.dac_play.specs.Texts.{shared_text, hex_text, same_text}
 use Rattle.dac_play.specs.Answers.{answer_text}
 use Rattle.dac_play.specs.Wires.{message_text, fed_text}
 use Rattle.dac_play.specs.Pairs.{TellsEachOther}
-use Rattle.dac_play.specs.Sharing.{origin_in, state_in, told, shared, Leads}
+use Rattle.dac_play.specs.Sharing.{origin_in, state_in, after_telling, shared, Leads}
 
 -- the state of a node of the program's world, where it runs
 abbrev pub state_at : WorldValue → NodeId → Option StateValue
@@ -39,7 +39,7 @@ HasState state count node = (node.0 < count) × IsTrue (is_some (state node))
 pub record IsShared (table : Table) (old new : WorldValue) : Type 0 where
   pub pairs : List (NodeId × NodeId)
   pub each_other : TellsEachOther (HasState (state_at old) (length old.nodes)) pairs
-  pub leads : Leads table old (λ w. fold (told table) w pairs) new
+  pub leads : Leads table old (λ w. fold (after_telling table) w pairs) new
 
 -- as what a node runs, and the page of its state; a node that is off has none
 abbrev pub shown_text : Table → NodeId → Option Origin → Option StateValue → List ℕ

@@ -18,7 +18,7 @@ use Rattle.dac_model_world.specs.Shares.{KnowPresent, HaveUnion}
 use Rattle.dac_script.specs.declared.line.ScriptLine.{ScriptLine}
 use Rattle.dac_script.specs.declared.line.ScriptLine.TheVariants as says
 use Rattle.dac_play.specs.Pairs.{pairs, TellsEachOther}
-use Rattle.dac_play.specs.Sharing.{state_in, having_state, shipping, delivery, told}
+use Rattle.dac_play.specs.Sharing.{state_in, having_state, shipping, delivery, after_telling}
 use Rattle.dac_play.specs.Play.{HasState, after_line}
 
 -- what follows a ship to this node: where anything was shipped, its delivery
@@ -29,7 +29,7 @@ deliveries to shipped = if is_ok shipped.answer then delivery (length shipped.wo
 abbrev pub telling : Table → ModelWorld → List (NodeId × NodeId) → List WorldEvent
 telling t w [] = []
 telling t w (pair ∷ all) =
-    shipping pair ∷ (deliveries pair.1 (happens t w (shipping pair)) ++ telling t (told t w pair) all)
+    shipping pair ∷ (deliveries pair.1 (happens t w (shipping pair)) ++ telling t (after_telling t w pair) all)
 
 -- the nodes that tell each other by a share
 abbrev pub pairs_in : ModelWorld → List (NodeId × NodeId)

@@ -10,17 +10,17 @@ use Rattle.dac_events.specs.declared.What.TheVariants as what
 use Rattle.dac_events.specs.declared.WorldEvent.{WorldEvent}
 use Rattle.dac_meaning.specs.StateValue.{StateValue}
 use Rattle.dac_core.specs.WorldValue.{WorldValue}
-use Rattle.dac_core.specs.ModelNode.{ModelRun, joined}
+use Rattle.dac_core.specs.ModelNode.{ModelRunning, joined}
 use Rattle.dac_core.specs.ModelWorld.{ModelWorld, WorldStepped, Shows, happens, numbered}
 use Rattle.dac_play.specs.Pairs.{pairs}
 
 -- the state of a node of the model world, where it runs
 abbrev pub state_in : ModelWorld → NodeId → Option StateValue
-state_in w node = option_map (λ (r : ModelRun). joined r.log) (w.node node).run
+state_in w node = option_map (λ (r : ModelRunning). joined r.log) (w.node node).running
 
 -- the present incarnation of a node of the model world, where it runs
 abbrev pub origin_in : ModelWorld → NodeId → Option Origin
-origin_in w node = option_map (λ (r : ModelRun). r.origin) (w.node node).run
+origin_in w node = option_map (λ (r : ModelRunning). r.origin) (w.node node).running
 
 -- the nodes of the first so many numbers that have a state, in the order of their names
 abbrev pub having_state : (NodeId → Option StateValue) → ℕ → List NodeId
@@ -41,13 +41,13 @@ delivered table to shipped =
     else shipped.world
 
 -- a node ships to another one, which hears the message at once; what either refuses is passed over
-abbrev pub told : Table → ModelWorld → NodeId × NodeId → ModelWorld
-told table w pair = delivered table pair.1 (happens table w (shipping pair))
+abbrev pub after_telling : Table → ModelWorld → NodeId × NodeId → ModelWorld
+after_telling table w pair = delivered table pair.1 (happens table w (shipping pair))
 
 -- Each node that runs tells each other one, one pair after another in the order of their names. (Who runs
 -- doesn't change meanwhile.)
 abbrev pub shared : Table → ModelWorld → ModelWorld
-shared table w = fold (told table) w (pairs (having_state (state_in w) w.count))
+shared table w = fold (after_telling table) w (pairs (having_state (state_in w) w.count))
 
 -- From old, the program's world goes on to new as each model world that shows as old does.
 pub record Leads (table : Table) (old : WorldValue) (by : ModelWorld → ModelWorld) (new : WorldValue) : Type 0 where

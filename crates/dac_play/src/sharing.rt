@@ -6,7 +6,7 @@ ghost use Rattle.std.specs.Result.{is_ok};
 ghost use Rattle.dac_config.specs.Table.{node_count};
 ghost use Rattle.dac_core.specs.ModelWorld.{out_of_memory};
 ghost use Rattle.dac_play.specs.Play.{state_at, IsShared};
-ghost use Rattle.dac_play.specs.Sharing.{having_state, told, shared, Leads, IsAnswered};
+ghost use Rattle.dac_play.specs.Sharing.{having_state, after_telling, shared, Leads, IsAnswered};
 
 use crate::pairs::all_pairs;
 use crate::states::state_at;
@@ -65,7 +65,7 @@ fn accepts(config: &Config, world: &mut World, event: &WorldEvent) -> Result<boo
 fn tell(config: &Config, world: &mut World, pair: (NodeId, NodeId)) -> Result<(), NoMemory>
     ensures count { length world.new.nodes ≡ length world.old.nodes }
     ensures leads { OnOk result
-        (Leads config.now world.old (λ w. told config.now w pair) world.new) }
+        (Leads config.now world.old (λ w. after_telling config.now w pair) world.new) }
 {
     let (from, to) = pair;
     let ship = WorldEvent {

@@ -13,7 +13,7 @@ use Rattle.dac_journal.specs.Histories.{off_after}
 use Rattle.dac_journal.specs.Step.{Steps}
 use Rattle.dac_journal.specs.laws.Going.{goes_on}
 use Rattle.dac_run.specs.Record.{Record}
-use Rattle.dac_journal.specs.Journals.{Opening, EndsAt}
+use Rattle.dac_journal.specs.Journals.{Beginning, EndsAt}
 
 -- the step that the node made is that of its answer
 stepped : (t : Table) (me : NodeId) (old new : NodeValue) (e : Event) (a : Result Reply Refusal) → IfOk a (λ reply. Steps t me old e new (Ok reply))
@@ -28,11 +28,11 @@ repeated t me old new e asked a said ok refused told is same =
     subst (λ (x : Event). Steps t me old x new said) is (subst (λ (b : Result Reply Refusal). Steps t me old e new b) same (stepped t me old new e a ok refused told))
 
 -- the records so far end at the node, and so do those with one more
-pub ends_on : (o : Opening) (rs : List Record) (i : ℕ) (r : Record) (old new : NodeValue) → i < length rs → r ≡ get_or rs i r → EndsAt o (take i rs) old → Steps o.table o.node old r.event new r.answer → EndsAt o (take (i + 1) rs) new
+pub ends_on : (o : Beginning) (rs : List Record) (i : ℕ) (r : Record) (old new : NodeValue) → i < length rs → r ≡ get_or rs i r → EndsAt o (take i rs) old → Steps o.table o.node old r.event new r.answer → EndsAt o (take (i + 1) rs) new
 ends_on o rs i r old new within at ends step =
     let more : take (i + 1) rs ≡ take i rs ++ r ∷ [] = take_more rs i r within ∙ ap (λ (x : Record). take i rs ++ x ∷ []) (sym at) in
     subst (λ (xs : List Record). EndsAt o xs new) (sym more) (goes_on o (take i rs) old new r.seat r.event r.answer ends step)
 
 -- no records end at a node that is off
-pub ends_off : (o : Opening) (v : NodeValue) → v ≡ off o.last → EndsAt o [] v
+pub ends_off : (o : Beginning) (v : NodeValue) → v ≡ off o.last → EndsAt o [] v
 ends_off o v is = record { final = off_after o.last; history = refl; shows = sym is }

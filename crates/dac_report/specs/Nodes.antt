@@ -1,18 +1,18 @@
 -- The journals and the last pages of all nodes.
 use Rattle.std.specs.Prelude.{◌≡◌, ◌<◌, ℕ, List, [], length, map, slice_index_or}
 use Rattle.dac_config.specs.Table.{Table}
-use Rattle.dac_run.specs.Journals.{JournalValue, nowhere, opening_of, AreHistory}
+use Rattle.dac_run.specs.Journals.{JournalValue, nowhere, beginning_of, AreHistory}
 use Rattle.dac_run.specs.Paged.{page_after}
 use Rattle.dac_pages.specs.declared.page.Page.{Page}
 
 -- the journal at this place
 abbrev pub journal_at : List JournalValue → ℕ → JournalValue
-journal_at all i = slice_index_or all i (record { opening = nowhere; records = [] })
+journal_at all i = slice_index_or all i (record { beginning = nowhere; records = [] })
 
 -- a journal of this node, which had no incarnation before it
 pub record IsFirstOf (node : ℕ) (j : JournalValue) : Type 0 where
-  pub named : j.opening.node.0 ≡ node
-  pub first : j.opening.last ≡ 0
+  pub named : j.beginning.node.0 ≡ node
+  pub first : j.beginning.last ≡ 0
 
 -- the journals of so many nodes, by name
 pub record AreNodes (nodes : ℕ) (all : List JournalValue) : Type 0 where
@@ -21,7 +21,7 @@ pub record AreNodes (nodes : ℕ) (all : List JournalValue) : Type 0 where
 
 -- the page after all records of the journal, of a node that had no incarnation before it
 abbrev pub last_page_of : Table → JournalValue → Page
-last_page_of t j = page_after (opening_of t j.opening.node 0) j.records
+last_page_of t j = page_after (beginning_of t j.beginning.node 0) j.records
 
 -- the pages are those after all records of the journals
 abbrev pub PagesHold : Table → List JournalValue → List Page → Type 0
@@ -29,7 +29,7 @@ PagesHold t all pages = pages ≡ map (last_page_of t) all
 
 -- each answer in the journal is that of the model's step, one after another from a node that was never booted
 abbrev pub IsTrueOf : Table → JournalValue → Type 0
-IsTrueOf t j = AreHistory (opening_of t j.opening.node 0) j.records
+IsTrueOf t j = AreHistory (beginning_of t j.beginning.node 0) j.records
 
 -- so is each in all journals
 abbrev pub AreTrueOf : Table → List JournalValue → Type 0

@@ -15,7 +15,7 @@ worker_seat me other = shipper_seat me other + 1
 
 -- the records of the journal at this place
 abbrev pub records_at : List JournalValue → ℕ → List Record
-records_at all i = (slice_index_or all i (record { opening = nowhere; records = [] })).records
+records_at all i = (slice_index_or all i (record { beginning = nowhere; records = [] })).records
 
 -- all links from this node were used as they are to be
 abbrev pub RowHolds : ℕ → ℕ → List Record → List JournalValue → Type 0

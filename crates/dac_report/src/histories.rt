@@ -1,7 +1,7 @@
 //! Whether a journal's records are a history of its node.
 
 ghost use Rattle.std.specs.Prelude.{◌≡◌, ◌≢◌, true, IfErr, IfOk, OnOk};
-ghost use Rattle.dac_journal.specs.Journals.{opening_of, AreHistory};
+ghost use Rattle.dac_journal.specs.Journals.{beginning_of, AreHistory};
 ghost use Rattle.dac_journal.specs.Step.{Steps};
 
 use crate::callers::same_answer;
@@ -47,7 +47,7 @@ pub fn are_history(
     me: NodeId,
     records: &[Record],
 ) -> Result<bool, NoMemory>
-    ensures { IfOk result (λ b. b ≡ true → AreHistory (opening_of config.now me 0) records.now) }
+    ensures { IfOk result (λ b. b ≡ true → AreHistory (beginning_of config.now me 0) records.now) }
 {
     let mut node = Node::off(alloc, 0);
     for i in 0..records.len() {

@@ -1,7 +1,7 @@
 //! The last page of a closed journal.
 
 ghost use Rattle.std.specs.Prelude.{◌≡◌, true, IfOk, IfSome};
-ghost use Rattle.dac_run.specs.Journals.{opening_of, AreHistory};
+ghost use Rattle.dac_run.specs.Journals.{beginning_of, AreHistory};
 ghost use Rattle.dac_run.specs.Paged.{page_after};
 
 use crate::histories::are_history;
@@ -20,13 +20,13 @@ pub fn last_page(
     read: &Page,
 ) -> Result<Option<Page>, NoMemory>
     ensures page { IfOk result (λ o. IfSome o
-        (λ page. page ≡ page_after (opening_of config.now me 0) closed.now.records)) }
+        (λ page. page ≡ page_after (beginning_of config.now me 0) closed.now.records)) }
     ensures read { IfOk result
         (λ o. IfSome o (λ page. ⟦<Page as PartialEq>⟧.eq page read.now ≡ true)) }
     ensures history { IfOk result
-        (λ o. IfSome o (λ _. AreHistory (opening_of config.now me 0) closed.now.records)) }
+        (λ o. IfSome o (λ _. AreHistory (beginning_of config.now me 0) closed.now.records)) }
     ensures named { IfOk result
-        (λ o. IfSome o (λ _. (closed.now.opening.node ≡ me) × (closed.now.opening.last ≡ 0))) }
+        (λ o. IfSome o (λ _. (closed.now.beginning.node ≡ me) × (closed.now.beginning.last ≡ 0))) }
 {
     if closed.node() != me || closed.last() != 0 {
         return Ok(None);

@@ -222,7 +222,7 @@ pub(crate) fn open_with_team<L: SiteName, R: Wait>(
     blank: SiteBlank,
     ends: LinkEnds,
 ) -> Result<Open<L>, RunFault>
-    requires { IsBlankOf blank L.name L.parts L.seats L.opening }
+    requires { IsBlankOf blank L.name L.parts L.seats L.beginning }
 {
     let (site, seats, mut readers) = match open_site::<L, R>(rt, blank) {
         Ok(all) => all,

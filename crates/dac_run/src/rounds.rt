@@ -13,7 +13,7 @@ use std::thread::{Scope, Threads};
 
 /// Two teams.
 #[derive(Drop)]
-pub(crate) struct Pair<L: SiteName, M: SiteName> {
+pub(crate) struct TeamPair<L: SiteName, M: SiteName> {
     pub(crate) first: Team<L>,
     pub(crate) second: Team<M>,
 }
@@ -28,8 +28,8 @@ pub(crate) struct SitePair<'a, L: SiteName, M: SiteName> {
 /// Four teams: of the nodes 0 and 1, and of 2 and 3.
 #[derive(Drop)]
 pub(crate) struct Teams<L: SiteName, M: SiteName, N: SiteName, O: SiteName> {
-    pub(crate) low: Pair<L, M>,
-    pub(crate) high: Pair<N, O>,
+    pub(crate) low: TeamPair<L, M>,
+    pub(crate) high: TeamPair<N, O>,
 }
 
 /// Their sites.
@@ -61,9 +61,9 @@ fn start_pair<
     phase: &'s Phase,
     nodes: (NodeId, NodeId),
     sites: &SitePair<'s, L, M>,
-    teams: Pair<L, M>,
+    teams: TeamPair<L, M>,
 ) -> Result<StartedPair<L, M>, RunFault> {
-    let Pair { first, second } = teams;
+    let TeamPair { first, second } = teams;
     let first = start(scope, rt, shared, phase, nodes.0, sites.first, first)?;
     let second = start(scope, rt, shared, phase, nodes.1, sites.second, second)?;
     Ok(StartedPair { first, second })
@@ -74,11 +74,11 @@ fn join_pair<L: SiteName, M: SiteName, R: Threads + Wait>(
     rt: &R,
     alloc: Global,
     started: StartedPair<L, M>,
-) -> Result<Pair<L, M>, RunFault> {
+) -> Result<TeamPair<L, M>, RunFault> {
     let StartedPair { first, second } = started;
     let first = join_all(rt, alloc, first);
     let second = join_all(rt, alloc, second);
-    Ok(Pair {
+    Ok(TeamPair {
         first: first?,
         second: second?,
     })

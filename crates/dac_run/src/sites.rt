@@ -9,7 +9,7 @@ ghost use Rattle.dac_workers.specs.Sites.{IsBlankOf};
 use crate::endings::{end_site, shut};
 use crate::hiring::{CALLERS, LinkEnds, Open, all_links, last_ends, open_with_team};
 use crate::phases::{Outcome, Phase};
-use crate::rounds::{Pair, SitePair, Sites, Teams, run_phases};
+use crate::rounds::{TeamPair, SitePair, Sites, Teams, run_phases};
 use crate::team::{Shared, Team};
 use dac_base::NodeId;
 use dac_config::Config;
@@ -33,14 +33,14 @@ struct Crew<'a, L: SiteName> {
 #[derive(Drop)]
 struct Three<M: SiteName, N: SiteName, O: SiteName> {
     second: Team<M>,
-    high: Pair<N, O>,
+    high: TeamPair<N, O>,
     outcome: Outcome,
 }
 
 /// What it leaves to the two last sites.
 #[derive(Drop)]
 struct Two<N: SiteName, O: SiteName> {
-    high: Pair<N, O>,
+    high: TeamPair<N, O>,
     outcome: Outcome,
 }
 
@@ -108,11 +108,11 @@ fn run_four<
         },
     };
     let teams = Teams {
-        low: Pair {
+        low: TeamPair {
             first: first.team,
             second: second.team,
         },
-        high: Pair {
+        high: TeamPair {
             first: third.team,
             second: fourth.team,
         },
@@ -138,7 +138,7 @@ fn with_first<
     third: Crew<'_, N>,
     fourth: Crew<'_, O>,
 ) -> Result<Three<M, N, O>, RunFault>
-    requires { IsBlankOf blank L.name L.parts L.seats L.opening }
+    requires { IsBlankOf blank L.name L.parts L.seats L.beginning }
 {
     let here = ends_for(shared, &mut ends, NodeId(0));
     let Open { site, team, last } = open_with_team::<L, R>(rt, shared.alloc, blank, here)?;
@@ -170,7 +170,7 @@ fn end_first<L: SiteName, M: SiteName, N: SiteName, O: SiteName, G: Gate, R: Wai
         seen: Vec::new(alloc),
     };
     let Teams { low, high } = teams;
-    let Pair { first, second } = low;
+    let TeamPair { first, second } = low;
     end_site(rt, shared, NodeId(0), site, first, last, &mut outcome)?;
     Ok(Three {
         second,
@@ -215,7 +215,7 @@ fn with_second<
     third: Crew<'_, N>,
     fourth: Crew<'_, O>,
 ) -> Result<Two<N, O>, RunFault>
-    requires { IsBlankOf blank M.name M.parts M.seats M.opening }
+    requires { IsBlankOf blank M.name M.parts M.seats M.beginning }
 {
     let here = ends_for(shared, &mut ends, NodeId(1));
     let Open { site, team, last } = open_with_team::<M, R>(rt, shared.alloc, blank, here)?;
@@ -281,7 +281,7 @@ fn with_third<
     blank: SiteBlank,
     fourth: Crew<'_, O>,
 ) -> Result<One<O>, RunFault>
-    requires { IsBlankOf blank N.name N.parts N.seats N.opening }
+    requires { IsBlankOf blank N.name N.parts N.seats N.beginning }
 {
     let here = ends_for(shared, &mut ends, NodeId(2));
     let Open { site, team, last } = open_with_team::<N, R>(rt, shared.alloc, blank, here)?;
@@ -307,7 +307,7 @@ fn end_third<N: SiteName, O: SiteName, G: Gate, R: Wait>(
     requires { N.seats ≡ N.parts }
 {
     let Two { high, mut outcome } = two;
-    let Pair {
+    let TeamPair {
         first: third,
         second: fourth,
     } = high;
@@ -335,7 +335,7 @@ fn with_fourth<O: SiteName + Send + Sync, G: Gate, R: Threads + Wait + Sync>(
     mut ends: Vec<LinkEnds>,
     blank: SiteBlank,
 ) -> Result<Outcome, RunFault>
-    requires { IsBlankOf blank O.name O.parts O.seats O.opening }
+    requires { IsBlankOf blank O.name O.parts O.seats O.beginning }
 {
     let here = ends_for(shared, &mut ends, NodeId(3));
     let Open { site, team, last } = open_with_team::<O, R>(rt, shared.alloc, blank, here)?;

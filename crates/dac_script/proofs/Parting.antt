@@ -10,13 +10,13 @@ use Rattle.std.proofs.lemmas.List.Elements.{All-from_get_or}
 use Rattle.std.proofs.lemmas.List.Elements.{All-push, All-nil}
 use Rattle.std.proofs.lemmas.List.Splits.{join_with_byte-slice_split, slice_split_first, slice_split_none}
 use Rattle.dac_script.specs.Script.{lines_of}
-use Rattle.dac_script.specs.Input.{mark, line_len, with_feeds, IsParted}
+use Rattle.dac_script.specs.Input.{divider, line_len, with_feeds, IsParted}
 
--- so far: whole lines that aren't the mark, and then the rest
+-- so far: whole lines that aren't the divider, and then the rest
 pub record IsFront (text rest : List ℕ) : Type 0 where
   pub before : List (List ℕ)
   pub lines : lines_of text ≡ before ++ lines_of rest
-  pub first : All (λ line. line ≢ mark) before
+  pub first : All (λ line. line ≢ divider) before
   pub text_is : text ≡ with_feeds before ++ rest
 
 pub front_none : (text : List ℕ) → IsFront text text
@@ -26,11 +26,11 @@ with_feeds_push : (lines : List (List ℕ)) (line : List ℕ) → with_feeds (li
 with_feeds_push [] line = refl
 with_feeds_push (l ∷ ls) line = ap (λ x. l ++ 10 ∷ x) (with_feeds_push ls line) ∙ sym (append_assoc l (10 ∷ with_feeds ls) (line ++ 10 ∷ []))
 
-pub front_more : (text rest line behind : List ℕ) → rest ≡ line ++ 10 ∷ behind → lines_of rest ≡ line ∷ lines_of behind → line ≢ mark → IsFront text rest → IsFront text behind
+pub front_more : (text rest line behind : List ℕ) → rest ≡ line ++ 10 ∷ behind → lines_of rest ≡ line ∷ lines_of behind → line ≢ divider → IsFront text rest → IsFront text behind
 front_more text rest line behind whole more unmarked front = record {
   before = front.before ++ line ∷ [];
   lines = front.lines ∙ ap (λ l. front.before ++ l) more ∙ sym (append_assoc front.before (line ∷ []) (lines_of behind));
-  first = All-push (λ line. line ≢ mark) _ _ front.first unmarked;
+  first = All-push (λ line. line ≢ divider) _ _ front.first unmarked;
   text_is = front.text_is ∙ ap (λ l. with_feeds front.before ++ l) (whole ∙ sym (append_assoc line (10 ∷ []) behind)) ∙ sym (append_assoc (with_feeds front.before) (line ++ 10 ∷ []) behind) ∙ ap (λ l. l ++ behind) (sym (with_feeds_push front.before line));
 }
 
@@ -44,7 +44,7 @@ front_take text rest front = ap (λ n. take n text) (front_len text rest front) 
 pub rest_within : (text rest : List ℕ) → IsFront text rest → length rest ≤ length text
 rest_within text rest front = omega (arith, ap length front.text_is, length-append (with_feeds front.before) rest)
 
-pub parted_at_end : (text rest config : List ℕ) → lines_of rest ≡ mark ∷ [] → config ≡ take (length text - length rest) text → IsFront text rest → IsParted text config []
+pub parted_at_end : (text rest config : List ℕ) → lines_of rest ≡ divider ∷ [] → config ≡ take (length text - length rest) text → IsFront text rest → IsParted text config []
 parted_at_end text rest config last is_config front = record {
   before = front.before;
   behind = [];
@@ -54,7 +54,7 @@ parted_at_end text rest config last is_config front = record {
   script_is = refl;
 }
 
-pub parted_before : (text rest config behind : List ℕ) → lines_of rest ≡ mark ∷ lines_of behind → config ≡ take (length text - length rest) text → IsFront text rest → IsParted text config behind
+pub parted_before : (text rest config behind : List ℕ) → lines_of rest ≡ divider ∷ lines_of behind → config ≡ take (length text - length rest) text → IsFront text rest → IsParted text config behind
 parted_before text rest config behind more is_config front = record {
   before = front.before;
   behind = lines_of behind;
@@ -64,8 +64,8 @@ parted_before text rest config behind more is_config front = record {
   script_is = sym (join_with_byte-slice_split 10 behind);
 }
 
-pub unparted : (text rest line : List ℕ) → lines_of rest ≡ line ∷ [] → line ≢ mark → IsFront text rest → All (λ line. line ≢ mark) (lines_of text)
-unparted text rest line last unmarked front = subst (All (λ l. l ≢ mark)) (sym (front.lines ∙ ap (λ l. front.before ++ l) last)) (All-push (λ line. line ≢ mark) _ _ front.first unmarked)
+pub unparted : (text rest line : List ℕ) → lines_of rest ≡ line ∷ [] → line ≢ divider → IsFront text rest → All (λ line. line ≢ divider) (lines_of text)
+unparted text rest line last unmarked front = subst (All (λ l. l ≢ divider)) (sym (front.lines ∙ ap (λ l. front.before ++ l) last)) (All-push (λ line. line ≢ divider) _ _ front.first unmarked)
 
 pub first_more : (text : List ℕ) (n : ℕ) → n ≡ line_len text → n < length text → lines_of text ≡ take n text ∷ lines_of (drop (n + 1) text)
 first_more text n e lt = rw e (slice_split_first (λ b. eqb b 10) text 0 (omega (arith, e)))
@@ -85,9 +85,9 @@ first_last text n e le =
 pub behind_of : (text back : List ℕ) (n : ℕ) → back ≡ drop n text → take (length back - 1) (drop 1 back) ≡ drop (n + 1) text
 behind_of text back n e = take_all (length back - 1) (drop 1 back) (omega (arith, length-drop 1 back)) ∙ ap (drop 1) e ∙ drop-drop 1 n text
 
--- the mark was found: the parts are what stands before the rest, and what stands behind the line
+-- the divider was found: the parts are what stands before the rest, and what stands behind the line
 pub parted_here : (text rest config line : List ℕ) (behind : Option (Bor (List ℕ))) (script none : Bor (List ℕ)) → IfNone behind (lines_of rest ≡ line ∷ []) → IfSome behind (λ b. lines_of rest ≡ line ∷ lines_of b.now)
-    → line ≡ mark → config ≡ take (length text - length rest) text → script ≡ unwrap_or behind none → none.now ≡ [] → IsFront text rest → IsParted text config script.now
+    → line ≡ divider → config ≡ take (length text - length rest) text → script ≡ unwrap_or behind none → none.now ≡ [] → IsFront text rest → IsParted text config script.now
 parted_here text rest config line None script none last more marked is_config is_script empty front =
     subst (λ s. IsParted text config s) (sym (ap (λ (b : Bor (List ℕ)). b.now) is_script ∙ empty))
     (parted_at_end text rest config (last ∙ ap (λ l. l ∷ []) marked) is_config front)

@@ -13,8 +13,8 @@ abbrev pub IsTaken : List ℕ → Type 0
 IsTaken bytes = length bytes ≤ MAX_INPUT
 
 -- the line that parts a configuration from a script
-abbrev pub mark : List ℕ
-mark = codes "--"
+abbrev pub divider : List ℕ
+divider = codes "--"
 
 -- how many bytes stand before the first line feed
 abbrev pub line_len : List ℕ → ℕ
@@ -25,13 +25,13 @@ abbrev pub with_feeds : List (List ℕ) → List ℕ
 with_feeds [] = []
 with_feeds (line ∷ lines) = line ++ 10 ∷ with_feeds lines
 
--- A text is parted at the first of its lines that is the mark. The lines before it with their line feeds are the
+-- A text is parted at the first of its lines that is the divider. The lines before it with their line feeds are the
 -- configuration, and those behind it are the script
 pub record IsParted (text config script : List ℕ) : Type 0 where
   pub before : List (List ℕ)
   pub behind : List (List ℕ)
-  pub lines : lines_of text ≡ before ++ mark ∷ behind
-  pub first : All (λ line. line ≢ mark) before
+  pub lines : lines_of text ≡ before ++ divider ∷ behind
+  pub first : All (λ line. line ≢ divider) before
   pub config_is : config ≡ with_feeds before
   pub script_is : script ≡ join_with_byte 10 behind
 

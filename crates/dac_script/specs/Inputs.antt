@@ -11,7 +11,7 @@ use Rattle.dac_script.specs.declared.fault.ScriptFault.{ScriptFault}
 use Rattle.dac_script.specs.declared.input.TheConstants.{MAX_INPUT}
 use Rattle.dac_script.specs.declared.line.ScriptLine.{ScriptLine}
 use Rattle.dac_script.specs.Script.{lines_of, ReadsAs, IsFirstFault}
-use Rattle.dac_script.specs.Input.{IsTaken, mark, IsParted}
+use Rattle.dac_script.specs.Input.{IsTaken, divider, IsParted}
 
 -- a text has two parts, which say this configuration and this script
 pub record HasParts (text : List ℕ) (table : Table) (lines : List ScriptLine) : Type 0 where
@@ -41,7 +41,7 @@ pub record HasScriptFault (text : List ℕ) (fault : ScriptFault) : Type 0 where
 -- refused
 abbrev pub IsPartsFailure : List ℕ → Failure → Type 0
 IsPartsFailure text (failure.Input TooLong) = ⊥
-IsPartsFailure text (failure.Input NoScript) = All (λ line. line ≢ mark) (lines_of text)
+IsPartsFailure text (failure.Input NoScript) = All (λ line. line ≢ divider) (lines_of text)
 IsPartsFailure text (failure.Input Read) = ⊥
 IsPartsFailure text (failure.Config fault) = HasConfigFault text fault
 IsPartsFailure text (failure.Script fault) = HasScriptFault text fault
@@ -56,7 +56,7 @@ pub record SaysScript (bytes : List ℕ) (table : Table) (lines : List ScriptLin
 -- is refused, the input says nothing.
 abbrev pub IsFailureOf : List ℕ → Failure → Type 0
 IsFailureOf bytes (failure.Input TooLong) = MAX_INPUT < length bytes
-IsFailureOf bytes (failure.Input NoScript) = IsTaken bytes × All (λ line. line ≢ mark) (lines_of bytes)
+IsFailureOf bytes (failure.Input NoScript) = IsTaken bytes × All (λ line. line ≢ divider) (lines_of bytes)
 IsFailureOf bytes (failure.Input Read) = Unit {0}
 IsFailureOf bytes (failure.Config fault) = IsTaken bytes × HasConfigFault bytes fault
 IsFailureOf bytes (failure.Script fault) = IsTaken bytes × HasScriptFault bytes fault

@@ -2,7 +2,7 @@
 
 ghost use Rattle.std.specs.Prelude.{◌≡◌, ◌≢◌, [], ◌∷◌, ◌++◌, ◌+◌, ◌<◌, ◌≤◌, length, All, IfOk, IfErr, OnErr, IfSome, IfNone, MatchOption};
 ghost use Rattle.dac_script.specs.Script.{lines_of};
-ghost use Rattle.dac_script.specs.Input.{IsTaken, mark, line_len, IsParted, IsReadFailure, Takes, TakesAtMost};
+ghost use Rattle.dac_script.specs.Input.{IsTaken, divider, line_len, IsParted, IsReadFailure, Takes, TakesAtMost};
 ghost use Rattle.dac_script.specs.Sources.{IsOpen, IsReadBy};
 ghost use Rattle.dac_script.specs.declared.source.Progress.TheVariants.{Open};
 
@@ -42,9 +42,9 @@ fn first_line(text: &[u8]) -> (&[u8], Option<&[u8]>)
 
 /// Parts an input at its first line that is exactly `--`. The first part is what stands before it, up to and with the
 /// line feed that ends the line before. The second is what stands behind its own line feed. `None` where no line is
-/// the mark.
+/// the divider.
 pub fn split_input(text: &[u8]) -> Option<(&[u8], &[u8])>
-    ensures { MatchOption result (All (λ line. line ≢ mark) (lines_of text.now))
+    ensures { MatchOption result (All (λ line. line ≢ divider) (lines_of text.now))
         (λ parts. IsParted text.now parts.0.now parts.1.now) }
 {
     let mut rest = text;

@@ -9,7 +9,7 @@ use Rattle.dac_base.specs.declared.limits.TheConstants.{MAX_COUNTER}
 use Rattle.dac_chains.specs.declared.claims.Claim.{Claim}
 use Rattle.dac_operations.specs.Operations.{Operation}
 use Rattle.dac_meaning.specs.StateValue.{StateValue, join}
-use Rattle.dac_meaning.specs.Meaning.{Within, meaning_of}
+use Rattle.dac_meaning.specs.Meaning.{AreOperationsOf, meaning_of}
 use Rattle.dac_meaning.specs.laws.Joins.{meaning-same}
 use Rattle.dac_config.specs.Table.{app_count}
 use Rattle.dac_placement.specs.Placement.{is_up}
@@ -21,7 +21,7 @@ use Rattle.dac_decide.specs.laws.Kept.{kept_is}
 use Rattle.dac_events.specs.declared.Command.TheVariants.{Start}
 use Rattle.dac_events.specs.declared.WorldEvent.{WorldEvent}
 use Rattle.dac_events.specs.declared.What.TheVariants.{Boot as Booting, Crash as Crashing, Command as Telling, Tick as Ticking, Hand}
-use Rattle.dac_messages.specs.declared.event.Event.TheVariants.{Boot, Crash, Command as Told, Tick, HearOp}
+use Rattle.dac_messages.specs.declared.event.Event.TheVariants.{Boot, Crash, Command as Commanded, Tick, HearOp}
 use Rattle.dac_messages.specs.declared.reply.Reply.{Reply}
 use Rattle.dac_messages.specs.declared.reply.Reply.TheVariants.{Booted, Crashed, Issued, Ticked, Heard}
 use Rattle.dac_events.specs.declared.refusal.Refusal.{Refusal}
@@ -31,7 +31,7 @@ use Rattle.dac_commands.specs.Causes.{first, terms_used_up}
 use Rattle.dac_peers.specs.Peers.{no_peers}
 use Rattle.dac_ticks.specs.Ticks.{Turn, turn_of, turn_from, claim_of, is_mine, is_mine_by}
 use Rattle.dac_events.specs.declared.world_fault.WorldFault.{WorldFault}
-use Rattle.dac_model_world.specs.ModelNode.{ModelNode, ModelRun, joined, shown, base_after}
+use Rattle.dac_model_world.specs.ModelNode.{ModelNode, ModelRunning, joined, shown, base_after}
 use Rattle.dac_model_world.specs.EventRefusals.{refusal_of}
 use Rattle.dac_model_world.specs.Deeds.{meanings, brings}
 use Rattle.dac_model_world.specs.Step.{step_by}
@@ -74,7 +74,7 @@ w2 = (answered_by w1 lost_node (begun_node lost_node (start_at lost_node)) (Ok (
 
 is2 : happens loss_table w1 (record { node = lost_node; what = Telling (Start the_app lost_node) }) ≡ answered_by w1 lost_node (begun_node lost_node (start_at lost_node)) (Ok (Issued (start_at lost_node)))
 is2 =
-    happens_so w1 lost_node (Telling (Start the_app lost_node)) (Told (Start the_app lost_node)) refl refl (starts_on lost_node refl refl)
+    happens_so w1 lost_node (Telling (Start the_app lost_node)) (Commanded (Start the_app lost_node)) refl refl (starts_on lost_node refl refl)
     ∙ ap (λ (o : Operation). answered_by w1 lost_node (begun_node lost_node o) (Ok (Issued o))) (started_op lost_node)
 
 abbrev d3 : ModelNode
@@ -87,7 +87,7 @@ is3 : happens loss_table w2 (record { node = lost_node; what = Ticking 0 }) ≡ 
 is3 = happens_so w2 lost_node (Ticking 0) (Tick 0) refl refl lost_ticks ∙ ap (λ (u : Turn). answered_by w2 lost_node d3 (Ok (Ticked u.ops u.passed))) lost_turn
 
 abbrev gone : ModelNode
-gone = record { last = 1; run = None }
+gone = record { last = 1; running = None }
 
 abbrev w4 : ModelWorld
 w4 = (answered_by w3 lost_node gone (Ok Crashed)).world
@@ -107,7 +107,7 @@ w6 = (answered_by w5 first_node (begun_node first_node (start_at first_node)) (O
 
 is6 : happens loss_table w5 (record { node = first_node; what = Telling (Start the_app first_node) }) ≡ answered_by w5 first_node (begun_node first_node (start_at first_node)) (Ok (Issued (start_at first_node)))
 is6 =
-    happens_so w5 first_node (Telling (Start the_app first_node)) (Told (Start the_app first_node)) refl refl (starts_on first_node refl refl)
+    happens_so w5 first_node (Telling (Start the_app first_node)) (Commanded (Start the_app first_node)) refl refl (starts_on first_node refl refl)
     ∙ ap (λ (o : Operation). answered_by w5 first_node (begun_node first_node o) (Ok (Issued o))) (started_op first_node)
 
 abbrev w7 : ModelWorld
@@ -121,16 +121,16 @@ w8 = (answered_by w7 second_node (begun_node second_node (start_at second_node))
 
 is8 : happens loss_table w7 (record { node = second_node; what = Telling (Start the_app second_node) }) ≡ answered_by w7 second_node (begun_node second_node (start_at second_node)) (Ok (Issued (start_at second_node)))
 is8 =
-    happens_so w7 second_node (Telling (Start the_app second_node)) (Told (Start the_app second_node)) refl refl (starts_on second_node refl refl)
+    happens_so w7 second_node (Telling (Start the_app second_node)) (Commanded (Start the_app second_node)) refl refl (starts_on second_node refl refl)
     ∙ ap (λ (o : Operation). answered_by w7 second_node (begun_node second_node o) (Ok (Issued o))) (started_op second_node)
 
 -- ---- operations that are handed
-abbrev run_of : NodeId → Bool → List Note → List StateValue → ℕ → ModelRun
+abbrev run_of : NodeId → Bool → List Note → List StateValue → ℕ → ModelRunning
 run_of n opened notes log base = record { origin = first_of n; moments = record { booted = 0; last = 0 }; is_open = opened; notes = notes; log = log; base = base; peers = no_peers }
 
 -- a node that came up and looked after nothing yet
 abbrev waiting : NodeId → List StateValue → ℕ → ModelNode
-waiting n log base = record { last = 1; run = Some (run_of n false [] log base) }
+waiting n log base = record { last = 1; running = Some (run_of n false [] log base) }
 
 -- its log once it is handed an operation
 abbrev with_op : List StateValue → Operation → List StateValue
@@ -379,7 +379,7 @@ abbrev holding_set : NodeId → NodeSet
 holding_set n = record { inc = 1; operations = holding n }
 
 -- of two who hold the same in this order
-same_five : (a b c d e : Operation) → Within (a ∷ b ∷ c ∷ d ∷ e ∷ []) (d ∷ e ∷ c ∷ a ∷ b ∷ [])
+same_five : (a b c d e : Operation) → AreOperationsOf (a ∷ b ∷ c ∷ d ∷ e ∷ []) (d ∷ e ∷ c ∷ a ∷ b ∷ [])
 same_five a b c d e o (inl x) = inr (inr (inr (inl x)))
 same_five a b c d e o (inr (inl x)) = inr (inr (inr (inr (inl x))))
 same_five a b c d e o (inr (inr (inl x))) = inr (inr (inl x))
@@ -387,7 +387,7 @@ same_five a b c d e o (inr (inr (inr (inl x)))) = inl x
 same_five a b c d e o (inr (inr (inr (inr (inl x))))) = inr (inl x)
 same_five a b c d e o (inr (inr (inr (inr (inr none))))) = absurd none
 
-in_loss : Within (holding first_node) loss_set
+in_loss : AreOperationsOf (holding first_node) loss_set
 in_loss o (inl x) = inl x
 in_loss o (inr (inl x)) = inr (inr (inl x))
 in_loss o (inr (inr (inl x))) = inr (inr (inr (inr (inl x))))
@@ -395,7 +395,7 @@ in_loss o (inr (inr (inr (inl x)))) = inr (inl x)
 in_loss o (inr (inr (inr (inr (inl x))))) = inr (inr (inr (inl x)))
 in_loss o (inr (inr (inr (inr (inr none))))) = absurd none
 
-all_loss : Within loss_set (holding first_node)
+all_loss : AreOperationsOf loss_set (holding first_node)
 all_loss o (inl x) = inl x
 all_loss o (inr (inl x)) = inr (inr (inr (inl x)))
 all_loss o (inr (inr (inl x))) = inr (inl x)
@@ -403,29 +403,29 @@ all_loss o (inr (inr (inr (inl x)))) = inr (inr (inr (inr (inl x))))
 all_loss o (inr (inr (inr (inr (inl x))))) = inr (inr (inl x))
 all_loss o (inr (inr (inr (inr (inr none))))) = absurd none
 
-first_second : Within (holding first_node) (holding second_node)
+first_second : AreOperationsOf (holding first_node) (holding second_node)
 first_second = same_five (up_of first_node) (start_at first_node) claiming (up_of second_node) (start_at second_node)
 
-second_first : Within (holding second_node) (holding first_node)
+second_first : AreOperationsOf (holding second_node) (holding first_node)
 second_first = same_five (up_of second_node) (start_at second_node) claiming (up_of first_node) (start_at first_node)
 
-alike : (m n : NodeId) → IsEither m → IsEither n → Within (holding m) (holding n)
-alike m n (inl a) (inl b) = subst (λ (k : NodeId × NodeId). Within (holding k.0) (holding k.1)) (λ i. (sym a i, sym b i)) (λ o x. x)
-alike m n (inl a) (inr b) = subst (λ (k : NodeId × NodeId). Within (holding k.0) (holding k.1)) (λ i. (sym a i, sym b i)) first_second
-alike m n (inr a) (inl b) = subst (λ (k : NodeId × NodeId). Within (holding k.0) (holding k.1)) (λ i. (sym a i, sym b i)) second_first
-alike m n (inr a) (inr b) = subst (λ (k : NodeId × NodeId). Within (holding k.0) (holding k.1)) (λ i. (sym a i, sym b i)) (λ o x. x)
+alike : (m n : NodeId) → IsEither m → IsEither n → AreOperationsOf (holding m) (holding n)
+alike m n (inl a) (inl b) = subst (λ (k : NodeId × NodeId). AreOperationsOf (holding k.0) (holding k.1)) (λ i. (sym a i, sym b i)) (λ o x. x)
+alike m n (inl a) (inr b) = subst (λ (k : NodeId × NodeId). AreOperationsOf (holding k.0) (holding k.1)) (λ i. (sym a i, sym b i)) first_second
+alike m n (inr a) (inl b) = subst (λ (k : NodeId × NodeId). AreOperationsOf (holding k.0) (holding k.1)) (λ i. (sym a i, sym b i)) second_first
+alike m n (inr a) (inr b) = subst (λ (k : NodeId × NodeId). AreOperationsOf (holding k.0) (holding k.1)) (λ i. (sym a i, sym b i)) (λ o x. x)
 
 means : (n : NodeId) → IsEither n → meaning_of (holding n) ≡ loss_state
 means n either =
     meaning-same (holding n) loss_set (λ o x. in_loss o (alike n first_node either (inl refl) o x)) (λ o x. alike first_node n (inl refl) either o (all_loss o x))
 
-abbrev run_at : NodeId → ModelRun
+abbrev run_at : NodeId → ModelRunning
 run_at n = run_of n false [] (log3 n) (base3 n)
 
 sound14 : Sound w14 s14
 sound14 = sound_run loss_table w0 no_sets es14 as14 w14 (sound_start loss_table) run14
 
-known_by : (n : NodeId) → IsEither n → (w14.node n).run ≡ Some (run_at n) → s14.node n ≡ Some (holding_set n) → joined (log3 n) ≡ loss_state
+known_by : (n : NodeId) → IsEither n → (w14.node n).running ≡ Some (run_at n) → s14.node n ≡ Some (holding_set n) → joined (log3 n) ≡ loss_state
 known_by n either runs holds =
     let held = held_at w14 s14 n (run_at n) sound14 runs in
     let same : holding_set n ≡ held.set = one (sym holds ∙ held.is) in
@@ -489,7 +489,7 @@ unfolding own_turn_by claims_so
 own_turn n either = (λ i. own_turn_by n (known_at n either i)) ∙ (λ i. cond (not_mine n i) (cond (terms_used_up loss_state the_app) passes (claims_so n)) (turn_from loss_state))
 
 abbrev noting : NodeId → StateValue → Turn → ModelNode
-noting n s u = record { last = 1; run = Some (run_of n true (record { state = s; moment = 0 } ∷ []) (log3 n ++ meanings u.ops) (base_after (base3 n) (length (log3 n ++ meanings u.ops)) 0)) }
+noting n s u = record { last = 1; running = Some (run_of n true (record { state = s; moment = 0 } ∷ []) (log3 n ++ meanings u.ops) (base_after (base3 n) (length (log3 n ++ meanings u.ops)) 0)) }
 
 abbrev noted_node : NodeId → ModelNode
 noted_node n = noting n loss_state (turn_from loss_state)
@@ -530,7 +530,7 @@ sets_none false false true x14 x13 x12 x11 x10 x9 x8 x7 x6 x5 x3 x2 x1 e f = ref
 sets_none false false false x14 x13 x12 x11 x10 x9 x8 x7 x6 x5 x3 x2 x1 e f = refl
 
 nodes_none : (a b c : Bool) (x14 x13 x12 x11 x10 x9 x8 x7 x6 x5 x3 x2 x1 : ModelNode) → a ≡ false → b ≡ false
-    → (cond b x14 (cond b x13 (cond b x12 (cond a x11 (cond a x10 (cond a x9 (cond b x8 (cond b x7 (cond a x6 (cond a x5 (cond c gone (cond c x3 (cond c x2 (cond c x1 (off_after 0))))))))))))))).run ≡ None
+    → (cond b x14 (cond b x13 (cond b x12 (cond a x11 (cond a x10 (cond a x9 (cond b x8 (cond b x7 (cond a x6 (cond a x5 (cond c gone (cond c x3 (cond c x2 (cond c x1 (off_after 0))))))))))))))).running ≡ None
 nodes_none true b c x14 x13 x12 x11 x10 x9 x8 x7 x6 x5 x3 x2 x1 e f = absurd (true≢false e)
 nodes_none false true c x14 x13 x12 x11 x10 x9 x8 x7 x6 x5 x3 x2 x1 e f = absurd (true≢false f)
 nodes_none false false true x14 x13 x12 x11 x10 x9 x8 x7 x6 x5 x3 x2 x1 e f = refl
@@ -539,7 +539,7 @@ nodes_none false false false x14 x13 x12 x11 x10 x9 x8 x7 x6 x5 x3 x2 x1 e f = r
 no_set : (n : NodeId) → nat_eq n.0 0 ≡ false → nat_eq n.0 1 ≡ false → s14.node n ≡ None
 no_set n away apart = sets_none (nat_eq n.0 0) (nat_eq n.0 1) (nat_eq n.0 2) _ _ _ _ _ _ _ _ _ _ _ _ _ away apart
 
-no_run : (n : NodeId) → nat_eq n.0 0 ≡ false → nat_eq n.0 1 ≡ false → (w14.node n).run ≡ None
+no_run : (n : NodeId) → nat_eq n.0 0 ≡ false → nat_eq n.0 1 ≡ false → (w14.node n).running ≡ None
 no_run n away apart = nodes_none (nat_eq n.0 0) (nat_eq n.0 1) (nat_eq n.0 2) _ _ _ _ _ _ _ _ _ _ _ _ _ away apart
 
 -- ---- both know the loss

@@ -24,7 +24,7 @@ use Rattle.dac_wishes.specs.laws.KeyedWrites.{same_dot_is, same_dot_itself}
 use Rattle.dac_operations.specs.declared.act.Act.TheVariants.{Claim as Claims}
 use Rattle.dac_operations.specs.Operations.{Operation}
 use Rattle.dac_meaning.specs.StateValue.{StateValue, join}
-use Rattle.dac_meaning.specs.Meaning.{In, meaning_of, claim_said, names, replaces}
+use Rattle.dac_meaning.specs.Meaning.{IsOperationOf, meaning_of, claim_said, names, replaces}
 use Rattle.dac_meaning.specs.Chained.{SaysFor}
 use Rattle.dac_meaning.specs.laws.Members.{In-append_left, In-append_right, In-append_cases, found, finds}
 use Rattle.dac_meaning.specs.laws.Readers.{known-meaning, starts-meaning, permits-meaning, drains-meaning}
@@ -43,7 +43,7 @@ use Rattle.dac_commands.specs.Causes.{first, terms_used_up}
 use Rattle.dac_commands.specs.laws.Counters.{next-is}
 use Rattle.dac_ticks.specs.Ticks.{Turn, claim_of, claimed_by, is_mine}
 use Rattle.dac_ticks.specs.laws.Words.{if_own}
-use Rattle.dac_ticks.specs.laws.Claimed.{Alike}
+use Rattle.dac_ticks.specs.laws.Claimed.{MayRunAlike}
 use Rattle.dac_settle.specs.Settling.{IsLate}
 use Rattle.dac_settle.specs.Worked.{first_node, second_node, IsEither, the_app, first_of, start_of, begun}
 use Rattle.dac_settle.specs.laws.AnyPlacement.{same_node, one}
@@ -80,7 +80,7 @@ adds = record {
   ];
 }
 
-begun_alike : Alike loss_state (meaning_of (begun the_starts))
+begun_alike : MayRunAlike loss_state (meaning_of (begun the_starts))
 begun_alike = alike (begun the_starts) loss_set adds
 
 pub is_live : (n : NodeId) → IsEither n → IsLive loss_state.lives n 1
@@ -149,7 +149,7 @@ at_most_two n either k t =
     by_dot : (x : Dot) → x.n < 3 → (same_dot (dot (first_of n) k) x || false) ≡ true → k < 3
     by_dot x few t = low k x.n (ap (λ (y : Dot). y.n) (dot_is x t)) few
 
-    by_place : (o : Operation) → In o loss_set → names (dot (first_of n) k) o ≡ true → k < 3
+    by_place : (o : Operation) → IsOperationOf o loss_set → names (dot (first_of n) k) o ≡ true → k < 3
     by_place o (inl a) t = by_dot (dot (first_of first_node) 1) (omega arith) (with o _ a t)
     by_place o (inr (inl a)) t = by_dot (dot (first_of second_node) 1) (omega arith) (with o _ a t)
     by_place o (inr (inr (inl a))) t = by_dot (dot (first_of first_node) 2) (omega arith) (with o _ a t)
@@ -159,7 +159,7 @@ at_most_two n either k t =
         absurd (third (subst IsEither is either))
     by_place o (inr (inr (inr (inr (inr none))))) t = absurd none
 
-start_in : (n : NodeId) → IsEither n → In (start_of the_app n 2) loss_set
+start_in : (n : NodeId) → IsEither n → IsOperationOf (start_of the_app n 2) loss_set
 start_in n either = elim either [
   | inl a ↦ inr (inr (inl (ap (λ m. start_of the_app m 2) a)))
   | inr b ↦ inr (inr (inr (inl (ap (λ m. start_of the_app m 2) b))))

@@ -15,7 +15,7 @@ use Rattle.dac_chains.specs.declared.claims.Claim.{Claim}
 use Rattle.dac_chains.specs.Lives.{IsLive}
 use Rattle.dac_operations.specs.Operations.{Operation}
 use Rattle.dac_meaning.specs.StateValue.{StateValue}
-use Rattle.dac_meaning.specs.Meaning.{In, Within, meaning_of}
+use Rattle.dac_meaning.specs.Meaning.{IsOperationOf, AreOperationsOf, meaning_of}
 use Rattle.dac_meaning.specs.laws.Members.{In-append_left, In-append_right, In-append_cases}
 use Rattle.dac_config.specs.Table.{app_count}
 use Rattle.dac_placement.specs.Placement.{is_up}
@@ -33,12 +33,12 @@ use Rattle.dac_events.specs.declared.refusal.Refusal.{Refusal}
 use Rattle.dac_events.specs.declared.refusal.Refusal.TheVariants.{DeclaredDown, MomentBack, DotsUsedUp, UnknownNode, OnSelf, UpToDate, NotForMe}
 use Rattle.dac_commands.specs.Commands.{greatest_counter}
 use Rattle.dac_commands.specs.Causes.{first, no_node, terms_used_up}
-use Rattle.dac_peers.specs.declared.places.Place.{Place}
-use Rattle.dac_peers.specs.Peers.{no_peers, begins, acked_at, acked_by, kept_from, receipt, has_all}
+use Rattle.dac_peers.specs.declared.positions.Position.{Position}
+use Rattle.dac_peers.specs.Peers.{no_peers, begins, acked_at, acked_by, kept_from, ack_for, has_all}
 use Rattle.dac_ticks.specs.Ticks.{Turn, turn_of, turn_from}
 use Rattle.dac_ticks.specs.laws.Turning.{turned_by}
 use Rattle.dac_events.specs.declared.world_fault.WorldFault.{WorldFault}
-use Rattle.dac_model_world.specs.ModelNode.{ModelNode, ModelRun, joined, shown, run_shown, base_after}
+use Rattle.dac_model_world.specs.ModelNode.{ModelNode, ModelRunning, joined, shown, running_shown, base_after}
 use Rattle.dac_model_world.specs.EventRefusals.{refusal_of}
 use Rattle.dac_model_world.specs.Deeds.{meanings, message_of, body_from}
 use Rattle.dac_model_world.specs.Step.{step_by}
@@ -117,13 +117,13 @@ happens_so w n what e there is none =
     ∙ (λ i. happens_by loss_table w n (is i))
     ∙ ap (λ (why : Option Refusal). answered_by w n (step_by why loss_table n (w.node n) e).node (step_by why loss_table n (w.node n) e).answer) none
 
-turned_round : (xs ys : List Operation) → Within (xs ++ ys) (ys ++ xs)
+turned_round : (xs ys : List Operation) → AreOperationsOf (xs ++ ys) (ys ++ xs)
 turned_round xs ys o i = elim (In-append_cases o xs ys i) [ inl x ↦ In-append_right o ys xs x | inr y ↦ In-append_left o ys xs y ]
 
 has_set : (w : ModelWorld) (sets : SetWorld) (m : NodeId) (d : Member) → members_of w sets m ≡ Some d → (held : NodeSet) × ((sets.node m ≡ Some held) × (held.operations ≡ d.held))
-has_set w sets m d e = by_set (w.node m).run (sets.node m) refl e
+has_set w sets m d e = by_set (w.node m).running (sets.node m) refl e
   where
-    by_set : (r : Option ModelRun) (o : Option NodeSet) → sets.node m ≡ o → member_by r o ≡ Some d → (held : NodeSet) × ((sets.node m ≡ Some held) × (held.operations ≡ d.held))
+    by_set : (r : Option ModelRunning) (o : Option NodeSet) → sets.node m ≡ o → member_by r o ≡ Some d → (held : NodeSet) × ((sets.node m ≡ Some held) × (held.operations ≡ d.held))
     by_set None o is e = none_some e
     by_set (Some r) None is e = none_some e
     by_set (Some r) (Some set) is e = (set, (is, ap (λ (k : Member). k.held) (one e)))
@@ -138,13 +138,13 @@ module _ (log : NodeId → List StateValue) (base : NodeId → ℕ) (held : Node
     (short : (n : NodeId) → length (log n) ≤ 9)
     (known : (n : NodeId) → IsEither n → joined (log n) ≡ loss_state)
     (means : (n : NodeId) → IsEither n → meaning_of (held n) ≡ loss_state)
-    (alike : (m n : NodeId) → IsEither m → IsEither n → Within (held m) (held n))
-    (no_run : (n : NodeId) → nat_eq n.0 0 ≡ false → nat_eq n.0 1 ≡ false → (rest n).run ≡ None)
+    (alike : (m n : NodeId) → IsEither m → IsEither n → AreOperationsOf (held m) (held n))
+    (no_run : (n : NodeId) → nat_eq n.0 0 ≡ false → nat_eq n.0 1 ≡ false → (rest n).running ≡ None)
     (no_set : (n : NodeId) → nat_eq n.0 0 ≡ false → nat_eq n.0 1 ≡ false → sets n ≡ None)
   where
     -- a node that noted the loss at moment 0
     abbrev pub loss_node : NodeId → ModelNode
-    loss_node n = record { last = 1; run = Some (record { origin = first_of n; moments = record { booted = 0; last = 0 }; is_open = true; notes = loss_note ∷ []; log = log n; base = base n; peers = no_peers }) }
+    loss_node n = record { last = 1; running = Some (record { origin = first_of n; moments = record { booted = 0; last = 0 }; is_open = true; notes = loss_note ∷ []; log = log n; base = base n; peers = no_peers }) }
 
     abbrev pub loss_world : ModelWorld
     loss_world = record { count = 3; node = λ m. cond (nat_eq m.0 1) (loss_node second_node) (cond (nat_eq m.0 0) (loss_node first_node) (rest m)); operations = operations; messages = [] }
@@ -166,11 +166,11 @@ module _ (log : NodeId → List StateValue) (base : NodeId → ℕ) (held : Node
         of n same is = ap the_member (sym same) ∙ is
 
         by_tests : (a b : Bool) → nat_eq m.0 0 ≡ a → nat_eq m.0 1 ≡ b
-            → member_by (cond {A = ModelNode} b (loss_node second_node) (cond a (loss_node first_node) (rest m))).run (cond b (Some (held_set second_node)) (cond a (Some (held_set first_node)) (sets m))) ≡ Some d
+            → member_by (cond {A = ModelNode} b (loss_node second_node) (cond a (loss_node first_node) (rest m))).running (cond b (Some (held_set second_node)) (cond a (Some (held_set first_node)) (sets m))) ≡ Some d
             → IsEither m × (the_member m ≡ d)
         by_tests a true other at e = (inr (same_node at), of second_node (sym (same_node at)) (one e))
         by_tests true false at other e = (inl (same_node at), of first_node (sym (same_node at)) (one e))
-        by_tests false false away apart e = none_some (sym (ap (λ (r : Option ModelRun). member_by r (sets m)) (no_run m away apart)) ∙ e)
+        by_tests false false away apart e = none_some (sym (ap (λ (r : Option ModelRunning). member_by r (sets m)) (no_run m away apart)) ∙ e)
 
     member_at : (m : NodeId) → IsEither m → members_of loss_world loss_sets m ≡ Some (the_member m)
     member_at m either = elim either [
@@ -186,7 +186,7 @@ module _ (log : NodeId → List StateValue) (base : NodeId → ℕ) (held : Node
       same = λ m n d e of_m of_n o i.
           let a = is_member m d of_m in
           let b = is_member n e of_n in
-          subst (λ (k : Member). In o k.held) b.1 (alike m n a.0 b.0 o (subst (λ (k : Member). In o k.held) (sym a.1) i));
+          subst (λ (k : Member). IsOperationOf o k.held) b.1 (alike m n a.0 b.0 o (subst (λ (k : Member). IsOperationOf o k.held) (sym a.1) i));
       runs = λ m d of_m n inc alive.
           let only = only_live n inc (subst (λ (s : StateValue). IsLive s.lives n inc) (lives_here m d of_m) alive) in
           (the_member n, member_at n only.0, only.1);
@@ -231,7 +231,7 @@ module _ (log : NodeId → List StateValue) (base : NodeId → ℕ) (held : Node
     abbrev ticked_log : NodeId → List StateValue
     ticked_log n = log n ++ meanings (turn n).ops
 
-    abbrev ticked_run : NodeId → ModelRun
+    abbrev ticked_run : NodeId → ModelRunning
     ticked_run n = record {
       origin = first_of n;
       moments = record { booted = 0; last = 5000 };
@@ -243,16 +243,16 @@ module _ (log : NodeId → List StateValue) (base : NodeId → ℕ) (held : Node
     }
 
     abbrev ticked_node : NodeId → ModelNode
-    ticked_node n = record { last = 1; run = Some (ticked_run n) }
+    ticked_node n = record { last = 1; running = Some (ticked_run n) }
 
     -- what is shipped
-    abbrev shipped_body : NodeId → NodeId → Option Place → Message
-    shipped_body n to p = record { from = first_of n; to = to; only = option_map (λ (p : Place). p.inc) p; up_to = length (ticked_log n); body = body_from (run_shown loss_table (ticked_run n)) p; ack = receipt no_peers to }
+    abbrev shipped_body : NodeId → NodeId → Option Position → Message
+    shipped_body n to p = record { from = first_of n; to = to; only = option_map (λ (p : Position). p.inc) p; up_to = length (ticked_log n); body = body_from (running_shown loss_table (ticked_run n)) p; ack = ack_for no_peers to }
 
     abbrev the_message : NodeId → NodeId → Message
-    the_message n to = record { from = first_of n; to = to; only = None; up_to = length (ticked_log n); body = Whole (joined (ticked_log n)); ack = receipt no_peers to }
+    the_message n to = record { from = first_of n; to = to; only = None; up_to = length (ticked_log n); body = Whole (joined (ticked_log n)); ack = ack_for no_peers to }
 
-    message_is : (n to : NodeId) → message_of (run_shown loss_table (ticked_run n)) to ≡ the_message n to
+    message_is : (n to : NodeId) → message_of (running_shown loss_table (ticked_run n)) to ≡ the_message n to
     message_is n to = ap (shipped_body n to) (begins_none (joined (ticked_log n)) (ticked_run n).base to)
 
     ships_on : (n to : NodeId) → no_node loss_table to ≡ false → nat_eq to.0 n.0 ≡ false → refusal_of loss_table (shown loss_table (ticked_node n)) (Ship to) ≡ None
@@ -370,23 +370,23 @@ module _ (log : NodeId → List StateValue) (base : NodeId → ℕ) (held : Node
         by_tests false true other at e = inr (one e)
         by_tests false false away apart e = none_some (sym (no_set m away apart) ∙ e)
 
-    same_held : (a b : NodeSet) → (set_first ≡ a) ⊎ (set_second ≡ a) → (set_first ≡ b) ⊎ (set_second ≡ b) → Within a.operations b.operations
-    same_held a b (inl p) (inl q) = subst (λ (k : NodeSet × NodeSet). Within k.0.operations k.1.operations) (λ i. (p i, q i)) (λ o i. i)
-    same_held a b (inl p) (inr q) = subst (λ (k : NodeSet × NodeSet). Within k.0.operations k.1.operations) (λ i. (p i, q i)) (turned_round (held_after first_node) (held_after second_node))
-    same_held a b (inr p) (inl q) = subst (λ (k : NodeSet × NodeSet). Within k.0.operations k.1.operations) (λ i. (p i, q i)) (turned_round (held_after second_node) (held_after first_node))
-    same_held a b (inr p) (inr q) = subst (λ (k : NodeSet × NodeSet). Within k.0.operations k.1.operations) (λ i. (p i, q i)) (λ o i. i)
+    same_held : (a b : NodeSet) → (set_first ≡ a) ⊎ (set_second ≡ a) → (set_first ≡ b) ⊎ (set_second ≡ b) → AreOperationsOf a.operations b.operations
+    same_held a b (inl p) (inl q) = subst (λ (k : NodeSet × NodeSet). AreOperationsOf k.0.operations k.1.operations) (λ i. (p i, q i)) (λ o i. i)
+    same_held a b (inl p) (inr q) = subst (λ (k : NodeSet × NodeSet). AreOperationsOf k.0.operations k.1.operations) (λ i. (p i, q i)) (turned_round (held_after first_node) (held_after second_node))
+    same_held a b (inr p) (inl q) = subst (λ (k : NodeSet × NodeSet). AreOperationsOf k.0.operations k.1.operations) (λ i. (p i, q i)) (turned_round (held_after second_node) (held_after first_node))
+    same_held a b (inr p) (inr q) = subst (λ (k : NodeSet × NodeSet). AreOperationsOf k.0.operations k.1.operations) (λ i. (p i, q i)) (λ o i. i)
 
     all_same : (w : ModelWorld) → AllSame (members_of w (set_run loss_sets waited the_answers))
     all_same w m n d e of_m of_n =
         let sets = set_run loss_sets waited the_answers in
         let a = has_set w sets m d of_m in
         let b = has_set w sets n e of_n in
-        subst (λ (k : List Operation × List Operation). Within k.0 k.1) (λ i. (a.1.1 i, b.1.1 i)) (same_held a.0 b.0 (set_is m a.0 a.1.0) (set_is n b.0 b.1.0))
+        subst (λ (k : List Operation × List Operation). AreOperationsOf k.0 k.1) (λ i. (a.1.1 i, b.1.1 i)) (same_held a.0 b.0 (set_is m a.0 a.1.0) (set_is n b.0 b.1.0))
 
-    runs_one : (n : NodeId) → IsSome (loss_world.node n).run → IsEither n
+    runs_one : (n : NodeId) → IsSome (loss_world.node n).running → IsEither n
     runs_one n is = by_tests (nat_eq n.0 0) (nat_eq n.0 1) refl refl is
       where
-        by_tests : (a b : Bool) → nat_eq n.0 0 ≡ a → nat_eq n.0 1 ≡ b → IsSome (cond {A = ModelNode} b (loss_node second_node) (cond a (loss_node first_node) (rest n))).run → IsEither n
+        by_tests : (a b : Bool) → nat_eq n.0 0 ≡ a → nat_eq n.0 1 ≡ b → IsSome (cond {A = ModelNode} b (loss_node second_node) (cond a (loss_node first_node) (rest n))).running → IsEither n
         by_tests a true other at h = inr (same_node at)
         by_tests true false at other h = inl (same_node at)
         by_tests false false away apart h = absurd (false≢true (sym (ap is_some (no_run n away apart)) ∙ h))

@@ -31,7 +31,7 @@ use Rattle.dac_wishes.specs.declared.key.Key.{Key}
 use Rattle.dac_operations.specs.declared.act.Act.TheVariants.{Claim as Claims, Start as Starts}
 use Rattle.dac_operations.specs.Operations.{Operation, operation}
 use Rattle.dac_meaning.specs.StateValue.{StateValue, join}
-use Rattle.dac_meaning.specs.Meaning.{In, meaning_of, pairs, life_said, claim_said, lives_of, names, replaces}
+use Rattle.dac_meaning.specs.Meaning.{IsOperationOf, meaning_of, pairs, life_said, claim_said, lives_of, names, replaces}
 use Rattle.dac_meaning.specs.Chained.{SaysFor}
 use Rattle.dac_meaning.specs.laws.Chained.{of_said, is_said}
 use Rattle.dac_meaning.specs.laws.Members.{found, finds}
@@ -44,7 +44,7 @@ use Rattle.dac_placement.specs.laws.Tests.{up_is}
 use Rattle.dac_decide.specs.FailoverWait.{is_due_by, noted_at, waits_of}
 use Rattle.dac_decide.specs.declared.waits.Noted.{Noted}
 use Rattle.dac_events.specs.declared.Command.TheVariants.{Start}
-use Rattle.dac_messages.specs.declared.event.Event.TheVariants.{Command as Told, Tick}
+use Rattle.dac_messages.specs.declared.event.Event.TheVariants.{Command as Commanded, Tick}
 use Rattle.dac_events.specs.declared.refusal.Refusal.{Refusal}
 use Rattle.dac_events.specs.declared.refusal.Refusal.TheVariants.{DeclaredDown, MomentBack, DotsUsedUp, UnknownApp, UnknownNode, NotInList, NotLive, TooManyDots}
 use Rattle.dac_commands.specs.Commands.{greatest_counter, live_key, live, live_or_none, standing_starts, act_of, next_operation}
@@ -73,7 +73,7 @@ pair_of {X = X} {Y = Y} {a = a} {c = c} {b = b} {d = d} e = let pair : ◌≡◌
 
 -- ---- sets by which one node is up, in its first incarnation
 abbrev SayNoLife : List Operation → Type 0
-SayNoLife rest = (o : Operation) → In o rest → (m : NodeId) (l : Life) → life_said o.dot o.act ≡ Some (m, l) → ⊥
+SayNoLife rest = (o : Operation) → IsOperationOf o rest → (m : NodeId) (l : Life) → life_said o.dot o.act ≡ Some (m, l) → ⊥
 
 module _ (n : NodeId) (rest : List Operation) (none : SayNoLife rest) where
   abbrev pub lone : List Operation
@@ -101,7 +101,7 @@ module _ (n : NodeId) (rest : List Operation) (none : SayNoLife rest) where
 
 -- ---- counters
 -- a known dot is that of an operation, where none replaces any
-named_in : (os : List Operation) → ((o : Operation) → In o os → (d : Dot) → replaces d o ≡ false) → (d : Dot) → set.contains (meaning_of os).known d ≡ true → (o : Operation) × (In o os × (d ≡ o.dot))
+named_in : (os : List Operation) → ((o : Operation) → IsOperationOf o os → (d : Dot) → replaces d o ≡ false) → (d : Dot) → set.contains (meaning_of os).known d ≡ true → (o : Operation) × (IsOperationOf o os × (d ≡ o.dot))
 named_in os bare d t =
     let f = found (names d) os (sym (known-meaning os d) ∙ t) in
     (f.0, (f.1.0, same_dot_is d f.0.dot (left_of (same_dot d f.0.dot) (ap (λ b. same_dot d f.0.dot || b) (sym (bare f.0 f.1.0 d)) ∙ f.1.1))))
@@ -133,11 +133,11 @@ no_life_begun n o i m l e = elim i [ inl same ↦ none_some (sym (ap (λ (q : Op
 bare_by : (o p : Operation) (d : Dot) → o ≡ p → replaces d p ≡ false → replaces d o ≡ false
 bare_by o p d same bare = ap (replaces d) same ∙ bare
 
-came_bare : (n : NodeId) (o : Operation) → In o (came n) → (d : Dot) → replaces d o ≡ false
+came_bare : (n : NodeId) (o : Operation) → IsOperationOf o (came n) → (d : Dot) → replaces d o ≡ false
 came_bare n o (inl a) d = bare_by o (up_of n) d a refl
 came_bare n o (inr none) d = absurd none
 
-begun_bare : (n : NodeId) (o : Operation) → In o (begun n) → (d : Dot) → replaces d o ≡ false
+begun_bare : (n : NodeId) (o : Operation) → IsOperationOf o (begun n) → (d : Dot) → replaces d o ≡ false
 begun_bare n o (inl a) d = bare_by o (up_of n) d a refl
 begun_bare n o (inr (inl a)) d = bare_by o (start_at n) d a refl
 begun_bare n o (inr (inr none)) d = absurd none
@@ -156,7 +156,7 @@ came_counter n = sym (ap (λ (d : Dot). d.n) (next-is (meaning_of (came n)).know
   at_most = leb-true 2 MAX_COUNTER refl;
 })))
   where
-    at_most : (j : ℕ) (o : Operation) → In o (came n) → dot (first_of n) j ≡ o.dot → j < 2
+    at_most : (j : ℕ) (o : Operation) → IsOperationOf o (came n) → dot (first_of n) j ≡ o.dot → j < 2
     at_most j o (inl a) e = below j 1 2 (number_of (dot (first_of n) j) o (up_of n) e a) (omega arith)
     at_most j o (inr none) e = absurd none
 
@@ -168,7 +168,7 @@ begun_counter n = sym (ap (λ (d : Dot). d.n) (next-is (meaning_of (begun n)).kn
   at_most = leb-true 3 MAX_COUNTER refl;
 })))
   where
-    at_most : (j : ℕ) (o : Operation) → In o (begun n) → dot (first_of n) j ≡ o.dot → j < 3
+    at_most : (j : ℕ) (o : Operation) → IsOperationOf o (begun n) → dot (first_of n) j ≡ o.dot → j < 3
     at_most j o (inl a) e = below j 1 3 (number_of (dot (first_of n) j) o (up_of n) e a) (omega arith)
     at_most j o (inr (inl a)) e = below j 2 3 (number_of (dot (first_of n) j) o (start_at n) e a) (omega arith)
     at_most j o (inr (inr none)) e = absurd none
@@ -254,9 +254,9 @@ started_op n =
     ∙ (λ i. operation (dot (first_of n) (came_counter n i)) (says_start n i))
 
 abbrev pub booted : NodeId → ModelNode
-booted n = record { last = 1; run = Some (comes_up (first_of n) 0) }
+booted n = record { last = 1; running = Some (comes_up (first_of n) 0) }
 
-pub starts_on : (n : NodeId) → no_node loss_table n ≡ false → unlisted loss_table the_app n ≡ false → refusal_of loss_table (shown loss_table (booted n)) (Told (Start the_app n)) ≡ None
+pub starts_on : (n : NodeId) → no_node loss_table n ≡ false → unlisted loss_table the_app n ≡ false → refusal_of loss_table (shown loss_table (booted n)) (Commanded (Start the_app n)) ≡ None
 starts_on n there listed =
     let s = meaning_of (came n) in
     let up : is_up s (first_of n) ≡ true = (up_is s (first_of n)).1 (came_live n) in
@@ -281,7 +281,7 @@ abbrev pub begun_log : NodeId → List StateValue
 begun_log n = meaning_of (came n) ∷ meaning_of (start_at n ∷ []) ∷ []
 
 abbrev pub begun_node : NodeId → Operation → ModelNode
-begun_node n o = record { last = 1; run = Some (record { origin = first_of n; moments = record { booted = 0; last = 0 }; is_open = false; notes = []; log = meaning_of (came n) ∷ meaning_of (o ∷ []) ∷ []; base = base_after 0 2 0; peers = no_peers }) }
+begun_node n o = record { last = 1; running = Some (record { origin = first_of n; moments = record { booted = 0; last = 0 }; is_open = false; notes = []; log = meaning_of (came n) ∷ meaning_of (o ∷ []) ∷ []; base = base_after 0 2 0; peers = no_peers }) }
 
 begun_is : joined (begun_log lost_node) ≡ begun_state lost_node
 begun_is = ap (λ s. join s (meaning_of (start_at lost_node ∷ []))) (came_is lost_node) ∙ join-meaning (came lost_node) (start_at lost_node ∷ []) (DistinctDots-agree (begun lost_node) (refl, (refl, tt)))

@@ -5,7 +5,7 @@ use Rattle.std.proofs.Common.{zero, suc}
 use Rattle.dac_base.specs.declared.NodeId.{NodeId}
 use Rattle.dac_base.specs.declared.AppId.{AppId}
 use Rattle.dac_operations.specs.Operations.{Operation}
-use Rattle.dac_meaning.specs.Meaning.{In, Within}
+use Rattle.dac_meaning.specs.Meaning.{IsOperationOf, AreOperationsOf}
 
 -- ---- placement
 
@@ -38,13 +38,13 @@ IsWellMade p s o = (app : AppId) × IsApp app p.apps × p.IsWell s app o
 
 -- x is s with claims that are well made beside s
 pub record IsGrown (p : Placement) (s x : List Operation) : Type 0 where
-  pub keeps : Within s x
-  pub new : (o : Operation) → In o x → In o s ⊎ IsWellMade p s o
+  pub keeps : AreOperationsOf s x
+  pub new : (o : Operation) → IsOperationOf o x → IsOperationOf o s ⊎ IsWellMade p s o
 
 -- what is used of placement
 pub record IsPlacement (p : Placement) : Type 0 where
   -- the same set gives the same candidates
-  pub alike : (x y : List Operation) (app : AppId) → Within x y → Within y x → p.candidate x app ≡ p.candidate y app
+  pub alike : (x y : List Operation) (app : AppId) → AreOperationsOf x y → AreOperationsOf y x → p.candidate x app ≡ p.candidate y app
   -- a candidate is live
   pub live : (x : List Operation) (app : AppId) (n : NodeId) → p.candidate x app ≡ Some n → p.IsLive x n
   -- claims make nobody live
@@ -54,7 +54,7 @@ pub record IsPlacement (p : Placement) : Type 0 where
   -- only what isn't settled is claimed well
   pub unsettled : (s : List Operation) (app : AppId) (o : Operation) → p.IsWell s app o → IsSome (p.candidate s app)
   -- a claim that is well made settles its application
-  pub settles : (s x : List Operation) (app : AppId) (o : Operation) → IsGrown p s x → In o x → p.IsWell s app o
+  pub settles : (s x : List Operation) (app : AppId) (o : Operation) → IsGrown p s x → IsOperationOf o x → p.IsWell s app o
       → p.candidate x app ≡ None
   -- who is to make a claim makes it well
   pub well : (s x : List Operation) (app : AppId) (n : NodeId) → IsGrown p s x → p.candidate x app ≡ Some n
@@ -114,7 +114,7 @@ Ticks n (e ∷ es) = IsTickOf n e ⊎ Ticks n es
 
 -- all running nodes hold the same set
 abbrev pub AllSame : Held → Type 0
-AllSame held = (m n : NodeId) (x y : List Operation) → held m ≡ Some x → held n ≡ Some y → Within x y
+AllSame held = (m n : NodeId) (x y : List Operation) → held m ≡ Some x → held n ≡ Some y → AreOperationsOf x y
 
 -- all hold the same set, and who is live in it runs
 pub record IsReady (p : Placement) (held : Held) : Type 0 where

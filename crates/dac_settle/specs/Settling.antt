@@ -10,7 +10,7 @@ use Rattle.dac_chains.specs.declared.claims.Claim.{Claim}
 use Rattle.dac_chains.specs.Lives.{IsLive}
 use Rattle.dac_operations.specs.Operations.{Operation}
 use Rattle.dac_meaning.specs.StateValue.{StateValue}
-use Rattle.dac_meaning.specs.Meaning.{Within, Agree, meaning_of}
+use Rattle.dac_meaning.specs.Meaning.{AreOperationsOf, DotsDetermine, meaning_of}
 use Rattle.dac_config.specs.Table.{Table, app_count, timeout_of}
 use Rattle.dac_placement.specs.declared.verdicts.Verdict.{Verdict}
 use Rattle.dac_placement.specs.declared.verdicts.Verdict.TheVariants.{Start, Failover, Halted, Move, Takeover, Kept, Nobody}
@@ -67,7 +67,7 @@ pub data MemberEvent : Type 0 where
 -- A tick in a round. No two operations that the node holds have one dot, all that it noted has waited its time, and
 -- it passes no application.
 pub record IsTick (t : Table) (n : NodeId) (d : Member) (now : ℕ) : Type 0 where
-  pub agree : Agree d.held
+  pub agree : DotsDetermine d.held
   pub late : IsLate t d.notes now
   pub passed : (turn_at t n d now).passed ≡ []
 
@@ -94,7 +94,7 @@ Ticks n (e ∷ es) = ((now : ℕ) × (Tick n now ≡ e)) ⊎ Ticks n es
 
 -- all running nodes hold the same set
 abbrev pub AllSame : (NodeId → Option Member) → Type 0
-AllSame node = (m n : NodeId) (d e : Member) → node m ≡ Some d → node n ≡ Some e → Within d.held e.held
+AllSame node = (m n : NodeId) (d e : Member) → node m ≡ Some d → node n ≡ Some e → AreOperationsOf d.held e.held
 
 -- All running nodes hold the same set. Who is live in it runs, at that incarnation, and who runs is live in it. Each
 -- running node has noted each lost claim.

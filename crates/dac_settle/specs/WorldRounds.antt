@@ -11,7 +11,7 @@ use Rattle.dac_events.specs.declared.What.{What}
 use Rattle.dac_events.specs.declared.What.TheVariants.{Tick as Ticks}
 use Rattle.dac_messages.specs.declared.reply.Reply.{Reply}
 use Rattle.dac_messages.specs.declared.reply.Reply.TheVariants.{Ticked, Shipped, Heard}
-use Rattle.dac_model_world.specs.ModelNode.{ModelRun}
+use Rattle.dac_model_world.specs.ModelNode.{ModelRunning}
 use Rattle.dac_events.specs.declared.world_fault.WorldFault.{WorldFault}
 use Rattle.dac_model_world.specs.WorldValue.{WorldValue}
 use Rattle.dac_model_world.specs.ModelWorld.{ModelWorld, AnsweredAs, start, went, world_after}
@@ -23,13 +23,13 @@ use Rattle.dac_settle.specs.Settling.{Member, IsLate, AllSame, IsReady, IsSettle
 -- ---- what settling sees of a world
 
 -- a running node and its set: its incarnation, its operations and its notes
-abbrev pub member_by : Option ModelRun → Option NodeSet → Option Member
+abbrev pub member_by : Option ModelRunning → Option NodeSet → Option Member
 member_by None held = None
 member_by (Some r) None = None
 member_by (Some r) (Some set) = Some (record { inc = r.origin.inc; held = set.operations; notes = r.notes })
 
 abbrev pub members_of : ModelWorld → SetWorld → NodeId → Option Member
-members_of w s n = member_by (w.node n).run (s.node n)
+members_of w s n = member_by (w.node n).running (s.node n)
 
 -- All running nodes hold the same set. Who is live in it runs, at that incarnation, and who runs is live in it. Each
 -- running node has noted each lost claim.
@@ -39,7 +39,7 @@ IsReadyWorld w s = IsReady (members_of w s)
 -- ---- rounds
 
 -- where a running node ticks, each claim that it noted as lost has waited its application's time by then
-abbrev pub IsLateBy : Table → Option ModelRun → What → Type 0
+abbrev pub IsLateBy : Table → Option ModelRunning → What → Type 0
 IsLateBy t (Some r) (Ticks now) = IsLate t r.notes now
 IsLateBy t (Some r) _ = Unit {0}
 IsLateBy t None what = Unit {0}
@@ -49,7 +49,7 @@ IsLateBy t None what = Unit {0}
 -- Whatever is refused may come.
 abbrev pub InRound : Table → ℕ → ModelWorld → NodeId → What → Result Reply WorldFault → Type 0
 InRound t before w n what (Err why) = Unit {0}
-InRound t before w n what (Ok (Ticked ops passed)) = (passed ≡ []) × IsLateBy t (w.node n).run what
+InRound t before w n what (Ok (Ticked ops passed)) = (passed ≡ []) × IsLateBy t (w.node n).running what
 InRound t before w n what (Ok (Shipped m)) = Unit {0}
 InRound t before w n what (Ok (Heard fresh)) = IsSince before what
 InRound t before w n what (Ok _) = ⊥
@@ -77,7 +77,7 @@ pub record IsWorldRound (t : Table) (w : ModelWorld) (s : SetWorld) (events : Li
     (answers : List (Result Reply WorldFault)) : Type 0 where
   pub answered : AnsweredAs t w events answers
   pub fits : AreInRound t (length s.copies) w events answers
-  pub ticks : (n : NodeId) → IsSome (w.node n).run → AnswersTick n events answers
+  pub ticks : (n : NodeId) → IsSome (w.node n).running → AnswersTick n events answers
   pub same : AllSame (members_of (world_after t w events answers) (set_run s events answers))
 
 -- they are so many rounds, one after another

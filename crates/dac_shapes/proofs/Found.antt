@@ -6,9 +6,9 @@ use Rattle.dac_tokens.specs.declared.token.Symbol.{Symbol}
 use Rattle.dac_tokens.specs.declared.token.Symbol.TheVariants.{OpenList, CloseList, OpenTuple, CloseTuple, Comma, FullStop}
 use Rattle.dac_tokens.specs.declared.fault.FaultKind.TheVariants.{BadShape}
 use Rattle.dac_tokens.specs.Gives.{◌>>=◌}
-use Rattle.dac_tokens.specs.Words.{Word, Mark, End, Located, is_end, Name, Number, Text}
+use Rattle.dac_tokens.specs.Words.{Word, Punctuation, End, Located, is_end, Name, Number, Text}
 use Rattle.dac_tokens.specs.Stream.{Stream, taken, taken_of}
-use Rattle.dac_shapes.specs.Shape.{State, fails, byte_of, is_mark, token, symbol_at, more_at, comma_list, list_of, pair_at, closed, room, is_text, terms_at, terms_in, texts_at, term_by, term_at, passed_at}
+use Rattle.dac_shapes.specs.Shape.{State, fails, byte_of, is_symbol, token, symbol_at, more_at, comma_list, list_of, pair_at, closed, room, is_text, terms_at, terms_in, texts_at, term_by, term_at, passed_at}
 use Rattle.dac_shapes.specs.laws.Names.{chosen}
 use Rattle.dac_shapes.specs.Limits.{Seen, AllMay, steps}
 use Rattle.dac_shapes.specs.Grammar.{Parted, PartedOrNone, IsListOf, between, AreBrackets, IsTerm, AreTerms, OfList, OfTuple, Atom, Integer, Strings, Empty, Between, One, More}
@@ -100,30 +100,30 @@ same_byte Comma Comma e = refl
 same_byte FullStop FullStop e = refl
 same_byte _ _ e = absurd cc
 
-pub mark_is : (x : Symbol) (w : Word) → is_mark x w ≡ true → w ≡ Mark x
-mark_is x (Mark y) e = ap Mark (same_byte x y e)
+pub mark_is : (x : Symbol) (w : Word) → is_symbol x w ≡ true → w ≡ Punctuation x
+mark_is x (Punctuation y) e = ap Punctuation (same_byte x y e)
 mark_is x _ e = absurd cc
 
-pub symbol_passes : (x : Symbol) (s u : State) → EndsWell s → symbol_at x s ≡ Ok u → Passes s (Mark x ∷ []) u
+pub symbol_passes : (x : Symbol) (s u : State) → EndsWell s → symbol_at x s ≡ Ok u → Passes s (Punctuation x ∷ []) u
 unfolding symbol_at
 symbol_passes x s u well e =
     let b = bind_ok _ _ _ e in
     let h = held _ _ _ _ b.2 in
-    subst (λ (v : State). Passes s (Mark x ∷ []) v) h.1 (word_passes s b.0.0 b.0.1 (Mark x) well b.1 (mark_is x b.0.0.word h.0) refl)
+    subst (λ (v : State). Passes s (Punctuation x ∷ []) v) h.1 (word_passes s b.0.0 b.0.1 (Punctuation x) well b.1 (mark_is x b.0.0.word h.0) refl)
 
--- the mark that parts or closes
+-- the symbol that parts or closes
 abbrev pub part : Bool → Symbol → Symbol
 part more close = cond more Comma close
 
-pub more_passes : (close : Symbol) (s : State) (more : Bool) (u : State) → EndsWell s → more_at close s ≡ Ok (more, u) → Passes s (Mark (part more close) ∷ []) u
+pub more_passes : (close : Symbol) (s : State) (more : Bool) (u : State) → EndsWell s → more_at close s ≡ Ok (more, u) → Passes s (Punctuation (part more close) ∷ []) u
 unfolding more_at
 more_passes close s more u well e =
-    let b = bind_ok (token s) (λ t. cond (is_mark Comma t.0.word) (Ok (true, t.1)) (cond (is_mark close t.0.word) (Ok (false, t.1)) (fails BadShape t.0.at))) (more, u) e in
-    elim (chosen (is_mark Comma b.0.0.word) (Ok (true, b.0.1)) (cond (is_mark close b.0.0.word) (Ok (false, b.0.1)) (fails BadShape b.0.0.at)) (Ok (more, u)) b.2) [
-      | inl h ↦ let q = ok_is (true, b.0.1) (more, u) h.1 in subst (λ (p : Bool × State). Passes s (Mark (part p.0 close) ∷ []) p.1) q (word_passes s b.0.0 b.0.1 (Mark Comma) well b.1 (mark_is Comma b.0.0.word h.0) refl)
+    let b = bind_ok (token s) (λ t. cond (is_symbol Comma t.0.word) (Ok (true, t.1)) (cond (is_symbol close t.0.word) (Ok (false, t.1)) (fails BadShape t.0.at))) (more, u) e in
+    elim (chosen (is_symbol Comma b.0.0.word) (Ok (true, b.0.1)) (cond (is_symbol close b.0.0.word) (Ok (false, b.0.1)) (fails BadShape b.0.0.at)) (Ok (more, u)) b.2) [
+      | inl h ↦ let q = ok_is (true, b.0.1) (more, u) h.1 in subst (λ (p : Bool × State). Passes s (Punctuation (part p.0 close) ∷ []) p.1) q (word_passes s b.0.0 b.0.1 (Punctuation Comma) well b.1 (mark_is Comma b.0.0.word h.0) refl)
       | inr h ↦
-          let g = held (is_mark close b.0.0.word) (false, b.0.1) _ (more, u) h.1 in
-          subst (λ (p : Bool × State). Passes s (Mark (part p.0 close) ∷ []) p.1) g.1 (word_passes s b.0.0 b.0.1 (Mark close) well b.1 (mark_is close b.0.0.word g.0) refl)
+          let g = held (is_symbol close b.0.0.word) (false, b.0.1) _ (more, u) h.1 in
+          subst (λ (p : Bool × State). Passes s (Punctuation (part p.0 close) ∷ []) p.1) g.1 (word_passes s b.0.0 b.0.1 (Punctuation close) well b.1 (mark_is close b.0.0.word g.0) refl)
     ]
 
 -- s, with the token t before it
@@ -155,46 +155,46 @@ token_then s t u ws v well e begun m =
 
 module _ {A : Type 0} (Is : List Word → A → Type 0) (read : List A → Located → State → Result (A × State) ConfigFault) (close : Symbol) (step : Seen → A → Seen) (May : List A → Seen → A → Type 0)
     (reads : (before : List A) (t : Located) (s : State) (x : A) (u : State) → EndsWell s → read before t s ≡ Ok (x, u) → Reads Is step (May before) t s x u) where
-  -- what a list of such things is: what came before, and the things that were read up to the closing mark
+  -- what a list of such things is: what came before, and the things that were read up to the closing symbol
   pub record Lists (before : List A) (t : Located) (s : State) (all : List A) (u : State) : Type 0 where
     pub xs : List A
     pub whole : all ≡ before ++ xs
     pub ws : List Word
     pub is : Parted Is ws xs
-    pub moves : Moves (back t s) (ws ++ Mark close ∷ []) u
+    pub moves : Moves (back t s) (ws ++ Punctuation close ∷ []) u
     pub begun : is_end t.word ≡ false
     pub may : AllMay step May before s.seen xs
     pub seen : u.seen ≡ steps step s.seen xs
 
-  parted_more : (first rest : List Word) (x : A) (xs : List A) → Is first x → Parted Is rest xs → Parted Is (first ++ Mark Comma ∷ rest) (x ∷ xs)
+  parted_more : (first rest : List Word) (x : A) (xs : List A) → Is first x → Parted Is rest xs → Parted Is (first ++ Punctuation Comma ∷ rest) (x ∷ xs)
   parted_more first rest x [] i p = absurd p
   parted_more first rest x (y ∷ ys) i p = (first, rest, refl, i, p)
 
-  last_one : (before : List A) (t : Located) (s : State) (x : A) (s1 : State) (u : State) → Reads Is step (May before) t s x s1 → Passes s1 (Mark close ∷ []) u → Lists before t s (before ++ x ∷ []) u
+  last_one : (before : List A) (t : Located) (s : State) (x : A) (s1 : State) (u : State) → Reads Is step (May before) t s x s1 → Passes s1 (Punctuation close ∷ []) u → Lists before t s (before ++ x ∷ []) u
   last_one before t s x s1 u r m = record {
     xs = x ∷ [];
     whole = refl;
     ws = r.ws;
     is = r.is;
     begun = r.begun;
-    moves = Moves-then (back t s) s1 u r.ws (Mark close ∷ []) r.moves m.moves;
+    moves = Moves-then (back t s) s1 u r.ws (Punctuation close ∷ []) r.moves m.moves;
     may = (r.may, tt);
     seen = m.seen ∙ r.seen;
   }
 
   -- one more, a comma, the token after it and what is read from that on
-  one_more : (before : List A) (t : Located) (s : State) (x : A) (s1 s2 : State) (t' : Located) (s3 : State) (all : List A) (u : State) → Reads Is step (May before) t s x s1 → Passes s1 (Mark Comma ∷ []) s2 → token s2 ≡ Ok (t', s3)
+  one_more : (before : List A) (t : Located) (s : State) (x : A) (s1 s2 : State) (t' : Located) (s3 : State) (all : List A) (u : State) → Reads Is step (May before) t s x s1 → Passes s1 (Punctuation Comma ∷ []) s2 → token s2 ≡ Ok (t', s3)
       → Lists (before ++ x ∷ []) t' s3 all u → Lists before t s all u
   one_more before t s x s1 s2 t' s3 all u r m k l =
-      let tail = token_then s2 t' s3 (l.ws ++ Mark close ∷ []) u m.well k l.begun l.moves in
-      let both = Moves-then (back t s) s1 u r.ws (Mark Comma ∷ l.ws ++ Mark close ∷ []) r.moves (Moves-then s1 s2 u (Mark Comma ∷ []) (l.ws ++ Mark close ∷ []) m.moves tail) in
+      let tail = token_then s2 t' s3 (l.ws ++ Punctuation close ∷ []) u m.well k l.begun l.moves in
+      let both = Moves-then (back t s) s1 u r.ws (Punctuation Comma ∷ l.ws ++ Punctuation close ∷ []) r.moves (Moves-then s1 s2 u (Punctuation Comma ∷ []) (l.ws ++ Punctuation close ∷ []) m.moves tail) in
       let next : s3.seen ≡ step s.seen x = (token_is s2 t' s3 k).1 ∙ m.seen ∙ r.seen in
       record {
         xs = x ∷ l.xs;
         whole = l.whole ∙ append_assoc before (x ∷ []) l.xs;
-        ws = r.ws ++ Mark Comma ∷ l.ws;
+        ws = r.ws ++ Punctuation Comma ∷ l.ws;
         is = parted_more r.ws l.ws x l.xs r.is l.is;
-        moves = subst (λ (w : List Word). Moves (back t s) w u) (sym (append_assoc r.ws (Mark Comma ∷ l.ws) (Mark close ∷ []))) both;
+        moves = subst (λ (w : List Word). Moves (back t s) w u) (sym (append_assoc r.ws (Punctuation Comma ∷ l.ws) (Punctuation close ∷ []))) both;
         begun = r.begun;
         may = (r.may, subst (λ (q : Seen). AllMay step May (before ++ x ∷ []) q l.xs) next l.may);
         seen = l.seen ∙ ap (λ (q : Seen). steps step q l.xs) next;
@@ -211,12 +211,12 @@ module _ {A : Type 0} (Is : List Word → A → Type 0) (read : List A → Locat
       let m = more_passes close a.0.1 b.0.0 b.0.1 well1 b.1 in
       elim (chosen b.0.0 (token b.0.1 >>= λ next. comma_list read close n (before ++ a.0.0 ∷ []) next.0 next.1) (Ok (before ++ a.0.0 ∷ [], b.0.1)) (Ok (all, u)) b.2) [
         | inl h ↦
-            let m1 = subst (λ (c : Bool). Passes a.0.1 (Mark (part c close) ∷ []) b.0.1) h.0 m in
+            let m1 = subst (λ (c : Bool). Passes a.0.1 (Punctuation (part c close) ∷ []) b.0.1) h.0 m in
             let k = bind_ok (token b.0.1) (λ next. comma_list read close n (before ++ a.0.0 ∷ []) next.0 next.1) (all, u) h.1 in
             let well3 : EndsWell k.0.1 = same_last b.0.1 k.0.0 k.0.1 m1.well k.1 in
             one_more before t s a.0.0 a.0.1 b.0.1 k.0.0 k.0.1 all u r m1 k.1 (list_found n (before ++ a.0.0 ∷ []) k.0.0 k.0.1 all u well3 k.2)
         | inr h ↦
-            let m0 = subst (λ (c : Bool). Passes a.0.1 (Mark (part c close) ∷ []) b.0.1) h.0 m in
+            let m0 = subst (λ (c : Bool). Passes a.0.1 (Punctuation (part c close) ∷ []) b.0.1) h.0 m in
             subst (λ (p : List A × State). Lists before t s p.0 p.1) (ok_is (before ++ a.0.0 ∷ [], b.0.1) (all, u) h.1) (last_one before t s a.0.0 a.0.1 b.0.1 r m0)
       ]
 
@@ -230,29 +230,29 @@ module _ {A : Type 0} (Is : List Word → A → Type 0) (read : List A → Locat
   pub bracketed_found : (s : State) (xs : List A) (u : State) → EndsWell s → list_of read s ≡ Ok (xs, u) → Gets (IsListOf Is) (steps step) (AllMay step May []) s xs u
   unfolding list_of
   bracketed_found s xs u well e =
-      let f2 : Located × State → Result (List A × State) ConfigFault = λ first. cond (is_mark CloseList first.0.word) (Ok ([], first.1)) (comma_list read CloseList (room first.1) [] first.0 first.1) in
+      let f2 : Located × State → Result (List A × State) ConfigFault = λ first. cond (is_symbol CloseList first.0.word) (Ok ([], first.1)) (comma_list read CloseList (room first.1) [] first.0 first.1) in
       let f1 : State → Result (List A × State) ConfigFault = λ v. token v >>= f2 in
       let a = bind_ok (symbol_at OpenList s) f1 (xs, u) e in
       let m = symbol_passes OpenList s a.0 well a.1 in
       let k = bind_ok (token a.0) f2 (xs, u) a.2 in
-      elim (chosen (is_mark CloseList k.0.0.word) (Ok ([], k.0.1)) (comma_list read CloseList (room k.0.1) [] k.0.0 k.0.1) (Ok (xs, u)) k.2) [
+      elim (chosen (is_symbol CloseList k.0.0.word) (Ok ([], k.0.1)) (comma_list read CloseList (room k.0.1) [] k.0.0 k.0.1) (Ok (xs, u)) k.2) [
         | inl h ↦
-            let n = word_passes a.0 k.0.0 k.0.1 (Mark CloseList) m.well k.1 (mark_is CloseList k.0.0.word h.0) refl in
+            let n = word_passes a.0 k.0.0 k.0.1 (Punctuation CloseList) m.well k.1 (mark_is CloseList k.0.0.word h.0) refl in
             subst (λ (p : List A × State). Gets (IsListOf Is) (steps step) (AllMay step May []) s p.0 p.1) (ok_is ([], k.0.1) (xs, u) h.1) (record {
               ws = between OpenList [] CloseList;
               is = ([], refl, refl);
-              moves = Moves-then s a.0 k.0.1 (Mark OpenList ∷ []) (Mark CloseList ∷ []) m.moves n.moves;
+              moves = Moves-then s a.0 k.0.1 (Punctuation OpenList ∷ []) (Punctuation CloseList ∷ []) m.moves n.moves;
               may = tt;
               seen = n.seen ∙ m.seen;
             })
         | inr h ↦
             let l = list_found Is read CloseList step May reads (room k.0.1) [] k.0.0 k.0.1 xs u (same_last a.0 k.0.0 k.0.1 m.well k.1) h.1 in
-            let tail = token_then a.0 k.0.0 k.0.1 (l.ws ++ Mark CloseList ∷ []) u m.well k.1 l.begun l.moves in
+            let tail = token_then a.0 k.0.0 k.0.1 (l.ws ++ Punctuation CloseList ∷ []) u m.well k.1 l.begun l.moves in
             let before : k.0.1.seen ≡ s.seen = (token_is a.0 k.0.0 k.0.1 k.1).1 ∙ m.seen in
             subst (λ (all : List A). Gets (IsListOf Is) (steps step) (AllMay step May []) s all u) (sym l.whole) (record {
               ws = between OpenList l.ws CloseList;
               is = (l.ws, refl, parted_some Is read CloseList step May reads l.ws l.xs l.is);
-              moves = Moves-then s a.0 u (Mark OpenList ∷ []) (l.ws ++ Mark CloseList ∷ []) m.moves tail;
+              moves = Moves-then s a.0 u (Punctuation OpenList ∷ []) (l.ws ++ Punctuation CloseList ∷ []) m.moves tail;
               may = subst (λ (q : Seen). AllMay step May [] q l.xs) before l.may;
               seen = l.seen ∙ ap (λ (q : Seen). steps step q l.xs) before;
             })
@@ -260,14 +260,14 @@ module _ {A : Type 0} (Is : List Word → A → Type 0) (read : List A → Locat
 
 -- the words of a pair up to its comma, and then these
 abbrev pub pair_begun : List ℕ → List Word → List Word
-pair_begun name rest = Mark OpenTuple ∷ Name name ∷ Mark Comma ∷ rest
+pair_begun name rest = Punctuation OpenTuple ∷ Name name ∷ Punctuation Comma ∷ rest
 
 -- the words of a pair of a name and a value
 abbrev pub pair_words : List ℕ → List Word → List Word
-pair_words name value = Mark OpenTuple ∷ Name name ∷ Mark Comma ∷ value ++ Mark CloseTuple ∷ []
+pair_words name value = Punctuation OpenTuple ∷ Name name ∷ Punctuation Comma ∷ value ++ Punctuation CloseTuple ∷ []
 
 module _ {A : Type 0} (Is : List Word → A → Type 0) (value : State → Result (A × State) ConfigFault) (step : Seen → A → Seen) (May : Seen → A → Type 0)
-    (valued : (s : State) (x : A) (u : State) → EndsWell s → value s ≡ Ok (x, u) → Gets (λ ws x. Is (ws ++ Mark CloseTuple ∷ []) x) step May s x u) where
+    (valued : (s : State) (x : A) (u : State) → EndsWell s → value s ≡ Ok (x, u) → Gets (λ ws x. Is (ws ++ Punctuation CloseTuple ∷ []) x) step May s x u) where
   -- a value, and the brace that closes its pair
   pub closed_found : (s : State) (x : A) (u : State) → EndsWell s → closed value s ≡ Ok (x, u) → Gets Is step May s x u
   closed_found s x u well e =
@@ -276,14 +276,14 @@ module _ {A : Type 0} (Is : List Word → A → Type 0) (value : State → Resul
       let b = bind_ok _ _ _ a.2 in
       let r = symbol_passes CloseTuple a.0.1 b.0 (still_well s a.0.1 v.ws well v.moves) b.1 in
       subst (λ (y : A × State). Gets Is step May s y.0 y.1) (ok_is (a.0.0, b.0) (x, u) b.2) (record {
-        ws = v.ws ++ Mark CloseTuple ∷ [];
+        ws = v.ws ++ Punctuation CloseTuple ∷ [];
         is = v.is;
-        moves = Moves-then s a.0.1 b.0 v.ws (Mark CloseTuple ∷ []) v.moves r.moves;
+        moves = Moves-then s a.0.1 b.0 v.ws (Punctuation CloseTuple ∷ []) v.moves r.moves;
         may = v.may;
         seen = r.seen ∙ v.seen;
       })
 
-joined_words : (w0 n : Word) (ws ws0 ws1 ws2 v : List Word) → w0 ≡ Mark OpenTuple → ws ≡ n ∷ ws0 → ws0 ≡ Mark Comma ∷ ws1 → ws1 ≡ v ++ ws2 → w0 ∷ ws ≡ Mark OpenTuple ∷ n ∷ Mark Comma ∷ (v ++ ws2)
+joined_words : (w0 n : Word) (ws ws0 ws1 ws2 v : List Word) → w0 ≡ Punctuation OpenTuple → ws ≡ n ∷ ws0 → ws0 ≡ Punctuation Comma ∷ ws1 → ws1 ≡ v ++ ws2 → w0 ∷ ws ≡ Punctuation OpenTuple ∷ n ∷ Punctuation Comma ∷ (v ++ ws2)
 joined_words w0 n ws ws0 ws1 ws2 v e0 e1 e2 e3 = cc
 
 module _ {K A : Type 0} (Is : List Word → A → Type 0) (name_of : Located → Result K ConfigFault) (Fine : K → List ℕ → Type 0) (rest : K → State → Result (A × State) ConfigFault) (step : Seen → A → Seen) (May : Seen → A → Type 0)
@@ -374,19 +374,19 @@ texts_found (suc n) s t u well e =
 
 -- ---- terms between brackets
 
--- terms parted by commas, and the closing mark
+-- terms parted by commas, and the closing symbol
 abbrev AreClosed : Symbol → List Word → Type 0
-AreClosed close words = (inner : List Word) × (words ≡ inner ++ Mark close ∷ []) × AreTerms inner
+AreClosed close words = (inner : List Word) × (words ≡ inner ++ Punctuation close ∷ []) × AreTerms inner
 
--- nothing, or terms parted by commas, and the closing mark
+-- nothing, or terms parted by commas, and the closing symbol
 abbrev AreClosedOrNone : Symbol → List Word → Type 0
-AreClosedOrNone close words = (words ≡ Mark close ∷ []) ⊎ AreClosed close words
+AreClosedOrNone close words = (words ≡ Punctuation close ∷ []) ⊎ AreClosed close words
 
 module _ (pass : Located → State → Result (Located × State) ConfigFault) (close : Symbol)
     (passes : (b : Located) (s : State) (t : Located) (u : State) → EndsWell s → pass b s ≡ Ok (t, u) → Skips IsTerm b s t u) where
-  -- a term, a mark and what is passed over from the token behind it on
-  after_term : (IsRest IsAll : List Word → Type 0) (x : Symbol) → ((first rest : List Word) → IsTerm first → IsRest rest → IsAll (first ++ Mark x ∷ rest)) → (b : Located) (s : State) (m : Located) (v : State) (t : Located) (u : State)
-      → Skips IsTerm b s m v → m.word ≡ Mark x → Jumps IsRest v t u → Skips IsAll b s t u
+  -- a term, a symbol and what is passed over from the token behind it on
+  after_term : (IsRest IsAll : List Word → Type 0) (x : Symbol) → ((first rest : List Word) → IsTerm first → IsRest rest → IsAll (first ++ Punctuation x ∷ rest)) → (b : Located) (s : State) (m : Located) (v : State) (t : Located) (u : State)
+      → Skips IsTerm b s m v → m.word ≡ Punctuation x → Jumps IsRest v t u → Skips IsAll b s t u
   after_term IsRest IsAll x more b s m v t u k w j = record {
     begun = k.begun;
     jumps = record {
@@ -394,7 +394,7 @@ module _ (pass : Located → State → Result (Located × State) ConfigFault) (c
       seen = j.seen ∙ k.jumps.seen;
       moved = λ begun.
           let first = k.jumps.moved (ap is_end w) in
-          let rest = (word_before IsRest (λ ws. (tail : List Word) × (ws ≡ Mark x ∷ tail) × IsRest tail) (Mark x) v t u (λ ws is. (ws, refl, is)) m w j).moved begun in
+          let rest = (word_before IsRest (λ ws. (tail : List Word) × (ws ≡ Punctuation x ∷ tail) × IsRest tail) (Punctuation x) v t u (λ ws is. (ws, refl, is)) m w j).moved begun in
           (first.0 ++ rest.0, subst (λ (ws : List Word). IsAll (first.0 ++ ws)) (sym rest.1.1) (more first.0 rest.1.0 first.1 rest.1.2), Moves-then (back b s) (back m v) (back t u) first.0 rest.0 first.2 rest.2);
     };
   }
@@ -404,31 +404,31 @@ module _ (pass : Located → State → Result (Located × State) ConfigFault) (c
   terms_found zero b s t u well e = absurd cc
   terms_found (suc n) b s t u well e =
       let f2 : Located × State → Result (Located × State) ConfigFault = λ next. terms_at pass close n next.0 next.1 in
-      let f1 : Located × State → Result (Located × State) ConfigFault = λ m. cond (is_mark close m.0.word) (token m.1) (cond (is_mark Comma m.0.word) (token m.1 >>= f2) (fails BadShape m.0.at)) in
+      let f1 : Located × State → Result (Located × State) ConfigFault = λ m. cond (is_symbol close m.0.word) (token m.1) (cond (is_symbol Comma m.0.word) (token m.1 >>= f2) (fails BadShape m.0.at)) in
       let a = bind_ok (pass b s) f1 (t, u) e in
       let k = passes b s a.0.0 a.0.1 well a.1 in
-      elim (chosen (is_mark close a.0.0.word) (token a.0.1) (cond (is_mark Comma a.0.0.word) (token a.0.1 >>= f2) (fails BadShape a.0.0.at)) (Ok (t, u)) a.2) [
+      elim (chosen (is_symbol close a.0.0.word) (token a.0.1) (cond (is_symbol Comma a.0.0.word) (token a.0.1 >>= f2) (fails BadShape a.0.0.at)) (Ok (t, u)) a.2) [
         | inl h ↦
-            after_term (λ ws. ws ≡ []) (AreClosed close) close (λ first rest is none. (first, ap (λ (ws : List Word). first ++ Mark close ∷ ws) none, One first is)) b s a.0.0 a.0.1 t u k (mark_is close a.0.0.word h.0)
+            after_term (λ ws. ws ≡ []) (AreClosed close) close (λ first rest is none. (first, ap (λ (ws : List Word). first ++ Punctuation close ∷ ws) none, One first is)) b s a.0.0 a.0.1 t u k (mark_is close a.0.0.word h.0)
             (token_jumps (λ ws. ws ≡ []) refl a.0.1 t u k.jumps.well h.1)
         | inr h ↦
-            let g = required (is_mark Comma a.0.0.word) (token a.0.1 >>= f2) _ (t, u) h.1 in
+            let g = required (is_symbol Comma a.0.0.word) (token a.0.1 >>= f2) _ (t, u) h.1 in
             let c = bind_ok (token a.0.1) f2 (t, u) g.1 in
             let rest = terms_found n c.0.0 c.0.1 t u (same_last a.0.1 c.0.0 c.0.1 k.jumps.well c.1) c.2 in
-            after_term (AreClosed close) (AreClosed close) Comma (λ first rest is more. (first ++ Mark Comma ∷ more.0, ap (λ (ws : List Word). first ++ Mark Comma ∷ ws) more.1 ∙ sym (append_assoc first (Mark Comma ∷ more.0) (Mark close ∷ [])), More first more.0 is more.2)) b s a.0.0 a.0.1 t u k
+            after_term (AreClosed close) (AreClosed close) Comma (λ first rest is more. (first ++ Punctuation Comma ∷ more.0, ap (λ (ws : List Word). first ++ Punctuation Comma ∷ ws) more.1 ∙ sym (append_assoc first (Punctuation Comma ∷ more.0) (Punctuation close ∷ [])), More first more.0 is more.2)) b s a.0.0 a.0.1 t u k
             (mark_is Comma a.0.0.word g.0) (taken_before (AreClosed close) a.0.1 c.0.0 c.0.1 t u k.jumps.well c.1 rest)
       ]
 
   terms_in_found : (n : ℕ) (s : State) (t : Located) (u : State) → EndsWell s → terms_in pass close n s ≡ Ok (t, u) → Jumps (AreClosedOrNone close) s t u
   unfolding terms_in
   terms_in_found n s t u well e =
-      let a = bind_ok (token s) (λ first. cond (is_mark close first.0.word) (token first.1) (terms_at pass close n first.0 first.1)) (t, u) e in
+      let a = bind_ok (token s) (λ first. cond (is_symbol close first.0.word) (token first.1) (terms_at pass close n first.0 first.1)) (t, u) e in
       let well1 = same_last s a.0.0 a.0.1 well a.1 in
-      elim (chosen (is_mark close a.0.0.word) (token a.0.1) (terms_at pass close n a.0.0 a.0.1) (Ok (t, u)) a.2) [
+      elim (chosen (is_symbol close a.0.0.word) (token a.0.1) (terms_at pass close n a.0.0 a.0.1) (Ok (t, u)) a.2) [
         | inl h ↦
             let w = mark_is close a.0.0.word h.0 in
             taken_before (AreClosedOrNone close) s a.0.0 a.0.1 t u well a.1
-            (record { begun = ap is_end w; jumps = word_before (λ ws. ws ≡ []) (AreClosedOrNone close) (Mark close) a.0.1 t u (λ ws none. inl (ap (λ (l : List Word). Mark close ∷ l) none)) a.0.0 w (token_jumps (λ ws. ws ≡ []) refl a.0.1 t u well1 h.1) })
+            (record { begun = ap is_end w; jumps = word_before (λ ws. ws ≡ []) (AreClosedOrNone close) (Punctuation close) a.0.1 t u (λ ws none. inl (ap (λ (l : List Word). Punctuation close ∷ l) none)) a.0.0 w (token_jumps (λ ws. ws ≡ []) refl a.0.1 t u well1 h.1) })
         | inr h ↦
             let k = terms_found n a.0.0 a.0.1 t u well1 h.1 in
             let j = taken_before (AreClosed close) s a.0.0 a.0.1 t u well a.1 k in
@@ -436,37 +436,37 @@ module _ (pass : Located → State → Result (Located × State) ConfigFault) (c
       ]
 
   -- what stands between brackets is a term with them
-  brackets_found : (n : ℕ) (open_mark : Symbol) (place : ℕ) (s : State) (t : Located) (u : State) → AreBrackets open_mark close → EndsWell s → terms_in pass close n s ≡ Ok (t, u) → Skips IsTerm (record { word = Mark open_mark; at = place }) s t u
-  brackets_found n open_mark place s t u pair well e = record {
+  brackets_found : (n : ℕ) (open_mark : Symbol) (offset : ℕ) (s : State) (t : Located) (u : State) → AreBrackets open_mark close → EndsWell s → terms_in pass close n s ≡ Ok (t, u) → Skips IsTerm (record { word = Punctuation open_mark; at = offset }) s t u
+  brackets_found n open_mark offset s t u pair well e = record {
     begun = refl;
-    jumps = word_before (AreClosedOrNone close) IsTerm (Mark open_mark) s t u is (record { word = Mark open_mark; at = place }) refl (terms_in_found n s t u well e);
+    jumps = word_before (AreClosedOrNone close) IsTerm (Punctuation open_mark) s t u is (record { word = Punctuation open_mark; at = offset }) refl (terms_in_found n s t u well e);
   }
     where
-      is : (ws : List Word) → AreClosedOrNone close ws → IsTerm (Mark open_mark ∷ ws)
-      is ws (inl h) = subst (λ (l : List Word). IsTerm (Mark open_mark ∷ l)) (sym h) (Empty open_mark close pair)
-      is ws (inr h) = subst (λ (l : List Word). IsTerm (Mark open_mark ∷ l)) (sym h.1) (Between open_mark close h.0 pair h.2)
+      is : (ws : List Word) → AreClosedOrNone close ws → IsTerm (Punctuation open_mark ∷ ws)
+      is ws (inl h) = subst (λ (l : List Word). IsTerm (Punctuation open_mark ∷ l)) (sym h) (Empty open_mark close pair)
+      is ws (inr h) = subst (λ (l : List Word). IsTerm (Punctuation open_mark ∷ l)) (sym h.1) (Between open_mark close h.0 pair h.2)
 
 -- ---- terms
 
-one_word : (w : Word) (place : ℕ) (s : State) (t : Located) (u : State) → IsTerm (w ∷ []) → is_end w ≡ false → EndsWell s → token s ≡ Ok (t, u) → Skips IsTerm (record { word = w; at = place }) s t u
-one_word w place s t u is no_end well e = record {
+one_word : (w : Word) (offset : ℕ) (s : State) (t : Located) (u : State) → IsTerm (w ∷ []) → is_end w ≡ false → EndsWell s → token s ≡ Ok (t, u) → Skips IsTerm (record { word = w; at = offset }) s t u
+one_word w offset s t u is no_end well e = record {
   begun = no_end;
-  jumps = word_before (λ ws. ws ≡ []) IsTerm w s t u (λ ws none. subst (λ (l : List Word). IsTerm (w ∷ l)) (sym none) is) (record { word = w; at = place }) refl (token_jumps (λ ws. ws ≡ []) refl s t u well e);
+  jumps = word_before (λ ws. ws ≡ []) IsTerm w s t u (λ ws none. subst (λ (l : List Word). IsTerm (w ∷ l)) (sym none) is) (record { word = w; at = offset }) refl (token_jumps (λ ws. ws ≡ []) refl s t u well e);
 }
 
 module _ (pass : Located → State → Result (Located × State) ConfigFault)
     (passes : (b : Located) (s : State) (t : Located) (u : State) → EndsWell s → pass b s ≡ Ok (t, u) → Skips IsTerm b s t u) where
-  term_by_found : (w : Word) (place n : ℕ) (s : State) (t : Located) (u : State) → EndsWell s → term_by pass n (record { word = w; at = place }) s ≡ Ok (t, u) → Skips IsTerm (record { word = w; at = place }) s t u
+  term_by_found : (w : Word) (offset n : ℕ) (s : State) (t : Located) (u : State) → EndsWell s → term_by pass n (record { word = w; at = offset }) s ≡ Ok (t, u) → Skips IsTerm (record { word = w; at = offset }) s t u
   unfolding term_by
-  term_by_found (Name name) place n s t u well e = one_word (Name name) place s t u (Atom name) refl well e
-  term_by_found (Number negative digits) place n s t u well e = one_word (Number negative digits) place s t u (Integer negative digits) refl well e
-  term_by_found Text place n s t u well e = record {
+  term_by_found (Name name) offset n s t u well e = one_word (Name name) offset s t u (Atom name) refl well e
+  term_by_found (Number negative digits) offset n s t u well e = one_word (Number negative digits) offset s t u (Integer negative digits) refl well e
+  term_by_found Text offset n s t u well e = record {
     begun = refl;
-    jumps = word_before AreTexts IsTerm Text s t u (λ ws all. Strings ws all) (record { word = Text; at = place }) refl (texts_found n s t u well e);
+    jumps = word_before AreTexts IsTerm Text s t u (λ ws all. Strings ws all) (record { word = Text; at = offset }) refl (texts_found n s t u well e);
   }
-  term_by_found (Mark OpenList) place n s t u well e = brackets_found pass CloseList passes n OpenList place s t u OfList well e
-  term_by_found (Mark OpenTuple) place n s t u well e = brackets_found pass CloseTuple passes n OpenTuple place s t u OfTuple well e
-  term_by_found _ place n s t u well e = absurd cc
+  term_by_found (Punctuation OpenList) offset n s t u well e = brackets_found pass CloseList passes n OpenList offset s t u OfList well e
+  term_by_found (Punctuation OpenTuple) offset n s t u well e = brackets_found pass CloseTuple passes n OpenTuple offset s t u OfTuple well e
+  term_by_found _ offset n s t u well e = absurd cc
 
 term_found : (n : ℕ) (b : Located) (s : State) (t : Located) (u : State) → EndsWell s → term_at n b s ≡ Ok (t, u) → Skips IsTerm b s t u
 unfolding term_at
@@ -477,7 +477,7 @@ term_found (suc n) b s t u well e = term_by_found (term_at n) (term_found n) b.w
 pub record PassesTerm (s : State) (u : State) : Type 0 where
   pub ws : List Word
   pub term : IsTerm ws
-  pub moves : Moves s (ws ++ Mark CloseTuple ∷ []) u
+  pub moves : Moves s (ws ++ Punctuation CloseTuple ∷ []) u
   pub seen : u.seen ≡ s.seen
 
 pub passed_found : (s : State) (u : State) → EndsWell s → passed_at s ≡ Ok u → PassesTerm s u
@@ -490,5 +490,5 @@ passed_found s u well e =
     let k = term_found (suc (room s)) a.0.0 a.0.1 b.0.0 b.0.1 (same_last s a.0.0 a.0.1 well a.1) b.1 in
     let j = taken_before IsTerm s a.0.0 a.0.1 b.0.0 b.0.1 well a.1 k in
     let m = j.moved (ap is_end w) in
-    let close : Moves (back b.0.0 b.0.1) (Mark CloseTuple ∷ []) b.0.1 = record { words = ap (λ (v : Word). v ∷ words_in b.0.1) w; last = refl } in
-    subst (λ (v : State). PassesTerm s v) h.1 (record { ws = m.0; term = m.1; moves = Moves-then s (back b.0.0 b.0.1) b.0.1 m.0 (Mark CloseTuple ∷ []) m.2 close; seen = j.seen })
+    let close : Moves (back b.0.0 b.0.1) (Punctuation CloseTuple ∷ []) b.0.1 = record { words = ap (λ (v : Word). v ∷ words_in b.0.1) w; last = refl } in
+    subst (λ (v : State). PassesTerm s v) h.1 (record { ws = m.0; term = m.1; moves = Moves-then s (back b.0.0 b.0.1) b.0.1 m.0 (Punctuation CloseTuple ∷ []) m.2 close; seen = j.seen })

@@ -11,7 +11,7 @@ use Rattle.dac_tokens.specs.Stream.{Stream, taken}
 use Rattle.dac_tokens.specs.declared.token.Symbol.{Symbol}
 use Rattle.dac_tokens.specs.Words.{Located, Word, End, is_end}
 use Rattle.dac_tokens.specs.declared.token.Symbol.TheVariants.{Comma}
-use Rattle.dac_shapes.specs.Shape.{State, token, more_at, comma_list, fails, is_mark, is_text, terms_at, terms_in, texts_at, term_by, term_at, IsEnough}
+use Rattle.dac_shapes.specs.Shape.{State, token, more_at, comma_list, fails, is_symbol, is_text, terms_at, terms_in, texts_at, term_by, term_at, IsEnough}
 use Rattle.dac_shapes.specs.Views.{Reading, app_of, apps_of, param_of, params_of, section_of, sections_of}
 use Rattle.dac_shapes.specs.declared.draft.DraftApp.{DraftApp}
 use Rattle.dac_shapes.specs.declared.param.Param.{Param}
@@ -162,7 +162,7 @@ module _ {total : Result (Located × State) ConfigFault} {s : State} (g : GoesTe
 
 -- ---- terms between brackets
 
-pub comma_no_end : (w : Word) → is_mark Comma w ≡ true → is_end w ≡ false
+pub comma_no_end : (w : Word) → is_symbol Comma w ≡ true → is_end w ≡ false
 comma_no_end End e = absurd cc
 comma_no_end _ e = refl
 
@@ -173,15 +173,15 @@ module _ (pass : Located → State → Result (Located × State) ConfigFault) (c
     pub enough : length s.left.tokens < n
     pub same : terms_at pass close n t s ≡ total
 
-  -- what is passed over from a term's first token on, from behind a term, and from behind the opening mark
+  -- what is passed over from a term's first token on, from behind a term, and from behind the opening symbol
   abbrev from_token : ℕ → Located × State → Result (Located × State) ConfigFault
   from_token n t = terms_at pass close n t.0 t.1
 
   abbrev from_behind : ℕ → Located × State → Result (Located × State) ConfigFault
-  from_behind n b = cond (is_mark close b.0.word) (token b.1) (cond (is_mark Comma b.0.word) (token b.1 >>= from_token n) (fails BadShape b.0.at))
+  from_behind n b = cond (is_symbol close b.0.word) (token b.1) (cond (is_symbol Comma b.0.word) (token b.1 >>= from_token n) (fails BadShape b.0.at))
 
   abbrev from_mark : ℕ → Located × State → Result (Located × State) ConfigFault
-  from_mark n t = cond (is_mark close t.0.word) (token t.1) (from_token n t)
+  from_mark n t = cond (is_symbol close t.0.word) (token t.1) (from_token n t)
 
   pub in_fail : (e : ConfigFault) (n : ℕ) (s : State) → Fails e (token s) → Fails e (terms_in pass close n s)
   unfolding terms_in
@@ -192,10 +192,10 @@ module _ (pass : Located → State → Result (Located × State) ConfigFault) (c
     unfolding terms_in
     first_is = then_is (token s) (from_mark n) (t, u) (terms_in pass close n s) refl e
 
-    pub in_empty : is_mark close t.word ≡ true → terms_in pass close n s ≡ token u
+    pub in_empty : is_symbol close t.word ≡ true → terms_in pass close n s ≡ token u
     in_empty is = sym (when_true _ _ _ _ first_is is)
 
-    pub in_begin : is_mark close t.word ≡ false → length u.left.tokens < n → GoesTerms (terms_in pass close n s) t u
+    pub in_begin : is_symbol close t.word ≡ false → length u.left.tokens < n → GoesTerms (terms_in pass close n s) t u
     in_begin is lt = record { n = n; enough = lt; same = when_false _ _ _ _ first_is is }
 
   -- the first step, with the room that is left after it
@@ -215,17 +215,17 @@ module _ (pass : Located → State → Result (Located × State) ConfigFault) (c
       behind : from_behind term.0 (b, u) ≡ total
       behind = then_is (pass t s) (from_behind term.0) (b, u) total term.2 e
 
-      pub terms_end : is_mark close b.word ≡ true → total ≡ token u
+      pub terms_end : is_symbol close b.word ≡ true → total ≡ token u
       terms_end is = sym (when_true _ _ _ _ behind is)
 
-      module _ (is : is_mark close b.word ≡ false) where
-        more : cond (is_mark Comma b.word) (token u >>= from_token term.0) (fails BadShape b.at) ≡ total
+      module _ (is : is_symbol close b.word ≡ false) where
+        more : cond (is_symbol Comma b.word) (token u >>= from_token term.0) (fails BadShape b.at) ≡ total
         more = when_false _ _ _ _ behind is
 
-        pub terms_bad : is_mark Comma b.word ≡ false → total ≡ fails BadShape b.at
+        pub terms_bad : is_symbol Comma b.word ≡ false → total ≡ fails BadShape b.at
         terms_bad comma = sym (when_false _ _ _ _ more comma)
 
-        module _ (comma : is_mark Comma b.word ≡ true) where
+        module _ (comma : is_symbol Comma b.word ≡ true) where
           after : (token u >>= from_token term.0) ≡ total
           after = when_true _ _ _ _ more comma
 

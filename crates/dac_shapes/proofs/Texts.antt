@@ -7,7 +7,7 @@ use Rattle.dac_tokens.specs.declared.fault.ConfigFault.{ConfigFault}
 use Rattle.dac_tokens.specs.declared.token.Symbol.TheVariants.{OpenList, CloseList, OpenTuple, CloseTuple, Comma, FullStop}
 use Rattle.dac_tokens.specs.declared.fault.FaultKind.TheVariants.{BadShape, EmptyTuple, NumberTooLarge, NameTooLong, NoMemory}
 use Rattle.dac_tokens.specs.Gives.{◌>>=◌, OrMemory, Gives}
-use Rattle.dac_tokens.specs.Words.{Word, Mark, Name, Number, Located, is_end, End}
+use Rattle.dac_tokens.specs.Words.{Word, Punctuation, Name, Number, Located, is_end, End}
 use Rattle.dac_tokens.specs.Digits.{value_from}
 use Rattle.dac_tokens.specs.declared.fault.FaultKind.{FaultKind}
 use Rattle.dac_tokens.specs.TokenGrammar.{AreTokensOf}
@@ -18,7 +18,7 @@ use Rattle.dac_shapes.specs.declared.param.ParamName.{ParamName}
 use Rattle.dac_shapes.specs.declared.param.ParamName.TheVariants as named
 use Rattle.dac_shapes.specs.Written.{App, Permission, Param, Distributed, Permissions, Mandatory, Optional, Timeout, Section, Kernel, name_of, spelled, Written, written}
 use Rattle.dac_shapes.specs.Limits.{Seen, AllMay, steps, is_among, has_param, with_node, MayNode, with_nodes, MayNodes, with_groups, MayGroups, listing, with_app, MayApp, with_permission, MayPermission, with_param, MayValue, MayParam, has_kernel, with_section, MaySection, nothing}
-use Rattle.dac_shapes.specs.Shape.{State, fails, is_mark, token, atom_of, short_name_of, node_of, names_at, item_at, groups_at, milliseconds_of, timeout_at, wait_of, app_name_of, app_value_at, app_at, flag_of, permission_value_at, permission_at, param_named, first_param, param_name_of, param_value_at, param_rest_at, param_at, names_kernel, kernel_at, section_rest_at, section_at, closed, list_of, room, end_at, file_at}
+use Rattle.dac_shapes.specs.Shape.{State, fails, is_symbol, token, atom_of, short_name_of, node_of, names_at, item_at, groups_at, milliseconds_of, timeout_at, wait_of, app_name_of, app_value_at, app_at, flag_of, permission_value_at, permission_at, param_named, first_param, param_name_of, param_value_at, param_rest_at, param_at, names_kernel, kernel_at, section_rest_at, section_at, closed, list_of, room, end_at, file_at}
 use Rattle.dac_shapes.specs.Grammar.{between, IsListOf, IsNode, IsItem, IsNodeList, IsMs, IsTimeout, IsApp, IsFlag, IsPermission, IsWait, IsParam, IsSection, IsFile, IsTextOf}
 use Rattle.dac_shapes.specs.laws.Names.{chosen, is_named, same_seen, param_is}
 use Rattle.dac_shapes.specs.declared.draft.Draft.{Draft}
@@ -81,19 +81,19 @@ opened_by x w s t1 s1 u ws well is k begun m =
 pub item_found : (before : List (List (List ℕ))) (t : Located) (s : State) (group : List (List ℕ)) (u : State) → EndsWell s → item_at t s ≡ Ok (group, u) → Reads IsItem with_nodes (MayNodes false) t s group u
 unfolding item_at
 item_found before t s group u well e =
-    let f1 : Located × State → Result (List (List ℕ) × State) ConfigFault = λ first. cond (is_mark CloseTuple first.0.word) (fails EmptyTuple t.at) (names_at false CloseTuple first.0 first.1) in
+    let f1 : Located × State → Result (List (List ℕ) × State) ConfigFault = λ first. cond (is_symbol CloseTuple first.0.word) (fails EmptyTuple t.at) (names_at false CloseTuple first.0 first.1) in
     let alone : Result (List (List ℕ) × State) ConfigFault = node_of false t s >>= λ name. Ok (name.0 ∷ [], name.1) in
-    elim (chosen (is_mark OpenTuple t.word) (token s >>= f1) alone (Ok (group, u)) e) [
+    elim (chosen (is_symbol OpenTuple t.word) (token s >>= f1) alone (Ok (group, u)) e) [
       | inl h ↦
           let w = mark_is OpenTuple t.word h.0 in
           let k = bind_ok (token s) f1 (group, u) h.1 in
-          let p = passed (is_mark CloseTuple k.0.0.word) _ (names_at false CloseTuple k.0.0 k.0.1) (group, u) k.2 in
+          let p = passed (is_symbol CloseTuple k.0.0.word) _ (names_at false CloseTuple k.0.0 k.0.1) (group, u) k.2 in
           let l = list_found IsNode (λ _. node_of false) CloseTuple with_node (λ _. MayNode false) (node_found false) (room k.0.1) [] k.0.0 k.0.1 group u (same_last s k.0.0 k.0.1 well k.1) p.1 in
           let same : k.0.1.seen ≡ s.seen = (token_is s k.0.0 k.0.1 k.1).1 in
           subst (λ (g : List (List ℕ)). Reads IsItem with_nodes (MayNodes false) t s g u) (sym l.whole) (record {
             ws = between OpenTuple l.ws CloseTuple;
             is = inr (l.ws, refl, l.is);
-            moves = opened_by t (Mark OpenTuple) s k.0.0 k.0.1 u (l.ws ++ Mark CloseTuple ∷ []) well w k.1 l.begun l.moves;
+            moves = opened_by t (Punctuation OpenTuple) s k.0.0 k.0.1 u (l.ws ++ Punctuation CloseTuple ∷ []) well w k.1 l.begun l.moves;
             begun = ap is_end w;
             may = subst (λ (q : Seen). MayNodes false q l.xs) same l.may;
             seen = l.seen ∙ ap (λ (q : Seen). with_nodes q l.xs) same;
@@ -124,7 +124,7 @@ groups_found t s groups u well e =
     subst (λ (g : List (List (List ℕ))). Reads IsNodeList with_list MayList t s g u) (sym l.whole) (record {
       ws = between OpenList l.ws CloseList;
       is = (l.ws, refl, l.is);
-      moves = opened_by t (Mark OpenList) s k.0.0 k.0.1 u (l.ws ++ Mark CloseList ∷ []) well w k.1 l.begun (record { words = l.moves.words; last = l.moves.last });
+      moves = opened_by t (Punctuation OpenList) s k.0.0 k.0.1 u (l.ws ++ Punctuation CloseList ∷ []) well w k.1 l.begun (record { words = l.moves.words; last = l.moves.last });
       begun = ap is_end w;
       may = subst (λ (q : Seen). MayList q l.xs) same l.may;
       seen = l.seen ∙ ap (λ (q : Seen). with_list q l.xs) same;
@@ -166,7 +166,7 @@ timed (Number negative digits) at s n t1 u well e =
       seen = (token_is b.0 k.0.0 k.0.1 k.1).1 ∙ m.seen;
       moved = λ begun.
           let next = token_moves b.0 k.0.0 k.0.1 m.well k.1 begun in
-          (Number negative digits ∷ Mark Comma ∷ [], inr (Number negative digits, refl, ms_is at negative digits a.0 a.1), record { words = ap (λ (v : List Word). Number negative digits ∷ v) (m.moves.words ∙ ap (λ (v : List Word). Mark Comma ∷ v) next.words); last = next.last ∙ m.moves.last }, refl);
+          (Number negative digits ∷ Punctuation Comma ∷ [], inr (Number negative digits, refl, ms_is at negative digits a.0 a.1), record { words = ap (λ (v : List Word). Number negative digits ∷ v) (m.moves.words ∙ ap (λ (v : List Word). Punctuation Comma ∷ v) next.words); last = next.last ∙ m.moves.last }, refl);
     })
 timed w at s n t1 u well e = untimed (record { word = w; at = at }) s n t1 u well e
 
@@ -339,7 +339,7 @@ param_rested before None name s p u well (Unknown other) e =
     let a = bind_ok _ _ _ e in
     let m = passed_found s a.0 well a.1 in
     subst (λ (y : Param × State). Gets (λ ws x. IsParam (pair_begun name ws) x) with_param (MayParam before) s y.0 y.1) (ok_is (Param.Other, a.0) (p, u) a.2) (record {
-      ws = m.ws ++ Mark CloseTuple ∷ [];
+      ws = m.ws ++ Punctuation CloseTuple ∷ [];
       is = (name, unknown_is name other, (m.ws, refl, m.term));
       moves = m.moves;
       may = record { once = λ known is. absurd (nothing known is); value = tt };
@@ -387,7 +387,7 @@ section_rested before false name s x u well (IsOther other) e =
     let a = bind_ok _ _ _ e in
     let m = passed_found s a.0 well a.1 in
     subst (λ (y : Section × State). Gets (λ ws x. IsSection (pair_begun name ws) x) with_section (MaySection before) s y.0 y.1) (ok_is (Section.Other, a.0) (x, u) a.2)
-    (record { ws = m.ws ++ Mark CloseTuple ∷ []; is = (name, no_kernel, (m.ws, refl, m.term)); moves = m.moves; may = tt; seen = m.seen })
+    (record { ws = m.ws ++ Punctuation CloseTuple ∷ []; is = (name, no_kernel, (m.ws, refl, m.term)); moves = m.moves; may = tt; seen = m.seen })
   where
     no_kernel : name ≢ codes "kernel"
     no_kernel same = let wrong : true ≡ false = ap (λ (n : List ℕ). bytes_eq n (codes "kernel")) (sym same) ∙ other in cc
@@ -435,22 +435,22 @@ at_last (x ∷ xs) last t r no_end h is =
 
 -- the full stop, and nothing behind it
 record Ends (s : State) (v : State) : Type 0 where
-  pub words : words_in s ≡ Mark FullStop ∷ []
+  pub words : words_in s ≡ Punctuation FullStop ∷ []
   pub seen : v.seen ≡ s.seen
   pub end : Located
   pub last : s.left.last ≡ Ok end
 
-end_found : (s : State) (place : ℕ) (v : State) → EndsWell s → NoEnd (words_in s) → end_at s ≡ Ok (place, v) → Ends s v
+end_found : (s : State) (offset : ℕ) (v : State) → EndsWell s → NoEnd (words_in s) → end_at s ≡ Ok (offset, v) → Ends s v
 unfolding end_at
-end_found s place v well no_end e =
+end_found s offset v well no_end e =
     let a = bind_ok _ _ _ e in
     let m = symbol_passes FullStop s a.0 well a.1 in
     let b = bind_ok _ _ _ a.2 in
     let h = held _ _ _ _ b.2 in
     let is = token_is a.0 b.0.0 b.0.1 b.1 in
-    let none = at_last a.0.left.tokens a.0.left.last b.0.0 b.0.1.left (no_end_behind (Mark FullStop ∷ []) (words_in a.0) (subst NoEnd m.moves.words no_end)) is.0 h.0 in
+    let none = at_last a.0.left.tokens a.0.left.last b.0.0 b.0.1.left (no_end_behind (Punctuation FullStop ∷ []) (words_in a.0) (subst NoEnd m.moves.words no_end)) is.0 h.0 in
     record {
-      words = m.moves.words ∙ ap (λ (l : List Located). Mark FullStop ∷ map (λ x. x.word) l) none.0;
+      words = m.moves.words ∙ ap (λ (l : List Located). Punctuation FullStop ∷ map (λ x. x.word) l) none.0;
       seen = sym (ap (λ (p : ℕ × State). p.1.seen) h.1) ∙ is.1 ∙ m.seen;
       end = b.0.0;
       last = sym m.moves.last ∙ none.1;
@@ -458,18 +458,18 @@ end_found s place v well no_end e =
 
 -- ---- what is in the grammar is read
 
-end_again : (stop end : Located) (seen : Seen) → stop.word ≡ Mark FullStop → is_end end.word ≡ true → end_at (at (Ok end) (stop ∷ []) seen) ≡ Ok (end.at, at (Ok end) [] seen)
+end_again : (stop end : Located) (seen : Seen) → stop.word ≡ Punctuation FullStop → is_end end.word ≡ true → end_at (at (Ok end) (stop ∷ []) seen) ≡ Ok (end.at, at (Ok end) [] seen)
 unfolding end_at
 end_again stop end seen w e = rw (symbol_again (Ok end) FullStop stop [] seen refl w, e) refl
 
-file_by : (s t u : State) (place : ℕ) (sections : List Section) → list_of section_at s ≡ Ok (sections, t) → end_at t ≡ Ok (place, u) → eqb (length (written sections u.seen.met).apps) 0 ≡ false → file_at s ≡ Ok (written sections u.seen.met)
+file_by : (s t u : State) (offset : ℕ) (sections : List Section) → list_of section_at s ≡ Ok (sections, t) → end_at t ≡ Ok (offset, u) → eqb (length (written sections u.seen.met).apps) 0 ≡ false → file_at s ≡ Ok (written sections u.seen.met)
 unfolding file_at
-file_by s t u place sections a b c = rw (a, b, c) refl
+file_by s t u offset sections a b c = rw (a, b, c) refl
 
 file_again : (end : Located) (ts : List Located) (sections : List Section) → is_end end.word ≡ true → IsFile (map (λ t. t.word) ts) sections → AreWithinLimits sections → length (written sections (nodes_in sections)).apps ≢ 0
     → file_at (at (Ok end) ts nothing) ≡ Ok (written sections (nodes_in sections))
 file_again end ts sections is file within some =
-    let c = ended ts file.0 (Mark FullStop) file.1 in
+    let c = ended ts file.0 (Punctuation FullStop) file.1 in
     let list : IsListOf IsSection (map (λ t. t.word) c.front) sections = subst (λ (l : List Word). IsListOf IsSection l sections) (sym c.first) file.2 in
     let seen = steps with_section nothing sections in
     let some_app : length (written sections seen.met).apps ≢ 0 = subst (λ (nodes : List (List ℕ)). length (written sections nodes).apps ≢ 0) (sym (seen_is sections)) some in
@@ -529,9 +529,9 @@ pub found_in : (text : List ℕ) (s : Stream) (r : Result Draft ConfigFault) →
 found_in text s (Ok draft) known short e = text_found text s (draft_of draft) known short e
 found_in text s (Err fault) known short e = tt
 
-only_memory : (kind : FaultKind) (place : ℕ) (P : Type 0) → ¬ P → OrMemory kind place P → kind ≡ NoMemory
-only_memory NoMemory place P not h = refl
-only_memory _ place P not h = absurd (not h)
+only_memory : (kind : FaultKind) (offset : ℕ) (P : Type 0) → ¬ P → OrMemory kind offset P → kind ≡ NoMemory
+only_memory NoMemory offset P not h = refl
+only_memory _ offset P not h = absurd (not h)
 
 pub only_in : (text : List ℕ) (s : Stream) (r : Result Draft ConfigFault) → Tokenizes text s → Gives draft_of r (file_at (whole s)) → (draft : Written) → IsTextOf text draft → MatchResult r (λ d. draft_of d ≡ draft) (λ e. e.kind ≡ NoMemory)
 only_in text s (Ok d) known e draft is = ok_is (draft_of d) draft (sym e ∙ text_again text s draft known is)

@@ -3,7 +3,7 @@ use Rattle.std.specs.Prelude.{◌≡◌, ◌≢◌, ◌⊎◌, ℕ, ◌<◌, ◌
 use Rattle.dac_tokens.specs.declared.token.Symbol.{Symbol}
 use Rattle.dac_tokens.specs.declared.token.Symbol.TheVariants.{OpenList, CloseList, OpenTuple, CloseTuple, Comma, FullStop}
 use Rattle.dac_tokens.specs.TokenGrammar.{AreTokensOf}
-use Rattle.dac_tokens.specs.Words.{Word, Mark, Name, Number, Text, Located}
+use Rattle.dac_tokens.specs.Words.{Word, Punctuation, Name, Number, Text, Located}
 use Rattle.dac_shapes.specs.declared.limits.TheConstants.{MAX_TEXT}
 use Rattle.dac_shapes.specs.declared.param.ParamName.{ParamName}
 use Rattle.dac_shapes.specs.declared.param.ParamName.TheVariants as named
@@ -18,11 +18,11 @@ abbrev pub Parted : {A : Type 0} → (List Word → A → Type 0) → List Word 
 Parted Is words [] = ⊥
 Parted Is words (x ∷ []) = Is words x
 Parted Is words (x ∷ y ∷ ys) =
-    (first rest : List Word) × (words ≡ first ++ Mark Comma ∷ rest) × Is first x × Parted Is rest (y ∷ ys)
+    (first rest : List Word) × (words ≡ first ++ Punctuation Comma ∷ rest) × Is first x × Parted Is rest (y ∷ ys)
 
--- words between two marks
+-- words between two symbols
 abbrev pub between : Symbol → List Word → Symbol → List Word
-between left words right = Mark left ∷ words ++ Mark right ∷ []
+between left words right = Punctuation left ∷ words ++ Punctuation right ∷ []
 
 -- nothing, or things parted by commas
 abbrev pub PartedOrNone : {A : Type 0} → (List Word → A → Type 0) → List Word → List A → Type 0
@@ -36,9 +36,9 @@ IsListOf Is words xs = (inner : List Word) × (words ≡ between OpenList inner 
 -- a pair of this name and a value
 abbrev pub IsPair : List ℕ → (List Word → Type 0) → List Word → Type 0
 IsPair name IsValue words = (value : List Word)
-    × (words ≡ Mark OpenTuple ∷ Name name ∷ Mark Comma ∷ value ++ Mark CloseTuple ∷ []) × IsValue value
+    × (words ≡ Punctuation OpenTuple ∷ Name name ∷ Punctuation Comma ∷ value ++ Punctuation CloseTuple ∷ []) × IsValue value
 
--- these two marks are brackets
+-- these two symbols are brackets
 pub data AreBrackets : Symbol → Symbol → Type 0 where
   OfList : AreBrackets OpenList CloseList
   OfTuple : AreBrackets OpenTuple CloseTuple
@@ -57,7 +57,7 @@ mutual
   -- one or more terms, parted by commas
   pub data AreTerms : List Word → Type 0 where
     One : (words : List Word) → IsTerm words → AreTerms words
-    More : (first rest : List Word) → IsTerm first → AreTerms rest → AreTerms (first ++ Mark Comma ∷ rest)
+    More : (first rest : List Word) → IsTerm first → AreTerms rest → AreTerms (first ++ Punctuation Comma ∷ rest)
 
 -- a node, which is its name
 abbrev pub IsNode : List Word → List ℕ → Type 0
@@ -82,7 +82,7 @@ IsMs word n = (negative : Bool) × (digits : List ℕ) × (word ≡ Number negat
 abbrev pub IsTimeout : List Word → ℕ → Type 0
 IsTimeout words n =
     ((words ≡ []) × (n ≡ 0))
-    ⊎ ((word : Word) × (words ≡ word ∷ Mark Comma ∷ []) × IsMs word n)
+    ⊎ ((word : Word) × (words ≡ word ∷ Punctuation Comma ∷ []) × IsMs word n)
 
 -- the value of an application: its timeout, if it is written, and its node list
 abbrev pub IsAppValue : List Word → App → Type 0
@@ -125,7 +125,7 @@ IsSection words Section.Other = (name : List ℕ) × (name ≢ codes "kernel") �
 
 -- a file: a list of sections, and the full stop
 abbrev pub IsFile : List Word → List Section → Type 0
-IsFile words sections = (list : List Word) × (words ≡ list ++ Mark FullStop ∷ []) × IsListOf IsSection list sections
+IsFile words sections = (list : List Word) × (words ≡ list ++ Punctuation FullStop ∷ []) × IsListOf IsSection list sections
 
 -- A text of at most MAX_TEXT bytes says this. Its tokens are a file, which keeps the limits, and which lists one
 -- application at least.

@@ -9,7 +9,7 @@ use Rattle.dac_tokens.specs.declared.fault.ConfigFault.{ConfigFault}
 use Rattle.dac_tokens.specs.declared.token.Symbol.{Symbol}
 use Rattle.dac_tokens.specs.declared.token.Symbol.TheVariants.{OpenList, CloseList, OpenTuple, CloseTuple, Comma, FullStop}
 use Rattle.dac_tokens.specs.Gives.{◌>>=◌}
-use Rattle.dac_tokens.specs.Words.{Word, Mark, Name, Number, Text, End, Located, is_end}
+use Rattle.dac_tokens.specs.Words.{Word, Punctuation, Name, Number, Text, End, Located, is_end}
 use Rattle.dac_tokens.specs.Stream.{Stream, tokens_of, taken}
 use Rattle.dac_shapes.specs.declared.draft.SyncWait.{SyncWait}
 use Rattle.dac_shapes.specs.declared.draft.SyncWait.TheVariants.{Forever, Ms}
@@ -24,11 +24,11 @@ pub record State : Type 0 where
   pub left : Stream
   pub seen : Seen
 
--- a fault of this kind at this place
+-- a fault of this kind at this offset
 abbrev pub fails : {A : Type 0} → FaultKind → ℕ → Result A ConfigFault
 fails kind at = Err (record { kind = kind; at = at })
 
--- the byte that a mark is
+-- the byte that a symbol is
 abbrev pub byte_of : Symbol → ℕ
 byte_of OpenList = 91
 byte_of CloseList = 93
@@ -37,18 +37,18 @@ byte_of CloseTuple = 125
 byte_of Comma = 44
 byte_of FullStop = 46
 
--- whether a token is this mark
-abbrev pub is_mark : Symbol → Word → Bool
-is_mark symbol (Mark other) = byte_of symbol == byte_of other
-is_mark symbol (Name name) = false
-is_mark symbol (Number negative digits) = false
-is_mark symbol Text = false
-is_mark symbol End = false
+-- whether a token is this symbol
+abbrev pub is_symbol : Symbol → Word → Bool
+is_symbol symbol (Punctuation other) = byte_of symbol == byte_of other
+is_symbol symbol (Name name) = false
+is_symbol symbol (Number negative digits) = false
+is_symbol symbol Text = false
+is_symbol symbol End = false
 
 -- whether a token is a string
 abbrev pub is_text : Word → Bool
 is_text Text = true
-is_text (Mark symbol) = false
+is_text (Punctuation symbol) = false
 is_text (Name name) = false
 is_text (Number negative digits) = false
 is_text End = false
@@ -65,7 +65,7 @@ token s = do
 unfoldable pub symbol_at : Symbol → State → Result State ConfigFault
 symbol_at symbol s = do
   t ← token s
-  if is_mark symbol t.0.word then Ok t.1 else fails BadShape t.0.at
+  if is_symbol symbol t.0.word then Ok t.1 else fails BadShape t.0.at
 
 -- the token behind this symbol, which comes next
 abbrev pub behind_at : Symbol → State → Result (Located × State) ConfigFault
@@ -75,8 +75,8 @@ behind_at symbol s = symbol_at symbol s >>= token
 unfoldable pub more_at : Symbol → State → Result (Bool × State) ConfigFault
 more_at close s = do
   t ← token s
-  if is_mark Comma t.0.word then Ok (true, t.1)
-      else (if is_mark close t.0.word then Ok (false, t.1)
+  if is_symbol Comma t.0.word then Ok (true, t.1)
+      else (if is_symbol close t.0.word then Ok (false, t.1)
       else fails BadShape t.0.at)
 
 -- the name that a token is
@@ -85,7 +85,7 @@ atom_of t = named t.word
   where
     named : Word → Result (List ℕ) ConfigFault
     named (Name name) = Ok name
-    named (Mark symbol) = fails BadShape t.at
+    named (Punctuation symbol) = fails BadShape t.at
     named (Number negative digits) = fails BadShape t.at
     named Text = fails BadShape t.at
     named End = fails BadShape t.at
@@ -111,7 +111,7 @@ wait_of t = waits t.word
       n ← milliseconds_of t.at negative (value_from 0 digits)
       Ok (Ms n)
     waits (Name name) = if bytes_eq name (codes "infinity") then Ok Forever else fails BadShape t.at
-    waits (Mark symbol) = fails BadShape t.at
+    waits (Punctuation symbol) = fails BadShape t.at
     waits Text = fails BadShape t.at
     waits End = fails BadShape t.at
 
@@ -193,14 +193,14 @@ unfoldable pub list_of : {A : Type 0} → (List A → Located → State → Resu
 list_of read s = do
   begun ← symbol_at OpenList s
   first ← token begun
-  if is_mark CloseList first.0.word then Ok ([], first.1)
+  if is_symbol CloseList first.0.word then Ok ([], first.1)
       else comma_list read CloseList (room first.1) [] first.0 first.1
 
 -- a pair of a name and what `rest` reads behind its comma, whose opening brace is the token t
 unfoldable pub pair_at : {K A : Type 0} → (Located → Result K ConfigFault)
     → (K → State → Result (A × State) ConfigFault) → Located → State → Result (A × State) ConfigFault
 pair_at name_of rest t s =
-    if is_mark OpenTuple t.word
+    if is_symbol OpenTuple t.word
     then (do
       first ← token s
       name ← name_of first.0
@@ -224,8 +224,8 @@ unfoldable pub terms_at : (Located → State → Result (Located × State) Confi
 terms_at pass close zero t s = fails BadShape t.at
 terms_at pass close (suc n) t s = do
   behind ← pass t s
-  if is_mark close behind.0.word then token behind.1
-      else (if is_mark Comma behind.0.word
+  if is_symbol close behind.0.word then token behind.1
+      else (if is_symbol Comma behind.0.word
       then (do
         next ← token behind.1
         terms_at pass close n next.0 next.1)
@@ -236,7 +236,7 @@ unfoldable pub terms_in : (Located → State → Result (Located × State) Confi
     → Result (Located × State) ConfigFault
 terms_in pass close n s = do
   first ← token s
-  if is_mark close first.0.word then token first.1 else terms_at pass close n first.0 first.1
+  if is_symbol close first.0.word then token first.1 else terms_at pass close n first.0 first.1
 
 -- the token behind strings in a row, of which there are at most n
 unfoldable pub texts_at : ℕ → State → Result (Located × State) ConfigFault
@@ -245,7 +245,7 @@ texts_at (suc n) s = do
   t ← token s
   if is_text t.0.word then texts_at n t.1 else Ok t
 
--- the mark that closes what this one opens, if it opens a list or a tuple
+-- the symbol that closes what this one opens, if it opens a list or a tuple
 abbrev pub closing_of : Symbol → Option Symbol
 closing_of OpenList = Some CloseList
 closing_of OpenTuple = Some CloseTuple
@@ -267,7 +267,7 @@ term_by pass n t s = begun t.word
     begun (Name name) = token s
     begun (Number negative digits) = token s
     begun Text = texts_at n s
-    begun (Mark symbol) = closed_by (closing_of symbol)
+    begun (Punctuation symbol) = closed_by (closing_of symbol)
     begun End = fails BadShape t.at
 
 -- the token behind a term that begins with the token t, in at most n steps
@@ -285,7 +285,7 @@ unfoldable pub passed_at : State → Result State ConfigFault
 passed_at s = do
   first ← token s
   behind ← term_at (suc (room s)) first.0 first.1
-  if is_mark CloseTuple behind.0.word then Ok behind.1 else fails BadShape behind.0.at
+  if is_symbol CloseTuple behind.0.word then Ok behind.1 else fails BadShape behind.0.at
 
 -- ---- node lists
 
@@ -293,19 +293,19 @@ passed_at s = do
 abbrev pub names_at : Bool → Symbol → Located → State → Result (List (List ℕ) × State) ConfigFault
 names_at repeats close t s = comma_list (λ _. node_of repeats) close (room s) [] t s
 
--- the nodes of a tuple, whose opening brace stands at this place
+-- the nodes of a tuple, whose opening brace stands at this offset
 abbrev pub tuple_at : ℕ → State → Result (List (List ℕ) × State) ConfigFault
-tuple_at place s = do
+tuple_at offset s = do
   first ← token s
-  if is_mark CloseTuple first.0.word then fails EmptyTuple place else names_at false CloseTuple first.0 first.1
+  if is_symbol CloseTuple first.0.word then fails EmptyTuple offset else names_at false CloseTuple first.0 first.1
 
 -- a node, or a tuple of nodes, from the token t on
 unfoldable pub item_at : Located → State → Result (List (List ℕ) × State) ConfigFault
 item_at t s =
-    if is_mark OpenTuple t.word
+    if is_symbol OpenTuple t.word
     then (do
       first ← token s
-      if is_mark CloseTuple first.0.word then fails EmptyTuple t.at else names_at false CloseTuple first.0 first.1)
+      if is_symbol CloseTuple first.0.word then fails EmptyTuple t.at else names_at false CloseTuple first.0 first.1)
     else (do
       name ← node_of false t s
       Ok (name.0 ∷ [], name.1))
@@ -317,10 +317,10 @@ items_at t s = comma_list (λ _. item_at) CloseList (room s) [] t s
 -- a node list, whose opening bracket is the token t
 unfoldable pub groups_at : Located → State → Result (List (List (List ℕ)) × State) ConfigFault
 groups_at t s =
-    if is_mark OpenList t.word
+    if is_symbol OpenList t.word
     then (do
       first ← token s
-      if is_mark CloseList first.0.word then fails EmptyList t.at
+      if is_symbol CloseList first.0.word then fails EmptyList t.at
           else items_at first.0 (record first.1 { seen = listing first.1.seen }))
     else fails BadShape t.at
 
@@ -336,7 +336,7 @@ timeout_at t s = timed t.word
       comma ← symbol_at Comma s
       next ← token comma
       Ok (n, next.0, next.1)
-    timed (Mark symbol) = Ok (0, t, s)
+    timed (Punctuation symbol) = Ok (0, t, s)
     timed (Name name) = Ok (0, t, s)
     timed Text = Ok (0, t, s)
     timed End = Ok (0, t, s)
@@ -411,7 +411,7 @@ section_rest_at false s = do
   behind ← passed_at s
   Ok (Section.Other, behind)
 
--- A section after these, whose opening brace is the token t. In place of a section a string would be the name of a
+-- A section after these, whose opening brace is the token t. In offset of a section a string would be the name of a
 -- file to include, which isn't taken.
 unfoldable pub section_at : List Section → Located → State → Result (Section × State) ConfigFault
 section_at before t s =
@@ -419,7 +419,7 @@ section_at before t s =
 
 -- ---- the file
 
--- the full stop, and the place of the end behind it
+-- the full stop, and the offset of the end behind it
 unfoldable pub end_at : State → Result (ℕ × State) ConfigFault
 end_at s = do
   stop ← symbol_at FullStop s

@@ -12,7 +12,7 @@ ghost use Rattle.dac_shapes.specs.Written.{App};
 use crate::draft::DraftApp;
 use crate::limits::MAX_APPS;
 use crate::numbers::milliseconds_of;
-use crate::pairs::Pair;
+use crate::pairs::NamedPair;
 use crate::parser::Parser;
 use dac_tokens::{ConfigFault, FaultKind, Symbol, Token};
 
@@ -41,7 +41,7 @@ fn has_app(name: &[u8], apps: &[DraftApp<'_>]) -> bool
     apps.iter().any(|app| app.name == name)
 }
 
-impl<'a> Pair<'a> for DraftApp<'a> {
+impl<'a> NamedPair<'a> for DraftApp<'a> {
     type Name = &'a [u8];
 
     ghost Named = { List ℕ };

@@ -3,7 +3,7 @@
 //! [`parse_draft`] is the parser. It answers what a text says as a [`Draft`], or its first fault in text order. The
 //! promise: a text is read exactly on four conditions. It has at most 65,536 bytes. Its tokens are a file by the grammar
 //! of OTP's `sys.config`. The file keeps the limits. It lists one application at least. Then what it says is given.
-//! Any other text has its first fault answered, at its place.
+//! Any other text has its first fault answered, at its offset.
 //!
 //! Which fault that is says the function `draft_at`, which reads as the parser does. A law that is said without a reader
 //! says it too: it stands in `dac_first_fault`, with the reader of drafts, which promises both.

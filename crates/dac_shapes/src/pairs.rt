@@ -4,7 +4,7 @@ ghost use Rattle.std.specs.Prelude.{◌≡◌, ◌≤◌, IfOk, List, Result, ma
 ghost use Rattle.dac_tokens.specs.declared.token.Symbol.TheVariants.{CloseTuple};
 ghost use Rattle.dac_tokens.specs.declared.fault.ConfigFault.{ConfigFault as Fault};
 ghost use Rattle.dac_tokens.specs.Gives.{Gives};
-ghost use Rattle.dac_tokens.specs.Words.{Located as Place, located_of};
+ghost use Rattle.dac_tokens.specs.Words.{Located as Token, located_of};
 ghost use Rattle.dac_shapes.specs.Shape.{State, pair_at, symbol_at};
 ghost use Rattle.dac_shapes.specs.Views.{parser_state, tokens_left};
 
@@ -14,7 +14,7 @@ use dac_tokens::{ConfigFault, FaultKind, Symbol};
 use std::marker::PhantomData;
 
 /// What is written as a pair: how its name is read, after the pairs before it, and what stands behind the name.
-pub trait Pair<'a>: Drop {
+pub trait NamedPair<'a>: Drop {
     /// What the name says.
     type Name: Drop;
 
@@ -28,7 +28,7 @@ pub trait Pair<'a>: Drop {
     ghost said: { Self → Said };
 
     // what the definition of the shapes reads
-    ghost name_at: { List Said → Place → Result Named Fault };
+    ghost name_at: { List Said → Token → Result Named Fault };
 
     ghost rest_at: { Named → State → Result (Said × State) Fault };
 
@@ -45,11 +45,11 @@ pub trait Pair<'a>: Drop {
 }
 
 /// Pairs of one kind, as elements of a list.
-pub struct Pairs<'a, P> {
+pub struct NamedPairs<'a, P> {
     kind: PhantomData<(&'a [u8], P)>,
 }
 
-impl<'a, P: Pair<'a>> Elements<'a> for Pairs<'a, P> {
+impl<'a, P: NamedPair<'a>> Elements<'a> for NamedPairs<'a, P> {
     type Element = P;
 
     ghost Said = { P.Said };

@@ -3,7 +3,7 @@
 ghost use Rattle.std.specs.Prelude.{◌≡◌, ◌<◌, ◌≤◌, IfOk, true, false};
 ghost use Rattle.dac_tokens.specs.Gives.{Gives};
 ghost use Rattle.dac_tokens.specs.Words.{word_of, is_end};
-ghost use Rattle.dac_shapes.specs.Shape.{token, is_mark, is_text, symbol_at, behind_at, more_at};
+ghost use Rattle.dac_shapes.specs.Shape.{token, is_symbol, is_text, symbol_at, behind_at, more_at};
 ghost use Rattle.dac_shapes.specs.Views.{here, parser_state, tokens_left};
 
 use dac_tokens::{ConfigFault, FaultKind, Located, Symbol, Token, Tokens};
@@ -40,7 +40,7 @@ impl Parser<'_> {
 
     /// Whether the token is this symbol.
     pub fn is(&self, symbol: Symbol) -> bool
-        ensures { result ≡ is_mark symbol (word_of self.now.token.token) }
+        ensures { result ≡ is_symbol symbol (word_of self.now.token.token) }
     {
         match self.token.token {
             Token::Symbol(other) => other == symbol,

@@ -9,7 +9,7 @@ ghost use Rattle.dac_shapes.specs.Written.{Permission as WrittenPermission};
 
 use crate::draft::Permission;
 use crate::names::spells;
-use crate::pairs::Pair;
+use crate::pairs::NamedPair;
 use crate::parser::Parser;
 use dac_tokens::{ConfigFault, FaultKind, Token};
 
@@ -27,7 +27,7 @@ impl Parser<'_> {
     }
 }
 
-impl<'a> Pair<'a> for Permission<'a> {
+impl<'a> NamedPair<'a> for Permission<'a> {
     type Name = &'a [u8];
 
     ghost Named = { List ℕ };

@@ -20,7 +20,7 @@ use std::alloc::Global;
 ///
 /// A missing or unexpected token is `BadShape` at its first byte, at the text's length where the end came. So are a
 /// second section `kernel` and one of the parameters that are read a second time, at the name. A string in place of a
-/// section is `Unsupported` at its first byte. At one place a token's own fault comes first, then `BadShape`, then
+/// section is `Unsupported` at its first byte. At one offset a token's own fault comes first, then `BadShape`, then
 /// `NameTooLong` or `NumberTooLarge`, then `TwiceApp` or `TwiceInList`, then `TooManyApps` or `TooManyNodes`. A text
 /// of more than 65,536 bytes is `TooLong` at 65,536, whatever it holds, and `NoMemory` stands at 0.
 #[tactic(auto, unfolding(crate::specs::Shape::draft_at))]

@@ -11,7 +11,7 @@ use crate::draft::{Draft, DraftApp, Permission};
 use crate::list::Elements;
 use crate::names::spells;
 use crate::nodes::SyncNodes;
-use crate::pairs::{Pair, Pairs};
+use crate::pairs::{NamedPair, NamedPairs};
 use crate::param::{Param, ParamName, Section, has_kernel, has_param};
 use crate::parser::{Parser, fault};
 use dac_tokens::{ConfigFault, FaultKind, Symbol, Token};
@@ -25,8 +25,8 @@ impl<'a> Parser<'a> {
         ensures left { tokens_left self.new ≤ tokens_left self.old }
     {
         match name {
-            ParamName::Distributed => self.list::<Pairs<DraftApp<'a>>>().map(Param::Distributed),
-            ParamName::Permissions => self.list::<Pairs<Permission<'a>>>().map(Param::Permissions),
+            ParamName::Distributed => self.list::<NamedPairs<DraftApp<'a>>>().map(Param::Distributed),
+            ParamName::Permissions => self.list::<NamedPairs<Permission<'a>>>().map(Param::Permissions),
             ParamName::Mandatory => self.list::<SyncNodes>().map(Param::Mandatory),
             ParamName::Optional => self.list::<SyncNodes>().map(Param::Optional),
             ParamName::Timeout => {
@@ -37,7 +37,7 @@ impl<'a> Parser<'a> {
         }
     }
 
-    /// The full stop and the end behind it, and the place of the end.
+    /// The full stop and the end behind it, and the offset of the end.
     #[tactic(auto, unfolding(crate::specs::Shape::end_at))]
     fn end(&mut self) -> Result<usize, ConfigFault>
         ensures { Gives (λ at. (at, parser_state self.new)) result
@@ -65,7 +65,7 @@ impl<'a> Parser<'a> {
     }
 }
 
-impl<'a> Pair<'a> for Param<'a> {
+impl<'a> NamedPair<'a> for Param<'a> {
     type Name = Option<ParamName>;
 
     ghost Named = { Option Known };
@@ -120,11 +120,11 @@ impl<'a> Elements<'a> for Sections {
         if parser.is_text() {
             return Err(parser.fault(FaultKind::Unsupported));
         }
-        Pairs::read(parser, before)
+        NamedPairs::read(parser, before)
     }
 }
 
-impl<'a> Pair<'a> for Section<'a> {
+impl<'a> NamedPair<'a> for Section<'a> {
     type Name = bool;
 
     ghost Named = { Bool };
@@ -157,7 +157,7 @@ impl<'a> Pair<'a> for Section<'a> {
             parser.pass()?;
             return Ok(Section::Other);
         }
-        let params = parser.list::<Pairs<Param<'a>>>()?;
+        let params = parser.list::<NamedPairs<Param<'a>>>()?;
         parser.close_pair(Section::Kernel(params))
     }
 }

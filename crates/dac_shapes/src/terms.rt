@@ -9,7 +9,7 @@ ghost use Rattle.dac_shapes.specs.Views.{here, from_here, parser_state, tokens_l
 use crate::parser::Parser;
 use dac_tokens::{ConfigFault, FaultKind, Symbol, Token};
 
-/// The mark that closes what this one opens, if it opens a list or a tuple.
+/// The symbol that closes what this one opens, if it opens a list or a tuple.
 fn closing_of(symbol: Symbol) -> Option<Symbol>
     ensures { result ≡ closing_of symbol }
 {

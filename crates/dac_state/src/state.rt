@@ -25,7 +25,7 @@ use std::sync::Arc;
 /// Copies of a state share its parts, since no part ever changes: a copy costs as much as a pointer. A copy of the
 /// least state has parts of its own.
 pub struct State {
-    kept: Kept,
+    kept: KeptParts,
 }
 
 /// Written out, so that dropping a state is one call for a proof, wherever that is, and not the drop of each part.
@@ -37,7 +37,7 @@ impl Drop for State {
 
 /// Where the parts of a state are kept.
 #[derive(Drop)]
-pub(crate) enum Kept {
+pub(crate) enum KeptParts {
     /// In the state itself, as those of the least one, which takes no memory.
     Here(Parts),
     /// Together with its copies.
@@ -78,7 +78,7 @@ impl State {
     {
         let shared = Arc::new(parts.allocator(), parts)?;
         Ok(State {
-            kept: Kept::Shared(shared),
+            kept: KeptParts::Shared(shared),
         })
     }
 
@@ -87,8 +87,8 @@ impl State {
         ensures { result.now ≡ self.now }
     {
         match &self.kept {
-            Kept::Here(parts) => parts,
-            Kept::Shared(parts) => parts,
+            KeptParts::Here(parts) => parts,
+            KeptParts::Shared(parts) => parts,
         }
     }
 
@@ -181,12 +181,12 @@ impl Lattice for State {
 
     fn copy(&self) -> Result<Self, NoMemory> {
         match &self.kept {
-            Kept::Here(parts) => {
+            KeptParts::Here(parts) => {
                 let state = State::of(parts.copy()?)?;
                 Ok(state)
             }
-            Kept::Shared(parts) => Ok(State {
-                kept: Kept::Shared(Arc::try_clone(parts)?),
+            KeptParts::Shared(parts) => Ok(State {
+                kept: KeptParts::Shared(Arc::try_clone(parts)?),
             }),
         }
     }
@@ -213,7 +213,7 @@ impl Bottom for State {
             Drains::bottom(alloc),
         );
         State {
-            kept: Kept::Here(parts),
+            kept: KeptParts::Here(parts),
         }
     }
 }

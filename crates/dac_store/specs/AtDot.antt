@@ -1,6 +1,6 @@
 -- What two sides hold at one dot, each beside whether it has heard of the dot.
 use Rattle.std.specs.Prelude.{◌≡◌, Bool, true, Option, None, Some, is_some, if◌then◌else◌}
-use Rattle.dac_lattice.specs.Lattices.{IsIn}
+use Rattle.dac_lattice.specs.Lattices.{IsOptionOf}
 
 -- what the second holds the first holds too, with a value that isn't above
 abbrev pub StandsBelow : {V : Type 0} → (V → V → Type 0) → Option V → Option V → Type 0
@@ -18,4 +18,4 @@ join_at join c d (Some v) (Some w) = Some (join v w)
 
 -- a value at a dot, which the context has if there is one
 abbrev pub Under : {V : Type 0} → (V → Type 0) → Bool → Option V → Type 0
-Under is_value c v = IsIn is_value v × (is_some v ≡ true → c ≡ true)
+Under is_value c v = IsOptionOf is_value v × (is_some v ≡ true → c ≡ true)

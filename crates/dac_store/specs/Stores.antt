@@ -14,7 +14,7 @@ abbrev pub IsUnheard : (Dot → Bool) → Dots → Type 0
 IsUnheard has c = (x : Dot) → has x ≡ true → set.contains c x ≡ false
 
 -- a store whose dots are in the context
-pub record IsWithin {S : Type 0} (is_store : S → Type 0) (has : S → Dot → Bool) (s : S) (c : Dots) : Type 0 where
+pub record IsStoreWithin {S : Type 0} (is_store : S → Type 0) (has : S → Dot → Bool) (s : S) (c : Dots) : Type 0 where
   pub store : is_store s
   pub held : IsHeld (has s) c
 
@@ -22,23 +22,23 @@ pub record IsWithin {S : Type 0} (is_store : S → Type 0) (has : S → Dot → 
 -- takes the union of the contexts. The last laws say what a store without dots is.
 pub record IsDotStore {S : Type 0} (is_store : S → Type 0) (has : S → Dot → Bool) (below : S → Dots → S → Dots → Type 0)
     (join : S → Dots → S → Dots → S) (nothing : S) (is_empty : S → Bool) : Type 0 where
-  pub refl : (s : S) (c : Dots) → IsWithin is_store has s c → below s c s c
-  pub trans : (s : S) (c : Dots) (t : S) (d : Dots) (u : S) (e : Dots) → IsWithin is_store has s c
-      → IsWithin is_store has t d → IsWithin is_store has u e
+  pub refl : (s : S) (c : Dots) → IsStoreWithin is_store has s c → below s c s c
+  pub trans : (s : S) (c : Dots) (t : S) (d : Dots) (u : S) (e : Dots) → IsStoreWithin is_store has s c
+      → IsStoreWithin is_store has t d → IsStoreWithin is_store has u e
       → IsSubset c d → IsSubset d e → below s c t d → below t d u e → below s c u e
-  pub antisymm : (s t : S) (c : Dots) → IsWithin is_store has s c → IsWithin is_store has t c → below s c t c
+  pub antisymm : (s t : S) (c : Dots) → IsStoreWithin is_store has s c → IsStoreWithin is_store has t c → below s c t c
       → below t c s c → s ≡ t
   -- a join is a store, and its dots come from the two sides
   pub stored : (s : S) (c : Dots) (t : S) (d : Dots) → is_store s → is_store t → is_store (join s c t d)
   pub comes : (s : S) (c : Dots) (t : S) (d : Dots) (x : Dot) → is_store s → is_store t → has (join s c t d) x ≡ true
       → (has s x || has t x) ≡ true
   -- it is the least upper bound
-  pub left : (s : S) (c : Dots) (t : S) (d : Dots) → IsWithin is_store has s c → IsWithin is_store has t d
+  pub left : (s : S) (c : Dots) (t : S) (d : Dots) → IsStoreWithin is_store has s c → IsStoreWithin is_store has t d
       → below s c (join s c t d) (set.union c d)
-  pub right : (s : S) (c : Dots) (t : S) (d : Dots) → IsWithin is_store has s c → IsWithin is_store has t d
+  pub right : (s : S) (c : Dots) (t : S) (d : Dots) → IsStoreWithin is_store has s c → IsStoreWithin is_store has t d
       → below t d (join s c t d) (set.union c d)
-  pub least : (s : S) (c : Dots) (t : S) (d : Dots) (u : S) (e : Dots) → IsWithin is_store has s c
-      → IsWithin is_store has t d → IsWithin is_store has u e
+  pub least : (s : S) (c : Dots) (t : S) (d : Dots) (u : S) (e : Dots) → IsStoreWithin is_store has s c
+      → IsStoreWithin is_store has t d → IsStoreWithin is_store has u e
       → IsSubset c e → IsSubset d e → below s c u e → below t d u e → below (join s c t d) (set.union c d) u e
   -- one store is empty, and it is the one without dots
   pub empty_store : is_store nothing
@@ -47,7 +47,7 @@ pub record IsDotStore {S : Type 0} (is_store : S → Type 0) (has : S → Dot �
   pub one_empty : (s : S) → is_store s → is_empty s ≡ true → s ≡ nothing
   -- it is above each store, and below each where nothing was heard of
   pub cleared : (s : S) (c d : Dots) → is_store s → below s c nothing d
-  pub first : (s : S) (c : Dots) → IsWithin is_store has s c → below nothing set.empty s c
+  pub first : (s : S) (c : Dots) → IsStoreWithin is_store has s c → below nothing set.empty s c
   -- joined where none of a store's dots have been heard of, it leaves the store as it is, on either side
   pub alone : (s : S) (c d : Dots) → is_store s → IsUnheard (has s) d → join s c nothing d ≡ s
   pub alone_right : (s : S) (c d : Dots) → is_store s → IsUnheard (has s) d → join nothing d s c ≡ s
@@ -63,7 +63,7 @@ pub record Stored (S : Type 0) : Type 0 where
 
 -- the store's dots are in the context
 abbrev pub IsStored : {S : Type 0} → (S → Type 0) → (S → Dot → Bool) → Stored S → Type 0
-IsStored is_store has v = IsWithin is_store has v.store v.context
+IsStored is_store has v = IsStoreWithin is_store has v.store v.context
 
 -- by the contexts, and by the stores beside them
 abbrev pub IsStoredBelow : {S : Type 0} → (S → Dots → S → Dots → Type 0) → Stored S → Stored S → Type 0

@@ -6,7 +6,7 @@ ghost use Rattle.dac_store.specs.Keeping.{kept_in};
 ghost use Rattle.dac_store.specs.Stores.{IsHeld, IsStoredBelow, IsUnheard, join_stored};
 
 use crate::DotStore;
-use crate::kept::Kept;
+use crate::kept::KeptStore;
 use dac_contexts::{Context, SharedContext};
 use dac_dots::NoMemory;
 use dac_lattice::{Bottom, Lattice};
@@ -24,7 +24,7 @@ const MOST_LOOKED_UP: usize = 16;
 /// contexts are equal may share one.
 #[derive(Drop)]
 pub struct Causal<S: DotStore> {
-    kept: Kept<S>,
+    kept: KeptStore<S>,
     context: SharedContext,
 }
 
@@ -33,7 +33,7 @@ impl<S: DotStore> Model for Causal<S> {
     ghost use Rattle.std.specs.Coded.{code_by, coded×};
     ghost use Rattle.std.specs.FinSet as set;
     ghost use Rattle.dac_dots.specs.Dots.{Dots, coded_dot};
-    ghost use Rattle.dac_store.specs.Stores.{IsWithin, Stored};
+    ghost use Rattle.dac_store.specs.Stores.{IsStoreWithin, Stored};
     ghost use Rattle.dac_store.specs.Keeping.{kept_in};
 
     ghost Value = { Stored S };
@@ -43,7 +43,7 @@ impl<S: DotStore> Model for Causal<S> {
 
     ghost view = { λ a. record { store = kept_in a.kept; context = a.context } };
 
-    ghost invariant = { λ a. IsWithin S.is_store S.has (kept_in a.kept) a.context };
+    ghost invariant = { λ a. IsStoreWithin S.is_store S.has (kept_in a.kept) a.context };
 }
 
 impl<S: DotStore> Causal<S> {
@@ -57,7 +57,7 @@ impl<S: DotStore> Causal<S> {
     {
         store.tells_invariant();
         if store.within(&context) {
-            let kept = Kept::Here(store);
+            let kept = KeptStore::Here(store);
             let shared = SharedContext::of(context);
             Ok(Causal {
                 kept,
@@ -78,7 +78,7 @@ impl<S: DotStore> Causal<S> {
     {
         store.tells_invariant();
         if store.within(context.context()) {
-            let kept = Kept::Here(store);
+            let kept = KeptStore::Here(store);
             Ok(Causal { kept, context })
         } else {
             Err((store, context))
@@ -90,8 +90,8 @@ impl<S: DotStore> Causal<S> {
         ensures { result.now ≡ self.now.store }
     {
         match &self.kept {
-            Kept::Here(store) => store,
-            Kept::Shared(store) => store,
+            KeptStore::Here(store) => store,
+            KeptStore::Shared(store) => store,
         }
     }
 
@@ -132,12 +132,12 @@ impl<S: DotStore> Causal<S> {
     }
 
     /// Its store, shared with it where it can be.
-    fn share(&self) -> Result<Kept<S>, NoMemory>
+    fn shared_copy(&self) -> Result<KeptStore<S>, NoMemory>
         ensures { IfOk result (λ kept. kept_in kept ≡ self.now.store) }
     {
         match &self.kept {
-            Kept::Here(store) => share_store(store.copy()?),
-            Kept::Shared(store) => Ok(Kept::Shared(Arc::try_clone(store)?)),
+            KeptStore::Here(store) => share_store(store.copy()?),
+            KeptStore::Shared(store) => Ok(KeptStore::Shared(Arc::try_clone(store)?)),
         }
     }
 
@@ -166,17 +166,17 @@ impl<S: DotStore> Causal<S> {
     }
 
     /// The store of the join.
-    fn join_kept(&self, other: &Self) -> Result<Kept<S>, NoMemory>
+    fn join_kept(&self, other: &Self) -> Result<KeptStore<S>, NoMemory>
         ensures { IfOk result (λ kept. kept_in kept
             ≡ S.join self.now.store self.now.context other.now.store other.now.context) }
     {
         self.tells_invariant();
         other.tells_invariant();
         if other.leaves(self)? {
-            return self.share();
+            return self.shared_copy();
         }
         if self.leaves(other)? {
-            return other.share();
+            return other.shared_copy();
         }
         let store = self
             .store()
@@ -186,11 +186,11 @@ impl<S: DotStore> Causal<S> {
 }
 
 /// A store that others may have too.
-fn share_store<S: DotStore>(store: S) -> Result<Kept<S>, NoMemory>
+fn share_store<S: DotStore>(store: S) -> Result<KeptStore<S>, NoMemory>
     ensures { IfOk result (λ kept. kept_in kept ≡ store) }
 {
     let shared = Arc::new(store.allocator(), store)?;
-    Ok(Kept::Shared(shared))
+    Ok(KeptStore::Shared(shared))
 }
 
 /// Whether a store holds none of these dots.
@@ -239,7 +239,7 @@ impl<S: DotStore> Lattice for Causal<S> {
     }
 
     fn copy(&self) -> Result<Self, NoMemory> {
-        let kept = self.share()?;
+        let kept = self.shared_copy()?;
         let context = self.context.copy()?;
         Ok(Causal { kept, context })
     }
@@ -257,7 +257,7 @@ impl<S: DotStore> Bottom for Causal<S> {
 
     fn bottom(alloc: Global) -> Self {
         Causal {
-            kept: Kept::Here(S::empty(alloc)),
+            kept: KeptStore::Here(S::empty(alloc)),
             context: SharedContext::of(Context::empty(alloc)),
         }
     }

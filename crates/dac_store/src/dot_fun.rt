@@ -10,7 +10,7 @@ ghost use Rattle.dac_store.specs.AtDot.{StandsBelow};
 use crate::DotStore;
 use crate::appending::ends_below;
 use crate::few_entries::{FewEntries, merge_few};
-use dac_contexts::{Context, MarkedContext};
+use dac_contexts::{Context, FilteredContext};
 use dac_dots::{Dot, NoMemory};
 use dac_lattice::Lattice;
 use dac_lattice::merging::{Combine, value_at};
@@ -208,7 +208,7 @@ impl<V: Lattice> DotStore for DotFun<V> {
         true
     }
 
-    fn is_unheard(&self, heard: &MarkedContext<'_>) -> bool {
+    fn is_unheard(&self, heard: &FilteredContext<'_>) -> bool {
         for (dot, _) in self.few.as_slice() {
             if heard.contains(*dot) {
                 return false;

@@ -7,7 +7,7 @@ ghost use Rattle.dac_store.specs.DotMaps.{unless_empty, store_at};
 
 use crate::DotStore;
 use crate::appending::ends_below;
-use dac_contexts::{Context, MarkedContext};
+use dac_contexts::{Context, FilteredContext};
 use dac_dots::{Dot, MapKey, NoMemory};
 use dac_lattice::merging::{Combine, merge, value_at};
 use std::alloc::Global;
@@ -84,7 +84,7 @@ impl<K: MapKey, S: DotStore> DotMap<K, S> {
     }
 
     /// Whether what is at a key is below a store of the other side.
-    fn leq_at(&self, heard: &MarkedContext<'_>, key: K, theirs: &S, other_heard: &Context) -> bool
+    fn leq_at(&self, heard: &FilteredContext<'_>, key: K, theirs: &S, other_heard: &Context) -> bool
         ensures { IsTrue result
             ↔ S.below (store_at S.nothing (find K.cmp key self.now)) heard.now theirs.now
             other_heard.now }
@@ -105,8 +105,8 @@ impl<K: MapKey, S: DotStore> DotMap<K, S> {
 #[derive(Clone, Copy)]
 struct JoinStores<'a> {
     alloc: Global,
-    mine: &'a MarkedContext<'a>,
-    theirs: &'a MarkedContext<'a>,
+    mine: &'a FilteredContext<'a>,
+    theirs: &'a FilteredContext<'a>,
 }
 
 impl<K: MapKey, S: DotStore> Combine<K, S> for JoinStores<'_> {
@@ -193,8 +193,8 @@ impl<K: MapKey, S: DotStore> DotStore for DotMap<K, S> {
         other_heard: &Context,
     ) -> Result<Self, NoMemory> {
         let alloc = *self.entries.allocator();
-        let mine = MarkedContext::of(heard, other.entries.len());
-        let theirs = MarkedContext::of(other_heard, self.entries.len());
+        let mine = FilteredContext::of(heard, other.entries.len());
+        let theirs = FilteredContext::of(other_heard, self.entries.len());
         let how = JoinStores {
             alloc,
             mine: &mine,
@@ -206,9 +206,9 @@ impl<K: MapKey, S: DotStore> DotStore for DotMap<K, S> {
 
     fn leq_in(&self, heard: &Context, other: &Self, other_heard: &Context) -> bool {
         self.tells_invariant();
-        let marked = MarkedContext::of(heard, other.entries.len());
+        let filtered = FilteredContext::of(heard, other.entries.len());
         for (key, theirs) in &other.entries {
-            if !self.leq_at(&marked, *key, theirs, other_heard) {
+            if !self.leq_at(&filtered, *key, theirs, other_heard) {
                 return false;
             }
         }
@@ -233,7 +233,7 @@ impl<K: MapKey, S: DotStore> DotStore for DotMap<K, S> {
         true
     }
 
-    fn is_unheard(&self, heard: &MarkedContext<'_>) -> bool {
+    fn is_unheard(&self, heard: &FilteredContext<'_>) -> bool {
         for (_, store) in &self.entries {
             if !store.is_unheard(heard) {
                 return false;

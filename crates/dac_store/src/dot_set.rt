@@ -7,7 +7,7 @@ ghost use Rattle.dac_store.specs.DotSets.{join_sets, may_stay};
 
 use crate::DotStore;
 use crate::few::FewDots;
-use dac_contexts::{Context, MarkedContext};
+use dac_contexts::{Context, FilteredContext};
 use dac_dots::keys::holds_key;
 use dac_dots::{Dot, NoMemory};
 use std::alloc::Global;
@@ -266,7 +266,7 @@ impl DotStore for DotSet {
         true
     }
 
-    fn is_unheard(&self, heard: &MarkedContext<'_>) -> bool {
+    fn is_unheard(&self, heard: &FilteredContext<'_>) -> bool {
         // Most sets have a single dot.
         if let FewDots::One(dot) = &self.few {
             return !heard.contains(*dot);

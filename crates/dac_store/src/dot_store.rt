@@ -4,7 +4,7 @@ ghost use Rattle.dac_dots.specs.Dots.{Dots};
 ghost use Rattle.dac_dots.specs.declared.Dot.{Dot};
 ghost use Rattle.dac_store.specs.Stores.{IsDotStore, IsHeld, IsUnheard};
 
-use dac_contexts::{Context, MarkedContext};
+use dac_contexts::{Context, FilteredContext};
 use dac_dots::{Dot, NoMemory};
 use std::alloc::Global;
 
@@ -73,7 +73,7 @@ pub trait DotStore: Drop {
         ensures { IsTrue result ↔ IsHeld (has self.now) context.now };
 
     /// Whether the store holds none of the dots that have been heard of.
-    fn is_unheard(&self, heard: &MarkedContext<'_>) -> bool
+    fn is_unheard(&self, heard: &FilteredContext<'_>) -> bool
         ensures { IsTrue result ↔ IsUnheard (has self.now) heard.now };
 
     /// Whether the store holds no dot.

@@ -5,7 +5,7 @@ use std::sync::Arc;
 
 /// Where a store is kept.
 #[derive(Drop)]
-pub(crate) enum Kept<S: DotStore> {
+pub(crate) enum KeptStore<S: DotStore> {
     /// In the value itself, as a store that was just given.
     Here(S),
     /// Together with others, which have the same store.

@@ -1,7 +1,7 @@
 pub mod Ticks
 pub mod Again
 pub mod Staying
-pub mod Progress
+pub mod TurnSoFar
 pub mod InWords
 pub mod Issued
 pub mod TakesEffect

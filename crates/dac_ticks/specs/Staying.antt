@@ -10,7 +10,7 @@ use Rattle.dac_chains.specs.Lives.{IsLive}
 use Rattle.dac_operations.specs.declared.act.Act.TheVariants.{Claim}
 use Rattle.dac_operations.specs.Operations.{Operation}
 use Rattle.dac_meaning.specs.StateValue.{StateValue, IsState}
-use Rattle.dac_meaning.specs.Meaning.{In}
+use Rattle.dac_meaning.specs.Meaning.{IsOperationOf}
 use Rattle.dac_config.specs.Table.{Table}
 use Rattle.dac_placement.specs.declared.verdicts.Verdict.TheVariants.{Kept}
 use Rattle.dac_placement.specs.Placement.{IsVerdict, RunsAt}
@@ -28,11 +28,11 @@ pub record IsKeptAt (t : Table) (s : StateValue) (app : AppId) (node : NodeId) :
 
 -- so each application is that one of the operations claims
 abbrev pub AreKeptAt : Table → StateValue → NodeId → List Operation → Type 0
-AreKeptAt t s node os = (o : Operation) (app : AppId) → In o os → ClaimsApp app o → IsKeptAt t s app node
+AreKeptAt t s node os = (o : Operation) (app : AppId) → IsOperationOf o os → ClaimsApp app o → IsKeptAt t s app node
 
 -- Each claim among the operations is under a later term than any claim of its application in the state.
 abbrev pub AreLaterClaims : StateValue → List Operation → Type 0
-AreLaterClaims s os = (o : Operation) (app : AppId) → In o os → (term : ℕ) (how : How) (from : Option NodeId)
+AreLaterClaims s os = (o : Operation) (app : AppId) → IsOperationOf o os → (term : ℕ) (how : How) (from : Option NodeId)
     → o.act ≡ Claim app term how from
     → (claim : ClaimValue) → map.get s.claims app ≡ Some claim → claim.term < term
 

@@ -10,7 +10,7 @@
 //! tick that claims nothing copies no state.
 #![tactic(auto)]
 
-pub use turning::{Turn, tick};
+pub use turning::{Turn, turn_of};
 
 pub mod laws;
 mod turning;

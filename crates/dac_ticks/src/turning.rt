@@ -9,7 +9,7 @@ ghost use Rattle.dac_decide.specs.FailoverWait.{Note, waits_of};
 ghost use Rattle.dac_commands.specs.Commands.{KnowsItself, greatest_counter, next_operation};
 ghost use Rattle.dac_commands.specs.Causes.{terms_used_up, used_up};
 ghost use Rattle.dac_ticks.specs.Ticks.{claimed_by, held_by, is_mine_by, turn_of};
-ghost use Rattle.dac_ticks.specs.Progress.{added, found_of, so_far, IsSparing, IsMade};
+ghost use Rattle.dac_ticks.specs.TurnSoFar.{added, found_of, so_far, IsSparing, IsMade};
 ghost use Rattle.dac_ticks.specs.InWords.{IsTurn};
 
 use dac_base::{AppId, NoMemory, NodeId};
@@ -37,7 +37,7 @@ pub struct Turn {
 
 /// What a tick has done so far.
 #[derive(Drop)]
-pub(crate) struct Progress {
+pub(crate) struct TurnSoFar {
     /// The claims.
     pub ops: Vec<Op>,
     /// The applications that were passed.
@@ -67,7 +67,7 @@ pub(crate) enum Found {
 /// and go. That a controller looks after them at its ticks, and how it claims them, is this project's own.)
 ///
 /// [`NoMemory`] is the only error.
-pub fn tick(
+pub fn turn_of(
     alloc: Global,
     config: &Config,
     own: Origin,
@@ -83,7 +83,7 @@ pub fn tick(
     ensures words { IfOk result (λ turn. (notes : List Note) → waits.now ≡ waits_of config.now notes
         → IsTurn config.now own notes now state.now (apps_of config.now) turn.ops turn.passed) }
 {
-    let mut progress = Progress {
+    let mut progress = TurnSoFar {
         ops: Vec::new(alloc),
         passed: Vec::new(alloc),
         left: None,
@@ -91,10 +91,10 @@ pub fn tick(
     for number in 0..config.apps() {
         let app = AppId(number);
         let state = progress.state(state);
-        let found = look_after(alloc, config, own, state, waits, app, now)?;
+        let found = found_of(alloc, config, own, state, waits, app, now)?;
         progress.add(app, found)?;
     }
-    let Progress { ops, passed, left } = progress;
+    let TurnSoFar { ops, passed, left } = progress;
     Ok(Turn {
         ops: OpList::new(ops),
         passed: AppList::new(passed),
@@ -102,7 +102,7 @@ pub fn tick(
     })
 }
 
-impl Progress {
+impl TurnSoFar {
     /// The state that the claims have left, where the tick began with this one.
     fn state<'a>(&'a self, first: &'a State) -> &'a State
         ensures { result.now ≡ (so_far first.now self.now).state }
@@ -132,7 +132,7 @@ impl Progress {
 }
 
 /// What is to be done about an application: it is claimed or passed where it is this node's to claim, and left otherwise.
-fn look_after(
+fn found_of(
     alloc: Global,
     config: &Config,
     own: Origin,

@@ -1,4 +1,4 @@
--- Bytes: the reader's tests decide what the grammar says of them, what the class of one is, and the longest run of
+-- Bytes: the reader's tests decide what the grammar says of them, what the class of one is, and the longest stretch of
 -- bytes that pass a test.
 use Rattle.std.proofs.Common.{◌≡◌, ◌≢◌, inl, inr, ℕ, suc, ◌+◌, ◌<◌, Bool, true, false, ◌||◌, cond, eqb, leb, List, [], ◌∷◌, ◌++◌, length, take, drop, refl, sym, ap, subst, ◌∙◌, arith}
 use Rattle.std.specs.Prelude.{All}
@@ -15,7 +15,7 @@ use Rattle.dac_tokens.specs.declared.token.Class.{Class}
 use Rattle.dac_tokens.specs.declared.token.Class.TheVariants as class
 use Rattle.dac_tokens.specs.declared.token.Symbol.{Symbol}
 use Rattle.dac_tokens.specs.declared.token.Symbol.TheVariants.{OpenList, CloseList, OpenTuple, CloseTuple, Comma, FullStop}
-use Rattle.dac_tokens.specs.Scan.{is_blank, class_of, ends_stop, breaks_number, run}
+use Rattle.dac_tokens.specs.Scan.{is_blank, class_of, ends_stop, breaks_number, stretch}
 use Rattle.dac_tokens.specs.TokenGrammar.{IsBlank, StartsGap, Begins, GoesOnAsNumber, EndsTerm, bytes_of}
 use Rattle.dac_tokens.specs.TokenFaults.{IsRefused, IsUnknown}
 use Rattle.dac_tokens.specs.laws.NameBytes.{tells_letter}
@@ -128,10 +128,10 @@ class_is b =
     no_mark n91 n93 n123 n125 n44 n46 Comma same = n44 cc
     no_mark n91 n93 n123 n125 n44 n46 FullStop same = n46 cc
 
-pub run-first : (p : ℕ → Bool) (b : ℕ) (bs : List ℕ) → p b ≡ true → 0 < run p (b ∷ bs)
-run-first p b bs e = rw (take_while-cons p b bs, e) (omega arith)
+pub stretch-first : (p : ℕ → Bool) (b : ℕ) (bs : List ℕ) → p b ≡ true → 0 < stretch p (b ∷ bs)
+stretch-first p b bs e = rw (take_while-cons p b bs, e) (omega arith)
 
-pub taken_length : (p : ℕ → Bool) (bs : List ℕ) → length (take (run p bs) bs) ≡ run p bs
+pub taken_length : (p : ℕ → Bool) (bs : List ℕ) → length (take (stretch p bs) bs) ≡ stretch p bs
 taken_length p bs = ap (λ (n : ℕ). length (take n bs)) (length-prefix_len p bs)
 
 module _ (p : ℕ → Bool) (P : ℕ → Type 0) (tells : (b : ℕ) → Decides (p b) (P b)) where
@@ -145,8 +145,8 @@ module _ (p : ℕ → Bool) (P : ℕ → Type 0) (tells : (b : ℕ) → Decides 
           let one : 1 + prefix_len p bs ≡ suc (prefix_len p bs) = omega arith in
           rw one (All-cons P b (take (prefix_len p bs) bs) ((tells b).0 e) more)
 
-  -- every byte of the run is such
-  pub run_passes : (bs : List ℕ) → All P (take (run p bs) bs)
+  -- every byte of the stretch is such
+  pub run_passes : (bs : List ℕ) → All P (take (stretch p bs) bs)
   run_passes bs = rw (length-prefix_len p bs) (passes bs)
 
   stops : (bs : List ℕ) → Begins P (drop (prefix_len p bs) bs) → ⊥
@@ -159,8 +159,8 @@ module _ (p : ℕ → Bool) (P : ℕ → Type 0) (tells : (b : ℕ) → Decides 
           let one : 1 + prefix_len p bs ≡ suc (prefix_len p bs) = omega arith in
           more (rw one at k)
 
-  -- the byte behind the run is not
-  pub run_stops : (bs : List ℕ) → Begins P (drop (run p bs) bs) → ⊥
+  -- the byte behind the stretch is not
+  pub run_stops : (bs : List ℕ) → Begins P (drop (stretch p bs) bs) → ⊥
   run_stops bs h = stops bs (rw (length-prefix_len p bs) at h)
 
   prefix_is : (xs ys : List ℕ) → All P xs → (Begins P ys → ⊥) → prefix_len p (xs ++ ys) ≡ length xs
@@ -168,12 +168,12 @@ module _ (p : ℕ → Bool) (P : ℕ → Type 0) (tells : (b : ℕ) → Decides 
   prefix_is [] (b ∷ bs) all ends = rw (fails (p b) (tells b) ends) refl
   prefix_is (x ∷ xs) ys all ends = rw ((tells x).1 (All-head P x xs all)) (omega (arith, prefix_is xs ys (All-tail P x xs all) ends))
 
-  -- such bytes before one that is not are the run
-  pub run_of : (xs ys : List ℕ) → All P xs → (Begins P ys → ⊥) → run p (xs ++ ys) ≡ length xs
+  -- such bytes before one that is not are the stretch
+  pub run_of : (xs ys : List ℕ) → All P xs → (Begins P ys → ⊥) → stretch p (xs ++ ys) ≡ length xs
   run_of xs ys all ends = length-prefix_len p (xs ++ ys) ∙ prefix_is xs ys all ends
 
-  pub taken_run : (xs ys : List ℕ) → All P xs → (Begins P ys → ⊥) → take (run p (xs ++ ys)) (xs ++ ys) ≡ xs
+  pub taken_run : (xs ys : List ℕ) → All P xs → (Begins P ys → ⊥) → take (stretch p (xs ++ ys)) (xs ++ ys) ≡ xs
   taken_run xs ys all ends = rw (run_of xs ys all ends) (take-append_seam xs ys)
 
-  pub dropped_run : (xs ys : List ℕ) → All P xs → (Begins P ys → ⊥) → drop (run p (xs ++ ys)) (xs ++ ys) ≡ ys
+  pub dropped_run : (xs ys : List ℕ) → All P xs → (Begins P ys → ⊥) → drop (stretch p (xs ++ ys)) (xs ++ ys) ≡ ys
   dropped_run xs ys all ends = rw (run_of xs ys all ends) (drop-append_seam xs ys)

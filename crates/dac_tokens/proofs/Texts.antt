@@ -7,7 +7,7 @@ use Rattle.dac_tokens.specs.declared.fault.ConfigFault.{ConfigFault}
 use Rattle.dac_tokens.specs.declared.token.Symbol.TheVariants.{OpenList, OpenTuple}
 use Rattle.dac_tokens.specs.Faults.{IsTokenFault}
 use Rattle.dac_tokens.specs.Gives.{◌>>=◌}
-use Rattle.dac_tokens.specs.Words.{Word, Mark, is_end, Located}
+use Rattle.dac_tokens.specs.Words.{Word, Punctuation, is_end, Located}
 use Rattle.dac_tokens.specs.Scan.{after_gap, class_of, unsupported, token_of, word_at}
 use Rattle.dac_tokens.specs.Stream.{Stream, opened, depth_after, token_from, and_then, tokens_within, tokens_of, end_at, ended, stopped, taken}
 use Rattle.dac_tokens.specs.TokenGrammar.{Begins, Nothing, IsLastGap, Closed, IsNextToken, AreSpelled, depth_behind, NestWell, AreTokensOf}
@@ -19,16 +19,16 @@ use Rattle.dac_tokens.proofs.Word.{IsToken, StopsThere, Found, word_found, token
 -- what the depth behind a word is: as the grammar has it, or a fault at a 65th open bracket
 data Depth (at depth : ℕ) : Word → Result ℕ ConfigFault → Type 0 where
   Within : (w : Word) → depth_behind depth w ≤ 64 → Depth at depth w (Ok (depth_behind depth w))
-  List65 : 64 ≤ depth → Depth at depth (Mark OpenList) (Err (record { kind = Unsupported; at = at }))
-  Tuple65 : 64 ≤ depth → Depth at depth (Mark OpenTuple) (Err (record { kind = Unsupported; at = at }))
+  List65 : 64 ≤ depth → Depth at depth (Punctuation OpenList) (Err (record { kind = Unsupported; at = at }))
+  Tuple65 : 64 ≤ depth → Depth at depth (Punctuation OpenTuple) (Err (record { kind = Unsupported; at = at }))
 
 -- `fault` says what a 65th bracket is
 opened_found : (at depth : ℕ) (w : Word) → depth_behind depth w ≡ depth + 1 → (64 ≤ depth → Depth at depth w (unsupported at)) → Depth at depth w (opened at depth)
 opened_found at depth w more fault = cond_both (leb 64 depth) (unsupported at) (Ok (depth + 1)) (Depth at depth w) (λ e. fault (leb-true 64 depth e)) (λ e. let lt : depth < 64 = leb-false 64 depth e in rw (← more) (Within w (omega arith)))
 
 depth_found : (at depth : ℕ) (w : Word) → depth ≤ 64 → Depth at depth w (depth_after at depth w)
-depth_found at depth (Mark OpenList) le = opened_found at depth (Mark OpenList) refl List65
-depth_found at depth (Mark OpenTuple) le = opened_found at depth (Mark OpenTuple) refl Tuple65
+depth_found at depth (Punctuation OpenList) le = opened_found at depth (Punctuation OpenList) refl List65
+depth_found at depth (Punctuation OpenTuple) le = opened_found at depth (Punctuation OpenTuple) refl Tuple65
 depth_found at depth w le = Within w (omega arith)
 
 depth_read : (at depth : ℕ) (w : Word) → depth ≤ 64 → depth_behind depth w ≤ 64 → depth_after at depth w ≡ Ok (depth_behind depth w)
@@ -48,43 +48,43 @@ data First (at end depth : ℕ) (bytes : List ℕ) : Result (Located × ℕ × L
   Next : (t : Located) (own rest : List ℕ) → IsNextToken at bytes t own rest → depth_behind depth t.word ≤ 64 → First at end depth bytes (Ok (t, depth_behind depth t.word, rest))
   Fault : (e : ConfigFault) → IsFaultAt at depth bytes e → First at end depth bytes (Err e)
 
-step_found : (at end depth place : ℕ) (bytes rest : List ℕ) → after_gap false bytes ≡ rest → at + length bytes ≡ end → place + length rest ≡ end → depth ≤ 64 → First at end depth bytes (step depth place rest)
+step_found : (at end depth offset : ℕ) (bytes rest : List ℕ) → after_gap false bytes ≡ rest → at + length bytes ≡ end → offset + length rest ≡ end → depth ≤ 64 → First at end depth bytes (step depth offset rest)
 unfolding word_at
-step_found at end depth place bytes [] left whole more le = let same : place ≡ end = omega (arith, more) in rw same (AtEnd (last_gap bytes left))
-step_found at end depth place bytes (b ∷ bs) left whole more le = word (gap_before bytes b bs left) (token_of (class_of b) place b bs) (word_found (class_of b) place b bs (class_is b))
+step_found at end depth offset bytes [] left whole more le = let same : offset ≡ end = omega (arith, more) in rw same (AtEnd (last_gap bytes left))
+step_found at end depth offset bytes (b ∷ bs) left whole more le = word (gap_before bytes b bs left) (token_of (class_of b) offset b bs) (word_found (class_of b) offset b bs (class_is b))
   where
-    stop : IsPassed bytes (b ∷ bs) → (e : ConfigFault) → StopsThere place depth (b ∷ bs) e → First at end depth bytes (Err e)
+    stop : IsPassed bytes (b ∷ bs) → (e : ConfigFault) → StopsThere offset depth (b ∷ bs) e → First at end depth bytes (Err e)
     stop passed e h =
         let size = ap length passed.parts ∙ length-append passed.gap (b ∷ bs) in
-        Fault e (record { gap = passed.gap; rest = b ∷ bs; parts = passed.parts; is_gap = passed.is_gap; behind = h.0; place = omega (arith, size, whole, more, h.1); fault = h.2 })
+        Fault e (record { gap = passed.gap; rest = b ∷ bs; parts = passed.parts; is_gap = passed.is_gap; behind = h.0; offset = omega (arith, size, whole, more, h.1); fault = h.2 })
 
-    deep : IsPassed bytes (b ∷ bs) → (w : Word) (rest : List ℕ) → IsToken (b ∷ bs) w rest → (r : Result ℕ ConfigFault) → Depth place depth w r → First at end depth bytes (r >>= λ after. Ok (record { word = w; at = place }, after, rest))
+    deep : IsPassed bytes (b ∷ bs) → (w : Word) (rest : List ℕ) → IsToken (b ∷ bs) w rest → (r : Result ℕ ConfigFault) → Depth offset depth w r → First at end depth bytes (r >>= λ after. Ok (record { word = w; at = offset }, after, rest))
     deep passed _ rest t _ (Within w within) =
         let size = ap length passed.parts ∙ length-append passed.gap (b ∷ bs) in
-        Next (record { word = w; at = place }) t.own rest (record { gap = passed.gap; parts = passed.parts ∙ ap (λ (r : List ℕ). passed.gap ++ r) t.parts; is_gap = passed.is_gap; place = omega (arith, size, whole, more); spelled = t.spelled }) within
+        Next (record { word = w; at = offset }) t.own rest (record { gap = passed.gap; parts = passed.parts ∙ ap (λ (r : List ℕ). passed.gap ++ r) t.parts; is_gap = passed.is_gap; offset = omega (arith, size, whole, more); spelled = t.spelled }) within
     deep passed _ rest t _ (List65 high) = stop passed _ (0, omega arith, TooDeep high (opening_begins (b ∷ bs) t.own rest 91 t.parts t.spelled (inl refl)))
     deep passed _ rest t _ (Tuple65 high) = stop passed _ (0, omega arith, TooDeep high (opening_begins (b ∷ bs) t.own rest 123 t.parts t.spelled (inr refl)))
 
-    word : IsPassed bytes (b ∷ bs) → (r : Result (Word × List ℕ) ConfigFault) → Found place (b ∷ bs) r → First at end depth bytes (r >>= λ x. depth_after place depth x.0 >>= λ after. Ok (record { word = x.0; at = place }, after, x.1))
-    word passed (Ok x) t = deep passed x.0 x.1 t (depth_after place depth x.0) (depth_found place depth x.0 le)
+    word : IsPassed bytes (b ∷ bs) → (r : Result (Word × List ℕ) ConfigFault) → Found offset (b ∷ bs) r → First at end depth bytes (r >>= λ x. depth_after offset depth x.0 >>= λ after. Ok (record { word = x.0; at = offset }, after, x.1))
+    word passed (Ok x) t = deep passed x.0 x.1 t (depth_after offset depth x.0) (depth_found offset depth x.0 le)
     word passed (Err e) h = stop passed e (h passed.stops depth)
 
 first_read : (at end depth : ℕ) (bytes : List ℕ) (r : Result (Located × ℕ × List ℕ) ConfigFault) → at + length bytes ≡ end → depth ≤ 64 → First at end depth bytes r → token_from end depth bytes ≡ r
 unfolding token_from word_at
 first_read at end depth bytes _ whole le (AtEnd gap) =
-    let place : end - 0 ≡ end = omega arith in
-    ap (λ (r : List ℕ). step depth (end - length r) r) (last_read bytes gap) ∙ ap (λ (k : ℕ). step depth k []) place
+    let offset : end - 0 ≡ end = omega arith in
+    ap (λ (r : List ℕ). step depth (end - length r) r) (last_read bytes gap) ∙ ap (λ (k : ℕ). step depth k []) offset
 first_read at end depth bytes _ whole le (Next t own rest next within) =
     let left : after_gap false bytes ≡ own ++ rest = rw next.parts (gap_read next.gap (own ++ rest) next.is_gap (no_gap t.word own rest next.spelled)) in
     let size = ap length next.parts ∙ length-append next.gap (own ++ rest) in
-    let place : end - length (own ++ rest) ≡ t.at = omega (arith, size, whole, next.place) in
-    rw (left, place, token_read t.word t.at own rest next.spelled, depth_read t.at depth t.word le within) refl
+    let offset : end - length (own ++ rest) ≡ t.at = omega (arith, size, whole, next.offset) in
+    rw (left, offset, token_read t.word t.at own rest next.spelled, depth_read t.at depth t.word le within) refl
 first_read at end depth bytes _ whole le (Fault e h) =
     let stop = stop_read depth (end - length h.rest) h.rest h.behind e.kind h.fault in
     let left : after_gap false bytes ≡ h.rest = rw h.parts (gap_read h.gap h.rest h.is_gap stop.no_gap) in
     let size = ap length h.parts ∙ length-append h.gap h.rest in
-    let place : end - length h.rest + h.behind ≡ e.at = omega (arith, size, whole, h.place) in
-    rw (left, stop.read, place) refl
+    let offset : end - length h.rest + h.behind ≡ e.at = omega (arith, size, whole, h.offset) in
+    rw (left, stop.read, offset) refl
 
 -- what bytes that begin at the offset `at` are: tokens up to the end, or up to a fault
 abbrev IsText : ℕ → ℕ → ℕ → List ℕ → List Located → Result Located ConfigFault → Type 0
@@ -106,7 +106,7 @@ behind_token at end bytes t own rest next whole =
     let size = ap length next.parts ∙ length-append next.gap (own ++ rest) in
     let inner = length-append own rest in
     let some = own_some t.word own rest next.spelled in
-    (omega (arith, size, inner, some), omega (arith, size, inner, next.place, whole))
+    (omega (arith, size, inner, some), omega (arith, size, inner, next.offset, whole))
 
 abbrev IsStream : ℕ → ℕ → ℕ → List ℕ → Stream → Type 0
 IsStream at end depth bytes s = IsText at end depth bytes s.tokens s.last

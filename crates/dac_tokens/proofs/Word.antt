@@ -17,13 +17,13 @@ use Rattle.dac_tokens.specs.declared.token.Class.TheVariants as class
 use Rattle.dac_tokens.specs.declared.token.Symbol.TheVariants.{FullStop}
 use Rattle.dac_tokens.specs.Faults.{IsTokenFault}
 use Rattle.dac_tokens.specs.Gives.{◌>>=◌}
-use Rattle.dac_tokens.specs.Words.{Word, Mark, Name, Number, Text, End, is_end, Located}
-use Rattle.dac_tokens.specs.Scan.{class_of, is_name_byte, is_quotable, is_fun, run, ends_stop, breaks_number, bad_token, unsupported, atom_at, closed_at, quoted_at, two_quotes, inside_string, string_at, number_at, negative_at, token_of, word_at}
+use Rattle.dac_tokens.specs.Words.{Word, Punctuation, Name, Number, Text, End, is_end, Located}
+use Rattle.dac_tokens.specs.Scan.{class_of, is_name_byte, is_quotable, is_fun, stretch, ends_stop, breaks_number, bad_token, unsupported, atom_at, closed_at, quoted_at, two_quotes, inside_string, string_at, number_at, negative_at, token_of, word_at}
 use Rattle.dac_tokens.specs.Stream.{depth_after}
 use Rattle.dac_tokens.specs.TokenGrammar.{StartsGap, Begins, IsNameByte, IsQuotable, IsUnquotable, IsDigits, IsNumber, GoesOnAsNumber, IsStringText, Empty, Plain, Escape, Spells}
 use Rattle.dac_tokens.specs.TokenFaults.{IsOpeningBracket, IsRefused, IsUnknown, NoToken, LoneDot, LoneMinus, Unknown, Function, OtherNumber, InQuotes, NoQuote, ThreeQuotes, ControlEscape, NoDoubleQuote, Refused, TooDeep}
 use Rattle.dac_tokens.specs.laws.NameBytes.{tells_name_byte}
-use Rattle.dac_tokens.proofs.Bytes.{fails, tells_digit, tells_stop, tells_break, letter_class, digit_class, refused_class, gap_class, unknown_class, IsOf, class_is, run-first, taken_length, run_passes, run_stops, run_of, taken_run, dropped_run}
+use Rattle.dac_tokens.proofs.Bytes.{fails, tells_digit, tells_stop, tells_break, letter_class, digit_class, refused_class, gap_class, unknown_class, IsOf, class_is, stretch-first, taken_length, run_passes, run_stops, run_of, taken_run, dropped_run}
 
 -- bytes without a gap before them: those of a token, and the rest behind it
 pub record IsToken (bytes : List ℕ) (w : Word) (rest : List ℕ) : Type 0 where
@@ -66,12 +66,12 @@ closed_found at bs name (b ∷ rest) parts all ends = cond_both (eqb b 39) (Ok (
 
 quoted_found : (at : ℕ) (bs : List ℕ) → Found at (39 ∷ bs) (quoted_at at bs)
 quoted_found at bs =
-    let n = run is_quotable bs in
+    let n = stretch is_quotable bs in
     closed_found at bs (take n bs) (drop n bs) (sym (take-append-drop n bs)) (run_passes is_quotable IsQuotable tells_quotable bs) (run_stops is_quotable IsQuotable tells_quotable bs)
 
 quoted_is : (at : ℕ) (name rest : List ℕ) → All IsQuotable name → (Begins IsQuotable rest → ⊥) → quoted_at at (name ++ rest) ≡ closed_at at name rest
 quoted_is at name rest all stops =
-    ap (λ (xs : List ℕ). closed_at at xs (drop (run is_quotable (name ++ rest)) (name ++ rest))) (taken_run is_quotable IsQuotable tells_quotable name rest all stops)
+    ap (λ (xs : List ℕ). closed_at at xs (drop (stretch is_quotable (name ++ rest)) (name ++ rest))) (taken_run is_quotable IsQuotable tells_quotable name rest all stops)
     ∙ ap (closed_at at name) (dropped_run is_quotable IsQuotable tells_quotable name rest all stops)
 
 quoted_refused : (at : ℕ) (name rest : List ℕ) → All IsQuotable name → Begins IsUnquotable rest → quoted_at at (name ++ rest) ≡ unsupported (at + 1 + length name)
@@ -81,45 +81,45 @@ quoted_refused at name (b ∷ rest) all begins = quoted_is at name (b ∷ rest) 
 quoted_open : (at : ℕ) (name : List ℕ) → All IsQuotable name → quoted_at at name ≡ bad_token at
 quoted_open at name all = ap (quoted_at at) (sym (append-nil name)) ∙ quoted_is at name [] all (λ q. q)
 
--- strings, from behind their opening quote: how reading ends at the byte with `place` bytes before it, where no more of a string's text stands
-data Ending (at place : ℕ) : List ℕ → Result (Word × List ℕ) ConfigFault → Type 0 where
-  Closed : (more : List ℕ) → Ending at place (34 ∷ more) (Ok (Text, more))
-  Control : (more : List ℕ) → Ending at place (92 ∷ 94 ∷ more) (Err (record { kind = Unsupported; at = place }))
-  Cut : Ending at place [] (Err (record { kind = BadToken; at = at }))
-  Escaped : Ending at place (92 ∷ []) (Err (record { kind = BadToken; at = at }))
+-- strings, from behind their opening quote: how reading ends at the byte with `offset` bytes before it, where no more of a string's text stands
+data Ending (at offset : ℕ) : List ℕ → Result (Word × List ℕ) ConfigFault → Type 0 where
+  Closed : (more : List ℕ) → Ending at offset (34 ∷ more) (Ok (Text, more))
+  Control : (more : List ℕ) → Ending at offset (92 ∷ 94 ∷ more) (Err (record { kind = Unsupported; at = offset }))
+  Cut : Ending at offset [] (Err (record { kind = BadToken; at = at }))
+  Escaped : Ending at offset (92 ∷ []) (Err (record { kind = BadToken; at = at }))
 
--- behind an opening quote at `at`, with `place` bytes before them, these bytes are a text up to such an end
+-- behind an opening quote at `at`, with `offset` bytes before them, these bytes are a text up to such an end
 abbrev FoundInside : ℕ → ℕ → List ℕ → Result (Word × List ℕ) ConfigFault → Type 0
-FoundInside at place bs r = (inner rest : List ℕ) × (bs ≡ inner ++ rest) × IsStringText inner × Ending at (place + length inner) rest r
+FoundInside at offset bs r = (inner rest : List ℕ) × (bs ≡ inner ++ rest) × IsStringText inner × Ending at (offset + length inner) rest r
 
-ends_here : (at place : ℕ) (bs : List ℕ) (r : Result (Word × List ℕ) ConfigFault) → Ending at place bs r → FoundInside at place bs r
-ends_here at place bs r end = ([], bs, refl, Empty, subst (λ (k : ℕ). Ending at k bs r) (omega arith) end)
+ends_here : (at offset : ℕ) (bs : List ℕ) (r : Result (Word × List ℕ) ConfigFault) → Ending at offset bs r → FoundInside at offset bs r
+ends_here at offset bs r end = ([], bs, refl, Empty, subst (λ (k : ℕ). Ending at k bs r) (omega arith) end)
 
 -- one byte more before what was found, or a backslash and the byte that it takes along
-plain_more : (at place b : ℕ) (bs : List ℕ) (r : Result (Word × List ℕ) ConfigFault) → (b ≡ 34 → ⊥) → (b ≡ 92 → ⊥) → FoundInside at (place + 1) bs r → FoundInside at place (b ∷ bs) r
-plain_more at place b bs r no_end no_escape (inner, rest, parts, text, end) = (b ∷ inner, rest, ap (λ (xs : List ℕ). b ∷ xs) parts, Plain b inner no_end no_escape text, subst (λ (k : ℕ). Ending at k rest r) (omega arith) end)
+plain_more : (at offset b : ℕ) (bs : List ℕ) (r : Result (Word × List ℕ) ConfigFault) → (b ≡ 34 → ⊥) → (b ≡ 92 → ⊥) → FoundInside at (offset + 1) bs r → FoundInside at offset (b ∷ bs) r
+plain_more at offset b bs r no_end no_escape (inner, rest, parts, text, end) = (b ∷ inner, rest, ap (λ (xs : List ℕ). b ∷ xs) parts, Plain b inner no_end no_escape text, subst (λ (k : ℕ). Ending at k rest r) (omega arith) end)
 
-escape_more : (at place b : ℕ) (bs : List ℕ) (r : Result (Word × List ℕ) ConfigFault) → (b ≡ 94 → ⊥) → FoundInside at (place + 1 + 1) bs r → FoundInside at place (92 ∷ b ∷ bs) r
-escape_more at place b bs r no_control (inner, rest, parts, text, end) = (92 ∷ b ∷ inner, rest, ap (λ (xs : List ℕ). 92 ∷ b ∷ xs) parts, Escape b inner no_control text, subst (λ (k : ℕ). Ending at k rest r) (omega arith) end)
+escape_more : (at offset b : ℕ) (bs : List ℕ) (r : Result (Word × List ℕ) ConfigFault) → (b ≡ 94 → ⊥) → FoundInside at (offset + 1 + 1) bs r → FoundInside at offset (92 ∷ b ∷ bs) r
+escape_more at offset b bs r no_control (inner, rest, parts, text, end) = (92 ∷ b ∷ inner, rest, ap (λ (xs : List ℕ). 92 ∷ b ∷ xs) parts, Escape b inner no_control text, subst (λ (k : ℕ). Ending at k rest r) (omega arith) end)
 
-behind_backslash : (at place b : ℕ) (bs : List ℕ) (c : Bool) → eqb b 94 ≡ c → FoundInside at (place + 1 + 1) bs (inside_string at (place + 1 + 1) false bs) → FoundInside at place (92 ∷ b ∷ bs) (cond c (unsupported (place + 1 - 1)) (inside_string at (place + 1 + 1) false bs))
-behind_backslash at place b bs true e found =
+behind_backslash : (at offset b : ℕ) (bs : List ℕ) (c : Bool) → eqb b 94 ≡ c → FoundInside at (offset + 1 + 1) bs (inside_string at (offset + 1 + 1) false bs) → FoundInside at offset (92 ∷ b ∷ bs) (cond c (unsupported (offset + 1 - 1)) (inside_string at (offset + 1 + 1) false bs))
+behind_backslash at offset b bs true e found =
     let is : b ≡ 94 = eqb-true b 94 e in
-    let same : place + 1 - 1 ≡ place = omega arith in
-    rw (is, same) (ends_here at place (92 ∷ 94 ∷ bs) _ (Control bs))
-behind_backslash at place b bs false e found = escape_more at place b bs _ (eqb-false b 94 e) found
+    let same : offset + 1 - 1 ≡ offset = omega arith in
+    rw (is, same) (ends_here at offset (92 ∷ 94 ∷ bs) _ (Control bs))
+behind_backslash at offset b bs false e found = escape_more at offset b bs _ (eqb-false b 94 e) found
 
-at_byte : (at place b : ℕ) (bs : List ℕ) (c d : Bool) → eqb b 34 ≡ c → eqb b 92 ≡ d → FoundInside at (place + 1) bs (inside_string at (place + 1) false bs) → FoundInside at place (92 ∷ bs) (inside_string at (place + 1) true bs) → FoundInside at place (b ∷ bs) (cond c (Ok (Text, bs)) (inside_string at (place + 1) d bs))
-at_byte at place b bs true d e f _ _ = let is : b ≡ 34 = eqb-true b 34 e in rw is (ends_here at place (34 ∷ bs) _ (Closed bs))
-at_byte at place b bs false true e f _ escaped = let is : b ≡ 92 = eqb-true b 92 f in rw is escaped
-at_byte at place b bs false false e f found _ = plain_more at place b bs _ (eqb-false b 34 e) (eqb-false b 92 f) found
+at_byte : (at offset b : ℕ) (bs : List ℕ) (c d : Bool) → eqb b 34 ≡ c → eqb b 92 ≡ d → FoundInside at (offset + 1) bs (inside_string at (offset + 1) false bs) → FoundInside at offset (92 ∷ bs) (inside_string at (offset + 1) true bs) → FoundInside at offset (b ∷ bs) (cond c (Ok (Text, bs)) (inside_string at (offset + 1) d bs))
+at_byte at offset b bs true d e f _ _ = let is : b ≡ 34 = eqb-true b 34 e in rw is (ends_here at offset (34 ∷ bs) _ (Closed bs))
+at_byte at offset b bs false true e f _ escaped = let is : b ≡ 92 = eqb-true b 92 f in rw is escaped
+at_byte at offset b bs false false e f found _ = plain_more at offset b bs _ (eqb-false b 34 e) (eqb-false b 92 f) found
 
 -- from a byte on, or from the byte behind a backslash
-inside_found : (at place : ℕ) (bs : List ℕ) → FoundInside at place bs (inside_string at place false bs) × FoundInside at place (92 ∷ bs) (inside_string at (place + 1) true bs)
-inside_found at place [] = (ends_here at place [] _ Cut, ends_here at place (92 ∷ []) _ Escaped)
-inside_found at place (b ∷ bs) =
-    let next = inside_found at (place + 1) bs in
-    (at_byte at place b bs (eqb b 34) (eqb b 92) refl refl next.0 (inside_found at place bs).1, behind_backslash at place b bs (eqb b 94) refl (inside_found at (place + 1 + 1) bs).0)
+inside_found : (at offset : ℕ) (bs : List ℕ) → FoundInside at offset bs (inside_string at offset false bs) × FoundInside at offset (92 ∷ bs) (inside_string at (offset + 1) true bs)
+inside_found at offset [] = (ends_here at offset [] _ Cut, ends_here at offset (92 ∷ []) _ Escaped)
+inside_found at offset (b ∷ bs) =
+    let next = inside_found at (offset + 1) bs in
+    (at_byte at offset b bs (eqb b 34) (eqb b 92) refl refl next.0 (inside_found at offset bs).1, behind_backslash at offset b bs (eqb b 94) refl (inside_found at (offset + 1 + 1) bs).0)
 
 -- the reader's test finds two quotes in a row
 two_in_row : (bs : List ℕ) → two_quotes bs ≡ true → (rest : List ℕ) × (bs ≡ 34 ∷ 34 ∷ rest)
@@ -152,14 +152,14 @@ string_found at bs = by (two_quotes bs) refl
     by false two = let h = (inside_found at (at + 1) bs).0 in inside two h.0 h.1 h.2 h.3 (inside_string at (at + 1) false bs) h.4
 
 -- a string's text is passed over
-inside_read : (at place : ℕ) (inner more : List ℕ) → IsStringText inner → inside_string at place false (inner ++ more) ≡ inside_string at (place + length inner) false more
-inside_read at place _ more Empty = ap (λ (k : ℕ). inside_string at k false more) (omega arith)
-inside_read at place _ more (Plain b inner no_end no_escape text) =
-    let further : place + 1 + length inner ≡ place + length (b ∷ inner) = omega arith in
-    rw (ne_eqb b 34 no_end, ne_eqb b 92 no_escape, inside_read at (place + 1) inner more text, further) refl
-inside_read at place _ more (Escape b inner no_control text) =
-    let further : place + 1 + 1 + length inner ≡ place + length (92 ∷ b ∷ inner) = omega arith in
-    rw (ne_eqb b 94 no_control, inside_read at (place + 1 + 1) inner more text, further) refl
+inside_read : (at offset : ℕ) (inner more : List ℕ) → IsStringText inner → inside_string at offset false (inner ++ more) ≡ inside_string at (offset + length inner) false more
+inside_read at offset _ more Empty = ap (λ (k : ℕ). inside_string at k false more) (omega arith)
+inside_read at offset _ more (Plain b inner no_end no_escape text) =
+    let further : offset + 1 + length inner ≡ offset + length (b ∷ inner) = omega arith in
+    rw (ne_eqb b 34 no_end, ne_eqb b 92 no_escape, inside_read at (offset + 1) inner more text, further) refl
+inside_read at offset _ more (Escape b inner no_control text) =
+    let further : offset + 1 + 1 + length inner ≡ offset + length (92 ∷ b ∷ inner) = omega arith in
+    rw (ne_eqb b 94 no_control, inside_read at (offset + 1 + 1) inner more text, further) refl
 
 other_first : (b : ℕ) (bs : List ℕ) → (b ≡ 34 → ⊥) → two_quotes (b ∷ bs) ≡ false
 other_first b [] h = refl
@@ -191,15 +191,15 @@ begins_all : (P : ℕ → Type 0) (bs : List ℕ) → All P bs → 0 < length bs
 begins_all P [] all lt = absurd (omega arith)
 begins_all P (b ∷ bs) all lt = All-head P b bs all
 
-digits_of_run : (bs : List ℕ) → 0 < run is_ascii_digit bs → IsDigits (take (run is_ascii_digit bs) bs)
+digits_of_run : (bs : List ℕ) → 0 < stretch is_ascii_digit bs → IsDigits (take (stretch is_ascii_digit bs) bs)
 digits_of_run bs lt =
     let all = run_passes is_ascii_digit IsAsciiDigit tells_digit bs in
-    record { begins = begins_all IsAsciiDigit (take (run is_ascii_digit bs) bs) all (omega (arith, taken_length is_ascii_digit bs)); goes_on = all }
+    record { begins = begins_all IsAsciiDigit (take (stretch is_ascii_digit bs) bs) all (omega (arith, taken_length is_ascii_digit bs)); goes_on = all }
 
--- a number whose digits are the run at the front of `bs`, with its sign before them
-number_found : (at : ℕ) (negative : Bool) (sign bs : List ℕ) → IsNumber negative (take (run is_ascii_digit bs) bs) (sign ++ take (run is_ascii_digit bs) bs) → Found at (sign ++ bs) (number_at at negative bs)
+-- a number whose digits are the stretch at the front of `bs`, with its sign before them
+number_found : (at : ℕ) (negative : Bool) (sign bs : List ℕ) → IsNumber negative (take (stretch is_ascii_digit bs) bs) (sign ++ take (stretch is_ascii_digit bs) bs) → Found at (sign ++ bs) (number_at at negative bs)
 number_found at negative sign bs is =
-    let n = run is_ascii_digit bs in
+    let n = stretch is_ascii_digit bs in
     by (take n bs) (drop n bs) (sym (take-append-drop n bs)) is (run_stops is_ascii_digit IsAsciiDigit tells_digit bs)
   where
     by : (digits rest : List ℕ) → bs ≡ digits ++ rest → IsNumber negative digits (sign ++ digits) → (Begins IsAsciiDigit rest → ⊥) → Found at (sign ++ bs) (cond (breaks_number rest) (unsupported at) (Ok (Number negative digits, rest)))
@@ -210,20 +210,20 @@ number_found at negative sign bs is =
         (λ e. record { own = sign ++ digits; parts = parts; spelled = (is, not_from_Decides (breaks_number rest) (tells_break rest ends) e) })
 
 minus_found : (at : ℕ) (bs : List ℕ) → Found at (45 ∷ bs) (negative_at at bs)
-minus_found at bs = cond_both (eqb (run is_ascii_digit bs) 0) (bad_token at) (number_at at true bs) (Found at (45 ∷ bs))
-    (λ e. here at (45 ∷ bs) BadToken (λ _. LoneMinus bs refl (λ h. run_stops is_ascii_digit IsAsciiDigit tells_digit bs (rw (eqb-true (run is_ascii_digit bs) 0 e) h))))
-    (λ e. let some = eqb-false (run is_ascii_digit bs) 0 e in number_found at true (45 ∷ []) bs (refl, digits_of_run bs (omega arith)))
+minus_found at bs = cond_both (eqb (stretch is_ascii_digit bs) 0) (bad_token at) (number_at at true bs) (Found at (45 ∷ bs))
+    (λ e. here at (45 ∷ bs) BadToken (λ _. LoneMinus bs refl (λ h. run_stops is_ascii_digit IsAsciiDigit tells_digit bs (rw (eqb-true (stretch is_ascii_digit bs) 0 e) h))))
+    (λ e. let some = eqb-false (stretch is_ascii_digit bs) 0 e in number_found at true (45 ∷ []) bs (refl, digits_of_run bs (omega arith)))
 
 dot_found : (at : ℕ) (bs : List ℕ) → Found at (46 ∷ bs) (token_of class.Dot at 46 bs)
-dot_found at bs = cond_both (ends_stop bs) (Ok (Mark FullStop, bs)) (bad_token at) (Found at (46 ∷ bs))
+dot_found at bs = cond_both (ends_stop bs) (Ok (Punctuation FullStop, bs)) (bad_token at) (Found at (46 ∷ bs))
     (λ e. record { own = codes "."; parts = refl; spelled = (refl, (tells_stop bs).0 e) })
     (λ e. here at (46 ∷ bs) BadToken (λ _. LoneDot bs refl (not_from_Decides (ends_stop bs) (tells_stop bs) e)))
 
 atom_found : (at b : ℕ) (bs : List ℕ) → IsAsciiLowercase b → Found at (b ∷ bs) (atom_at at (b ∷ bs))
 atom_found at b bs letter =
-    let n = run is_name_byte (b ∷ bs) in
+    let n = stretch is_name_byte (b ∷ bs) in
     let is_name : is_name_byte b ≡ true = (tells_name_byte b).1 (inl (inr letter)) in
-    name_found (take n (b ∷ bs)) (drop n (b ∷ bs)) (sym (take-append-drop n (b ∷ bs))) (begins n (run-first is_name_byte b bs is_name)) (run_passes is_name_byte IsNameByte tells_name_byte (b ∷ bs)) (run_stops is_name_byte IsNameByte tells_name_byte (b ∷ bs))
+    name_found (take n (b ∷ bs)) (drop n (b ∷ bs)) (sym (take-append-drop n (b ∷ bs))) (begins n (stretch-first is_name_byte b bs is_name)) (run_passes is_name_byte IsNameByte tells_name_byte (b ∷ bs)) (run_stops is_name_byte IsNameByte tells_name_byte (b ∷ bs))
   where
     begins : (n : ℕ) → 0 < n → Begins IsAsciiLowercase (take n (b ∷ bs))
     begins zero lt = absurd (omega arith)
@@ -240,7 +240,7 @@ word_found (class.Bracket symbol) at b bs is = record { own = b ∷ []; parts = 
 word_found class.Comma at b bs is = record { own = b ∷ []; parts = refl; spelled = ap (λ (k : ℕ). k ∷ []) is }
 word_found class.Dot at b bs is = rw is (dot_found at bs)
 word_found class.Letter at b bs is = atom_found at b bs is
-word_found class.Digit at b bs is = number_found at false [] (b ∷ bs) (refl, digits_of_run (b ∷ bs) (run-first is_ascii_digit b bs ((tells_digit b).1 is)))
+word_found class.Digit at b bs is = number_found at false [] (b ∷ bs) (refl, digits_of_run (b ∷ bs) (stretch-first is_ascii_digit b bs ((tells_digit b).1 is)))
 word_found class.Minus at b bs is = rw is (minus_found at bs)
 word_found class.Quote at b bs is = rw is (quoted_found at bs)
 word_found class.DoubleQuote at b bs is = rw is (string_found at bs)
@@ -274,7 +274,7 @@ numbers_are true at [] own rest spelled ends = absurd spelled.1.begins
 numbers_are false at (d ∷ ds) own rest spelled ends = rw spelled.0 (ap (λ (c : Class). token_of c at d (ds ++ rest)) (digit_class d spelled.1.begins) ∙ number_is at false (d ∷ ds) rest spelled.1.goes_on ends)
 numbers_are true at (d ∷ ds) own rest spelled ends =
     let size = run_of is_ascii_digit IsAsciiDigit tells_digit (d ∷ ds) rest spelled.1.goes_on ends in
-    rw spelled.0 (cond-false _ _ _ (ne_eqb (run is_ascii_digit ((d ∷ ds) ++ rest)) 0 (λ none. omega (arith, size))) ∙ number_is at true (d ∷ ds) rest spelled.1.goes_on ends)
+    rw spelled.0 (cond-false _ _ _ (ne_eqb (stretch is_ascii_digit ((d ∷ ds) ++ rest)) 0 (λ none. omega (arith, size))) ∙ number_is at true (d ∷ ds) rest spelled.1.goes_on ends)
 
 no_digit : (rest : List ℕ) → (GoesOnAsNumber rest → ⊥) → Begins IsAsciiDigit rest → ⊥
 no_digit [] h d = d
@@ -283,8 +283,8 @@ no_digit (b ∷ bs) h d = h (inl d)
 -- what is spelled so is read
 pub token_read : (w : Word) (at : ℕ) (own rest : List ℕ) → Spells w own rest → word_at at (own ++ rest) ≡ Ok (w, rest)
 unfolding word_at
-token_read (Mark FullStop) at own rest spelled = rw spelled.0 (cond-true _ _ _ ((tells_stop rest).1 spelled.1))
-token_read (Mark symbol) at own rest spelled = rw spelled refl
+token_read (Punctuation FullStop) at own rest spelled = rw spelled.0 (cond-true _ _ _ ((tells_stop rest).1 spelled.1))
+token_read (Punctuation symbol) at own rest spelled = rw spelled refl
 token_read (Name []) at own rest (inl bare) = absurd bare.1.begins
 token_read (Name (b ∷ more)) at own rest (inl bare) =
     rw bare.0 (ap (λ (c : Class). token_of c at b (more ++ rest)) (letter_class b bare.1.begins)
@@ -303,8 +303,8 @@ no_end w own rest spelled = refl
 
 -- a token has a byte of its own
 pub own_some : (w : Word) (own rest : List ℕ) → Spells w own rest → 0 < length own
-own_some (Mark FullStop) own rest spelled = rw spelled.0 (omega arith)
-own_some (Mark symbol) own rest spelled = rw spelled (omega arith)
+own_some (Punctuation FullStop) own rest spelled = rw spelled.0 (omega arith)
+own_some (Punctuation symbol) own rest spelled = rw spelled (omega arith)
 own_some (Name []) own rest (inl bare) = absurd bare.1.begins
 own_some (Name (b ∷ more)) own rest (inl bare) = rw bare.0 (omega arith)
 own_some (Name name) own rest (inr quoted) = rw quoted.0 (omega arith)
@@ -335,8 +335,8 @@ pub record IsStop (depth at : ℕ) (bytes : List ℕ) (behind : ℕ) (kind : Fau
   pub no_gap : Begins StartsGap bytes → ⊥
   pub read : step depth at bytes ≡ Err (record { kind = kind; at = at + behind })
 
-stopped : (depth at : ℕ) (bytes : List ℕ) (behind place : ℕ) (kind : FaultKind) → IsTokenFault kind → (Begins StartsGap bytes → ⊥) → place ≡ at + behind → word_at at bytes ≡ Err (record { kind = kind; at = place }) → IsStop depth at bytes behind kind
-stopped depth at bytes behind place kind of_token no_gap is refused = record {
+stopped : (depth at : ℕ) (bytes : List ℕ) (behind offset : ℕ) (kind : FaultKind) → IsTokenFault kind → (Begins StartsGap bytes → ⊥) → offset ≡ at + behind → word_at at bytes ≡ Err (record { kind = kind; at = offset }) → IsStop depth at bytes behind kind
+stopped depth at bytes behind offset kind of_token no_gap is refused = record {
   of_token = of_token;
   no_gap = no_gap;
   read = rw refused (ap (λ (k : ℕ). Err (record { kind = kind; at = k })) is);
@@ -369,7 +369,7 @@ too_deep depth at (b ∷ bs) le (inr e) = let same : at + 0 ≡ at = omega arith
 pub stop_read : (depth at : ℕ) (bytes : List ℕ) (behind : ℕ) (kind : FaultKind) → NoToken depth bytes behind kind → IsStop depth at bytes behind kind
 unfolding word_at
 stop_read depth at bytes _ kind (LoneDot rest parts h) = rw parts (stopped depth at (46 ∷ rest) 0 at BadToken tt (shut 46 refl) (omega arith) (cond-false _ _ _ (fails (ends_stop rest) (tells_stop rest) h)))
-stop_read depth at bytes _ kind (LoneMinus rest parts h) = rw parts (stopped depth at (45 ∷ rest) 0 at BadToken tt (shut 45 refl) (omega arith) (cond-true _ _ _ (eq-eqb (run is_ascii_digit rest) 0 (run_of is_ascii_digit IsAsciiDigit tells_digit [] rest (All-nil IsAsciiDigit) h))))
+stop_read depth at bytes _ kind (LoneMinus rest parts h) = rw parts (stopped depth at (45 ∷ rest) 0 at BadToken tt (shut 45 refl) (omega arith) (cond-true _ _ _ (eq-eqb (stretch is_ascii_digit rest) 0 (run_of is_ascii_digit IsAsciiDigit tells_digit [] rest (All-nil IsAsciiDigit) h))))
 stop_read depth at bytes _ kind (Unknown h) = of_class class.Unknown IsUnknown depth at bytes BadToken tt (λ b un start. un.no_gap start) unknown_class (λ b bs. refl) h
 stop_read depth at bytes _ kind (Function rest parts h) = rw parts (stopped depth at (codes "fun" ++ rest) 0 at Unsupported tt (shut 102 refl) (omega arith) (atom_is at (codes "fun") rest (run_passes is_name_byte IsNameByte tells_name_byte (codes "fun")) h))
 stop_read depth at bytes _ kind (OtherNumber negative digits own rest parts spelled h goes) = rw parts (stopped depth at (own ++ rest) 0 at Unsupported tt (number_shut negative digits own rest spelled) (omega arith) (numbers_are negative at digits own rest spelled h ∙ cond-true _ _ _ ((tells_break rest h).1 goes)))

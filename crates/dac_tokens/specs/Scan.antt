@@ -8,13 +8,13 @@ use Rattle.dac_tokens.specs.declared.fault.ConfigFault.{ConfigFault}
 use Rattle.dac_tokens.specs.declared.token.Symbol.TheVariants.{OpenList, CloseList, OpenTuple, CloseTuple, Comma, FullStop}
 use Rattle.dac_tokens.specs.declared.token.Class.{Class}
 use Rattle.dac_tokens.specs.declared.token.Class.TheVariants as class
-use Rattle.dac_tokens.specs.declared.token.Run.{Run}
-use Rattle.dac_tokens.specs.declared.token.Run.TheVariants as kind
-use Rattle.dac_tokens.specs.Words.{Word, Mark, Name, Number, Text, End}
+use Rattle.dac_tokens.specs.declared.token.Stretch.{Stretch}
+use Rattle.dac_tokens.specs.declared.token.Stretch.TheVariants as kind
+use Rattle.dac_tokens.specs.Words.{Word, Punctuation, Name, Number, Text, End}
 
 -- how many bytes at the front pass
-abbrev pub run : (ℕ → Bool) → List ℕ → ℕ
-run passes bs = length (take_while passes bs)
+abbrev pub stretch : (ℕ → Bool) → List ℕ → ℕ
+stretch passes bs = length (take_while passes bs)
 
 -- a space, or a control character below it
 abbrev pub is_blank : ℕ → Bool
@@ -54,8 +54,8 @@ is_name_byte b = is_ascii_alphanumeric b || b == 95 || b == 64
 abbrev pub is_quotable : ℕ → Bool
 is_quotable b = nat_le 32 b && not (b == 127) && not (b == 39) && not (b == 92)
 
--- what each kind of run is made of
-abbrev pub goes_on : Run → ℕ → Bool
+-- what each kind of stretch is made of
+abbrev pub goes_on : Stretch → ℕ → Bool
 goes_on kind.Digits = is_ascii_digit
 goes_on kind.Name = is_name_byte
 goes_on kind.Quoted = is_quotable
@@ -81,10 +81,10 @@ bad_token at = Err (record { kind = BadToken; at = at })
 abbrev pub unsupported : {A : Type 0} → ℕ → Result A ConfigFault
 unsupported at = Err (record { kind = Unsupported; at = at })
 
--- the bare atom at the front, which begins at `at`: the longest run of its bytes
+-- the bare atom at the front, which begins at `at`: the longest stretch of its bytes
 abbrev pub atom_at : ℕ → List ℕ → Result (Word × List ℕ) ConfigFault
 atom_at at bs =
-    let n = run is_name_byte bs in
+    let n = stretch is_name_byte bs in
     if is_fun (take n bs) then unsupported at else Ok (Name (take n bs), drop n bs)
 
 -- the quoted atom of this name, whose opening quote is at `at`, with these bytes behind the name
@@ -95,7 +95,7 @@ closed_at at name (b ∷ rest) = if b == 39 then Ok (Name name, rest) else unsup
 -- the quoted atom whose opening quote, at `at`, stands before the bytes
 abbrev pub quoted_at : ℕ → List ℕ → Result (Word × List ℕ) ConfigFault
 quoted_at at bs =
-    let n = run is_quotable bs in
+    let n = stretch is_quotable bs in
     closed_at at (take n bs) (drop n bs)
 
 -- whether two more double quotes stand behind a first
@@ -104,14 +104,14 @@ two_quotes [] = false
 two_quotes (b ∷ []) = false
 two_quotes (b ∷ c ∷ bs) = b == 34 && c == 34
 
--- reads on in the string whose opening quote is at `at`, from the byte at `place` on, which a backslash may
+-- reads on in the string whose opening quote is at `at`, from the byte at `offset` on, which a backslash may
 -- have taken along
 abbrev pub inside_string : ℕ → ℕ → Bool → List ℕ → Result (Word × List ℕ) ConfigFault
-inside_string at place escaped [] = bad_token at
-inside_string at place escaped (b ∷ bs) =
-    if escaped && b == 94 then unsupported (place - 1)
+inside_string at offset escaped [] = bad_token at
+inside_string at offset escaped (b ∷ bs) =
+    if escaped && b == 94 then unsupported (offset - 1)
     else (if not escaped && b == 34 then Ok (Text, bs)
-    else inside_string at (place + 1) (not escaped && b == 92) bs)
+    else inside_string at (offset + 1) (not escaped && b == 92) bs)
 
 -- the string whose opening quote, at `at`, stands before the bytes
 abbrev pub string_at : ℕ → List ℕ → Result (Word × List ℕ) ConfigFault
@@ -120,18 +120,18 @@ string_at at bs = if two_quotes bs then unsupported at else inside_string at (at
 -- the digits at the front, of a number that begins at `at`
 abbrev pub number_at : ℕ → Bool → List ℕ → Result (Word × List ℕ) ConfigFault
 number_at at negative bs =
-    let n = run is_ascii_digit bs in
+    let n = stretch is_ascii_digit bs in
     if breaks_number (drop n bs) then unsupported at else Ok (Number negative (take n bs), drop n bs)
 
 -- the digits behind a minus at `at`
 abbrev pub negative_at : ℕ → List ℕ → Result (Word × List ℕ) ConfigFault
-negative_at at bs = if run is_ascii_digit bs == 0 then bad_token at else number_at at true bs
+negative_at at bs = if stretch is_ascii_digit bs == 0 then bad_token at else number_at at true bs
 
 -- the token that begins with the byte b of this class, at `at`, and bs behind it
 abbrev pub token_of : Class → ℕ → ℕ → List ℕ → Result (Word × List ℕ) ConfigFault
-token_of (class.Bracket symbol) at b bs = Ok (Mark symbol, bs)
-token_of class.Comma at b bs = Ok (Mark Comma, bs)
-token_of class.Dot at b bs = if ends_stop bs then Ok (Mark FullStop, bs) else bad_token at
+token_of (class.Bracket symbol) at b bs = Ok (Punctuation symbol, bs)
+token_of class.Comma at b bs = Ok (Punctuation Comma, bs)
+token_of class.Dot at b bs = if ends_stop bs then Ok (Punctuation FullStop, bs) else bad_token at
 token_of class.Letter at b bs = atom_at at (b ∷ bs)
 token_of class.Digit at b bs = number_at at false (b ∷ bs)
 token_of class.Minus at b bs = negative_at at bs

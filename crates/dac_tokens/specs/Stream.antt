@@ -3,7 +3,7 @@ use Rattle.std.specs.Prelude.{ℕ, zero, suc, ◌+◌, ◌-◌, false, List, [],
 use Rattle.dac_tokens.specs.declared.fault.ConfigFault.{ConfigFault}
 use Rattle.dac_tokens.specs.declared.token.Symbol.TheVariants.{OpenList, CloseList, OpenTuple, CloseTuple, Comma, FullStop}
 use Rattle.dac_tokens.specs.declared.token.TheConstants.{MAX_DEPTH}
-use Rattle.dac_tokens.specs.Words.{Word, Mark, Name, Number, Text, End, is_end, Located}
+use Rattle.dac_tokens.specs.Words.{Word, Punctuation, Name, Number, Text, End, is_end, Located}
 use Rattle.dac_tokens.specs.Gives.{◌>>=◌}
 use Rattle.dac_tokens.specs.Scan.{after_gap, word_at, unsupported}
 
@@ -13,12 +13,12 @@ opened at depth = if nat_le MAX_DEPTH depth then unsupported at else Ok (depth +
 
 -- how many brackets are open after a token at `at`, where `depth` were before it
 abbrev pub depth_after : ℕ → ℕ → Word → Result ℕ ConfigFault
-depth_after at depth (Mark OpenList) = opened at depth
-depth_after at depth (Mark OpenTuple) = opened at depth
-depth_after at depth (Mark CloseList) = Ok (depth - 1)
-depth_after at depth (Mark CloseTuple) = Ok (depth - 1)
-depth_after at depth (Mark Comma) = Ok depth
-depth_after at depth (Mark FullStop) = Ok depth
+depth_after at depth (Punctuation OpenList) = opened at depth
+depth_after at depth (Punctuation OpenTuple) = opened at depth
+depth_after at depth (Punctuation CloseList) = Ok (depth - 1)
+depth_after at depth (Punctuation CloseTuple) = Ok (depth - 1)
+depth_after at depth (Punctuation Comma) = Ok depth
+depth_after at depth (Punctuation FullStop) = Ok depth
 depth_after at depth (Name name) = Ok depth
 depth_after at depth (Number negative digits) = Ok depth
 depth_after at depth Text = Ok depth

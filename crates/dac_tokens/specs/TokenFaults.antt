@@ -57,7 +57,7 @@ pub record IsFaultAt (at depth : ℕ) (bytes : List ℕ) (e : ConfigFault) : Typ
   pub parts : bytes ≡ gap ++ rest
   pub is_gap : IsGap gap
   pub behind : ℕ
-  pub place : e.at ≡ at + length gap + behind
+  pub offset : e.at ≡ at + length gap + behind
   pub fault : NoToken depth rest behind e.kind
 
 -- bytes that begin at the offset `at`, with so many brackets open, are these tokens up to this fault

@@ -4,7 +4,7 @@ use Rattle.std.specs.Char.{IsAsciiDigit, IsAsciiLowercase, IsAsciiAlphanumeric}
 use Rattle.dac_tokens.specs.declared.token.Symbol.{Symbol}
 use Rattle.dac_tokens.specs.declared.token.Symbol.TheVariants.{OpenList, CloseList, OpenTuple, CloseTuple, Comma, FullStop}
 use Rattle.dac_tokens.specs.declared.token.TheConstants.{MAX_DEPTH}
-use Rattle.dac_tokens.specs.Words.{Word, Mark, Name, Number, Text, End, Located}
+use Rattle.dac_tokens.specs.Words.{Word, Punctuation, Name, Number, Text, End, Located}
 
 -- a space, or a control character below it
 abbrev pub IsBlank : ℕ → Type 0
@@ -103,20 +103,20 @@ pub record IsString (own rest : List ℕ) : Type 0 where
 
 -- The bytes of a token itself, where these bytes stand behind them. A number, too, is as long as it can be.
 abbrev pub Spells : Word → List ℕ → List ℕ → Type 0
-Spells (Mark FullStop) own rest = (own ≡ codes ".") × EndsTerm rest
-Spells (Mark symbol) own rest = own ≡ bytes_of symbol
+Spells (Punctuation FullStop) own rest = (own ≡ codes ".") × EndsTerm rest
+Spells (Punctuation symbol) own rest = own ≡ bytes_of symbol
 Spells (Name name) own rest = IsBare name own rest ⊎ IsQuoted name own
 Spells (Number negative digits) own rest = IsNumber negative digits own × (¬ GoesOnAsNumber rest)
 Spells Text own rest = IsString own rest
 Spells End own rest = ⊥
 
 -- Of bytes that begin at the offset `at`, the first token, its own bytes and the rest behind it. A gap may stand
--- before it. Its place is the number of bytes before its own.
+-- before it. Its offset is the number of bytes before its own.
 pub record IsNextToken (at : ℕ) (bytes : List ℕ) (t : Located) (own rest : List ℕ) : Type 0 where
   pub gap : List ℕ
   pub parts : bytes ≡ gap ++ (own ++ rest)
   pub is_gap : IsGap gap
-  pub place : t.at ≡ at + length gap
+  pub offset : t.at ≡ at + length gap
   pub spelled : Spells t.word own rest
 
 -- bytes that begin at the offset `at` are these tokens one after another, and behind them at most a gap
@@ -131,10 +131,10 @@ the_limit = refl
 
 -- how many brackets are open behind a token, where so many were before it
 abbrev pub depth_behind : ℕ → Word → ℕ
-depth_behind depth (Mark OpenList) = depth + 1
-depth_behind depth (Mark OpenTuple) = depth + 1
-depth_behind depth (Mark CloseList) = depth - 1
-depth_behind depth (Mark CloseTuple) = depth - 1
+depth_behind depth (Punctuation OpenList) = depth + 1
+depth_behind depth (Punctuation OpenTuple) = depth + 1
+depth_behind depth (Punctuation CloseList) = depth - 1
+depth_behind depth (Punctuation CloseTuple) = depth - 1
 depth_behind depth _ = depth
 
 -- behind no token are more than MAX_DEPTH brackets open

@@ -5,17 +5,17 @@ use Rattle.dac_tokens.specs.declared.token.Token.{Token}
 use Rattle.dac_tokens.specs.declared.token.Token.TheVariants as tokens
 use Rattle.dac_tokens.specs.declared.token.Located.{Located as LocatedToken}
 
--- A token: a mark, an atom by its name, or a number by its sign (true: negative) and digits. Or it is a string, of
+-- A token: a symbol, an atom by its name, or a number by its sign (true: negative) and digits. Or it is a string, of
 -- which nothing is kept, or the end of the text
 pub data Word : Type 0 where
-  Mark : Symbol → Word
+  Punctuation : Symbol → Word
   Name : List ℕ → Word
   Number : Bool → List ℕ → Word
   Text : Word
   End : Word
 
 abbrev pub word_of : Token → Word
-word_of (tokens.Symbol s) = Mark s
+word_of (tokens.Symbol s) = Punctuation s
 word_of (tokens.Atom name) = Name name.now
 word_of (tokens.Number negative digits) = Number negative digits.now
 word_of tokens.Text = Text
@@ -23,7 +23,7 @@ word_of tokens.End = End
 
 abbrev pub is_end : Word → Bool
 is_end End = true
-is_end (Mark s) = false
+is_end (Punctuation s) = false
 is_end (Name name) = false
 is_end (Number negative digits) = false
 is_end Text = false

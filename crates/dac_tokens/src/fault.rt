@@ -6,7 +6,7 @@ ghost use Rattle.dac_tokens.specs.declared.fault.FaultKind.TheVariants.{NoMemory
 use std::alloc::{AllocError, AllocFailed};
 use thiserror::Error;
 
-/// What is wrong at a place of the text. The number of each kind is its place in this list, from 1, and
+/// What is wrong at an offset of the text. The number of each kind is its place in this list, from 1, and
 /// its name and number are part of the program's output.
 #[derive(Clone, Copy, Debug, PartialEq, Eq, Error)]
 pub enum FaultKind {

@@ -2,12 +2,12 @@
 
 ghost use Rattle.std.specs.Prelude.{◌≡◌, ◌+◌, ◌^◌, ◌<◌, ◌≤◌, false, length};
 ghost use Rattle.dac_tokens.specs.Gives.{Reads};
-ghost use Rattle.dac_tokens.specs.Scan.{after_gap, class_of, goes_on, run, ends_stop, breaks_number, atom_at, number_at, negative_at, quoted_at, string_at, word_at};
+ghost use Rattle.dac_tokens.specs.Scan.{after_gap, class_of, goes_on, stretch, ends_stop, breaks_number, atom_at, number_at, negative_at, quoted_at, string_at, word_at};
 ghost use Rattle.dac_tokens.specs.declared.fault.FaultKind.TheVariants.{BadToken, Unsupported};
 ghost use Rattle.dac_tokens.specs.Words.{word_of};
 
 use crate::fault::{ConfigFault, FaultKind};
-use crate::token::{Class, Run, Symbol, Token};
+use crate::token::{Class, Stretch, Symbol, Token};
 
 pub fn unsupported(at: usize) -> ConfigFault
     ensures { result ≡ record { kind = Unsupported; at = at } }
@@ -68,20 +68,20 @@ fn class_of(b: u8) -> Class
     }
 }
 
-/// Whether the byte may stand in such a run.
-fn goes_on(run: Run, b: u8) -> bool
-    ensures { result ≡ goes_on run b }
+/// Whether the byte may stand in such a stretch.
+fn goes_on(stretch: Stretch, b: u8) -> bool
+    ensures { result ≡ goes_on stretch b }
 {
-    match run {
-        Run::Digits => b.is_ascii_digit(),
-        Run::Name => b.is_ascii_alphanumeric() || b == b'_' || b == b'@',
-        Run::Quoted => !matches!(b, ..b' ' | 0x7f | b'\'' | b'\\'),
+    match stretch {
+        Stretch::Digits => b.is_ascii_digit(),
+        Stretch::Name => b.is_ascii_alphanumeric() || b == b'_' || b == b'@',
+        Stretch::Quoted => !matches!(b, ..b' ' | 0x7f | b'\'' | b'\\'),
     }
 }
 
-/// How many bytes at the front are such a run.
-fn run_len(kind: Run, bytes: &[u8]) -> usize
-    ensures length { result ≡ run (goes_on kind) bytes.now }
+/// How many bytes at the front are such a stretch.
+fn run_len(kind: Stretch, bytes: &[u8]) -> usize
+    ensures length { result ≡ stretch (goes_on kind) bytes.now }
     ensures within { result ≤ length bytes.now }
 {
     bytes.iter().take_while(|b| goes_on(kind, **b)).count()
@@ -111,7 +111,7 @@ fn breaks_number(bytes: &[u8]) -> bool
 fn atom_at(at: usize, bytes: &[u8]) -> Result<(Token<'_>, &[u8]), ConfigFault>
     ensures { Reads (λ x. (word_of x.0, x.1.now)) result (atom_at at bytes.now) }
 {
-    let (name, rest) = bytes.split_at(run_len(Run::Name, bytes));
+    let (name, rest) = bytes.split_at(run_len(Stretch::Name, bytes));
     if name == b"fun".as_slice() {
         return Err(unsupported(at));
     }
@@ -123,7 +123,7 @@ fn quoted_at(at: usize, bytes: &[u8]) -> Result<(Token<'_>, &[u8]), ConfigFault>
     requires { at + 1 + length bytes.now < 2 ^ 64 }
     ensures { Reads (λ x. (word_of x.0, x.1.now)) result (quoted_at at bytes.now) }
 {
-    let (name, rest) = bytes.split_at(run_len(Run::Quoted, bytes));
+    let (name, rest) = bytes.split_at(run_len(Stretch::Quoted, bytes));
     match rest.split_first() {
         Some((b'\'', rest)) => Ok((Token::Atom(name), rest)),
         Some(_) => Err(unsupported(at + 1 + name.len())),
@@ -134,7 +134,7 @@ fn quoted_at(at: usize, bytes: &[u8]) -> Result<(Token<'_>, &[u8]), ConfigFault>
 fn number_at(at: usize, negative: bool, bytes: &[u8]) -> Result<(Token<'_>, &[u8]), ConfigFault>
     ensures { Reads (λ x. (word_of x.0, x.1.now)) result (number_at at negative bytes.now) }
 {
-    let (digits, rest) = bytes.split_at(run_len(Run::Digits, bytes));
+    let (digits, rest) = bytes.split_at(run_len(Stretch::Digits, bytes));
     if breaks_number(rest) {
         return Err(unsupported(at));
     }
@@ -145,7 +145,7 @@ fn number_at(at: usize, negative: bool, bytes: &[u8]) -> Result<(Token<'_>, &[u8
 fn negative_at(at: usize, bytes: &[u8]) -> Result<(Token<'_>, &[u8]), ConfigFault>
     ensures { Reads (λ x. (word_of x.0, x.1.now)) result (negative_at at bytes.now) }
 {
-    if run_len(Run::Digits, bytes) == 0 {
+    if run_len(Stretch::Digits, bytes) == 0 {
         return Err(bad_token(at));
     }
     number_at(at, true, bytes)

@@ -66,7 +66,7 @@ pub enum Class {
 
 /// Bytes in a row of which a token is made.
 #[derive(Clone, Copy)]
-pub enum Run {
+pub enum Stretch {
     /// The digits of a number.
     Digits,
     /// A bare atom.

@@ -83,7 +83,7 @@ impl<'a> Tokens<'a> {
     /// - `<`, `#`, `$`, `+`, `~`, `|`, a byte from 80 hexadecimal on, and the word `fun`;
     /// - a number with a fraction, a base or underscores, three double quotes in a row, and a 65th open bracket;
     /// - a backslash or control character (below a space, or 7F hexadecimal) in a quoted atom, and a backslash before `^`
-    ///   in a string. These are at their own place, and come before a missing quote.
+    ///   in a string. These are at their own offset, and come before a missing quote.
     ///
     /// `BadToken` is anything else, as a dot that ends no term, or an atom or string whose quote is never closed. Then
     /// nothing is taken: the next call answers the same.

@@ -40,7 +40,7 @@ pub converged : (t : Table) (js : List JournalValue) (es : List WorldEvent) → 
 converged t js es each gives = record {
   converges = each t es;
   ends = λ i j at.
-      let n = j.opening.node in
+      let n = j.beginning.node in
       let seen = gives.each i j at in
       subst (λ d. IsHistory t n (off_after 0) (map entry_of j.records) d) (sym (node-after t n (start t) es refl ∙ ap (replayed t n (off_after 0)) seen))
       (history-of t n (off_after 0) j.records (subst (AreAnswered t n (off_after 0)) seen (history-after t n (start t) es refl)));

@@ -12,7 +12,7 @@ use Rattle.std.proofs.lemmas.Option.{slice_get-map}
 use Rattle.std.specs.Option.{option_map}
 use Rattle.dac_journal.specs.ModelWorld.{counted}
 use Rattle.dac_weave.specs.Labels.{lent}
-use Rattle.dac_weave.specs.Filing.{numbers_of, bucket_of, IsIn, Files, IsKept, Finds}
+use Rattle.dac_weave.specs.Filing.{numbers_of, bucket_of, IsFiledIn, Files, IsKept, Finds}
 
 -- what holds anyway holds of an error
 pub on_err : {A E P : Type 0} (r : Result A E) → P → OnErr r P
@@ -70,13 +70,13 @@ module _ (lists : List (Vec ℕ)) (p number : ℕ) (u v : Vec ℕ) (there : slic
   after-apart : (q : ℕ) → place q ≢ p → bucket_of after q ≡ bucket_of lists q
   after-apart q ne = after-is q ∙ ap numbers_of (set-apart lists p (place q) v ne)
 
-  kept : (q k : ℕ) → IsIn lists q k → IsIn after q k
+  kept : (q k : ℕ) → IsFiledIn lists q k → IsFiledIn after q k
   kept q k h = elim (cases_eq (place q) p) [
     | inl e ↦ (h.0, subst (λ xs. slice_get xs h.0 ≡ Some k) (sym (after-here q e)) (at-left u.items (number ∷ []) h.0 k (subst (λ xs. slice_get xs h.0 ≡ Some k) (before-here q e) h.1)))
     | inr ne ↦ (h.0, subst (λ xs. slice_get xs h.0 ≡ Some k) (sym (after-apart q ne)) h.1)
   ]
 
-  only : (q k : ℕ) → IsIn after q k → IsIn lists q k ⊎ (k ≡ number)
+  only : (q k : ℕ) → IsFiledIn after q k → IsFiledIn lists q k ⊎ (k ≡ number)
   only q k h = elim (cases_eq (place q) p) [
     | inl e ↦ elim (push-cases u.items number h.0 k (subst (λ xs. slice_get xs h.0 ≡ Some k) (after-here q e) h.1)) [
       | inl at ↦ inl (h.0, subst (λ xs. slice_get xs h.0 ≡ Some k) (sym (before-here q e)) at)
@@ -120,7 +120,7 @@ empty-push lists more v h none is i u at = elim (push-cases lists v i u (subst (
   | inr new ↦ subst (λ (w : Vec ℕ). w.items ≡ []) new.1 none
 ]
 
-pub none-in : (lists : List (Vec ℕ)) → AllEmpty lists → (label k : ℕ) → IsIn lists label k → ⊥
+pub none-in : (lists : List (Vec ℕ)) → AllEmpty lists → (label k : ℕ) → IsFiledIn lists label k → ⊥
 none-in lists h label k is = elim (slice_get lists (label % length lists)) as (λ o. slice_get lists (label % length lists) ≡ o → slice_get (numbers_of o) is.0 ≡ Some k → ⊥) [
   | None ↦ λ e at. cc
   | Some v ↦ λ e at. nothing (subst (λ xs. slice_get xs is.0 ≡ Some k) (h (label % length lists) v e) at)
@@ -131,7 +131,7 @@ none-in lists h label k is = elim (slice_get lists (label % length lists)) as (�
 
 -- ---- what is found
 module _ {X : Type 0} (label_of : X → ℕ) where
-  pub finds-new : (lists : List (Vec ℕ)) → ((label k : ℕ) → IsIn lists label k → ⊥) → Finds label_of [] lists
+  pub finds-new : (lists : List (Vec ℕ)) → ((label k : ℕ) → IsFiledIn lists label k → ⊥) → Finds label_of [] lists
   finds-new lists none = record { within = λ q k h. absurd (none q k h); found = λ i x h. cc }
 
   -- where no place of its bucket has it, no place has
@@ -146,11 +146,11 @@ module _ {X : Type 0} (label_of : X → ℕ) where
     within = λ q i h. let w = finds.within q i h in (w.0, at-left xs (x ∷ []) i w.0 w.1);
     found = λ i y at. elim (push-cases xs x i y at) [
       | inl old ↦ more y (finds.found i y old)
-      | inr new ↦ subst (λ z. (m : ℕ) × (IsIn lists (label_of z) m × (slice_get (xs ++ x ∷ []) m ≡ Some z))) new.1 (more x (finds.found k x there))
+      | inr new ↦ subst (λ z. (m : ℕ) × (IsFiledIn lists (label_of z) m × (slice_get (xs ++ x ∷ []) m ≡ Some z))) new.1 (more x (finds.found k x there))
     ];
   }
     where
-      more : (y : X) → ((m : ℕ) × (IsIn lists (label_of y) m × (slice_get xs m ≡ Some y))) → (m : ℕ) × (IsIn lists (label_of y) m × (slice_get (xs ++ x ∷ []) m ≡ Some y))
+      more : (y : X) → ((m : ℕ) × (IsFiledIn lists (label_of y) m × (slice_get xs m ≡ Some y))) → (m : ℕ) × (IsFiledIn lists (label_of y) m × (slice_get (xs ++ x ∷ []) m ≡ Some y))
       more y f = (f.0, (f.1.0, at-left xs (x ∷ []) f.0 y f.1.1))
 
   -- one more, filed under its label
@@ -162,7 +162,7 @@ module _ {X : Type 0} (label_of : X → ℕ) where
     ];
     found = λ i y at. elim (push-cases xs x i y at) [
       | inl old ↦ let f = finds.found i y old in (f.0, (filed.kept (label_of y) f.0 f.1.0, at-left xs (x ∷ []) f.0 y f.1.1))
-      | inr here ↦ subst (λ z. (m : ℕ) × (IsIn new (label_of z) m × (slice_get (xs ++ x ∷ []) m ≡ Some z))) here.1 (n, (filed.here, last n refl))
+      | inr here ↦ subst (λ z. (m : ℕ) × (IsFiledIn new (label_of z) m × (slice_get (xs ++ x ∷ []) m ≡ Some z))) here.1 (n, (filed.here, last n refl))
     ];
   }
     where
@@ -180,7 +180,7 @@ module _ {X : Type 0} (label_of : X → ℕ) where
   filed-there xs lists q i p bucket finds is at = finds.within q p (i, subst (λ ns. slice_get ns i ≡ Some p) is at)
 
   -- ---- where the items are lent
-  pub finds-empty : (items : List (Bor X)) (lists : List (Vec ℕ)) → items ≡ [] → ((label k : ℕ) → IsIn lists label k → ⊥) → Finds label_of (lent items) lists
+  pub finds-empty : (items : List (Bor X)) (lists : List (Vec ℕ)) → items ≡ [] → ((label k : ℕ) → IsFiledIn lists label k → ⊥) → Finds label_of (lent items) lists
   finds-empty items lists e none = subst (λ (bs : List (Bor X)). Finds label_of (lent bs) lists) (sym e) (finds-new lists none)
 
   pub filed-within : (items : List (Bor X)) (lists : List (Vec ℕ)) (q i p : ℕ) (bucket : List ℕ) → Finds label_of (lent items) lists → bucket ≡ bucket_of lists q → slice_get bucket i ≡ Some p → p < length items

@@ -19,7 +19,7 @@ module _ (js : List JournalValue) (among : ℕ → JournalValue → Type 0) wher
     pub there : At js k journal
     pub below : k < i
     pub is : among k journal
-    pub least : (m : ℕ) → m < i → (b : JournalValue) → At js m b → among m b → journal.opening.node.0 ≤ b.opening.node.0
+    pub least : (m : ℕ) → m < i → (b : JournalValue) → At js m b → among m b → journal.beginning.node.0 ≤ b.beginning.node.0
 
   abbrev pub SoFar : ℕ → Option ℕ → Type 0
   SoFar i least = MatchOption least ((m : ℕ) → m < i → (b : JournalValue) → At js m b → among m b → ⊥) (FirstBefore i)
@@ -31,23 +31,23 @@ module _ (js : List JournalValue) (among : ℕ → JournalValue → Type 0) wher
     there = h.there;
     below = later h.below;
     is = h.is;
-    least = below_more (λ m. (b : JournalValue) → At js m b → among m b → h.journal.opening.node.0 ≤ b.opening.node.0) i h.least (λ b at is. absurd (not b at is));
+    least = below_more (λ m. (b : JournalValue) → At js m b → among m b → h.journal.beginning.node.0 ≤ b.beginning.node.0) i h.least (λ b at is. absurd (not b at is));
   }
     where
       later : k < i → k < i + 1
       later lt = omega arith
 
-  taken_first : (i : ℕ) (j : JournalValue) → At js i j → among i j → ((m : ℕ) → m < i → (b : JournalValue) → At js m b → among m b → j.opening.node.0 ≤ b.opening.node.0) → FirstBefore (i + 1) i
+  taken_first : (i : ℕ) (j : JournalValue) → At js i j → among i j → ((m : ℕ) → m < i → (b : JournalValue) → At js m b → among m b → j.beginning.node.0 ≤ b.beginning.node.0) → FirstBefore (i + 1) i
   taken_first i j at is least = record {
     journal = j;
     there = at;
     below = omega arith;
     is = is;
-    least = below_more (λ m. (b : JournalValue) → At js m b → among m b → j.opening.node.0 ≤ b.opening.node.0) i least (λ b there _. same_name b (one_at js i j b at there));
+    least = below_more (λ m. (b : JournalValue) → At js m b → among m b → j.beginning.node.0 ≤ b.beginning.node.0) i least (λ b there _. same_name b (one_at js i j b at there));
   }
     where
-      same_name : (b : JournalValue) → j ≡ b → j.opening.node.0 ≤ b.opening.node.0
-      same_name b e = let n : j.opening.node.0 ≡ b.opening.node.0 = ap (λ (x : JournalValue). x.opening.node.0) e in omega arith
+      same_name : (b : JournalValue) → j ≡ b → j.beginning.node.0 ≤ b.beginning.node.0
+      same_name b e = let n : j.beginning.node.0 ≡ b.beginning.node.0 = ap (λ (x : JournalValue). x.beginning.node.0) e in omega arith
 
   pub found : (i : ℕ) (least : Option ℕ) (r : ℕ) (j : JournalValue) → At js i j → among i j → SoFar i least → MatchOption least (r ≡ i) (λ k. IsLesser js k i r) → SoFar (i + 1) (Some r)
   found i None r j at is h same = subst (FirstBefore (i + 1)) (sym same) (taken_first i j at is (λ m lt b there has. absurd (h m lt b there has)))
@@ -59,20 +59,20 @@ module _ (js : List JournalValue) (among : ℕ → JournalValue → Type 0) wher
       below : {a b c : ℕ} → a ≤ b → c < a → c ≤ b
       below p q = omega arith
 
-      kept : h.journal.opening.node.0 ≤ j.opening.node.0 → FirstBefore (i + 1) k
+      kept : h.journal.beginning.node.0 ≤ j.beginning.node.0 → FirstBefore (i + 1) k
       kept le = record {
         journal = h.journal;
         there = h.there;
         below = later h.below;
         is = h.is;
-        least = below_more (λ m. (b : JournalValue) → At js m b → among m b → h.journal.opening.node.0 ≤ b.opening.node.0) i h.least (λ b there _. same_name b (one_at js i j b at there) le);
+        least = below_more (λ m. (b : JournalValue) → At js m b → among m b → h.journal.beginning.node.0 ≤ b.beginning.node.0) i h.least (λ b there _. same_name b (one_at js i j b at there) le);
       }
         where
           later : k < i → k < i + 1
           later lt = omega arith
 
-          same_name : (b : JournalValue) → j ≡ b → h.journal.opening.node.0 ≤ j.opening.node.0 → h.journal.opening.node.0 ≤ b.opening.node.0
-          same_name b e le = let n : j.opening.node.0 ≡ b.opening.node.0 = ap (λ (x : JournalValue). x.opening.node.0) e in omega arith
+          same_name : (b : JournalValue) → j ≡ b → h.journal.beginning.node.0 ≤ j.beginning.node.0 → h.journal.beginning.node.0 ≤ b.beginning.node.0
+          same_name b e le = let n : j.beginning.node.0 ≡ b.beginning.node.0 = ap (λ (x : JournalValue). x.beginning.node.0) e in omega arith
 
   pub first_of : (i : ℕ) (least : Option ℕ) → length js ≤ i → SoFar i least → MatchOption least ((k : ℕ) (b : JournalValue) → At js k b → among k b → ⊥) (λ k. (j : JournalValue) × IsFirst js among k j)
   first_of i None long h = λ k b at is. h k (below k b at) b at is

@@ -20,14 +20,14 @@ use Rattle.dac_journal.specs.ModelWorld.{ModelWorld, start, event_of}
 use Rattle.dac_weave.specs.declared.strand.Strand.{Strand}
 use Rattle.dac_weave.specs.declared.loom.Loom.{Loom}
 use Rattle.dac_journal.specs.Journals.{JournalValue}
-use Rattle.dac_weave.specs.Woven.{Seen, seen_of, seen_in, as_seen, told, worldly, At, IsFrontOf, AllFit, Gives, GivesFronts, IsFirst, IsStuckAt, IsUnwoven}
+use Rattle.dac_weave.specs.Woven.{Seen, seen_of, seen_in, as_seen, journal_seen, worldly, At, IsFrontOf, AllFit, Gives, GivesFronts, IsFirst, IsStuckAt, IsUnwoven}
 use Rattle.dac_weave.specs.Replay.{node_step, replayed, AreAnswered}
 use Rattle.dac_journal.specs.EveryList.{run_from}
 use Rattle.dac_weave.specs.Names.{Begins, issued_in, shipped_in}
 use Rattle.dac_weave.specs.Placing.{IsStrand, HaveStrands, Weaves, CanBePlaced, IsStill, StillBetween, AllStill, Places, PlacesRecord, longer, IsLeft, IsLeftAt, AllWhole}
 use Rattle.dac_weave.specs.laws.Members.{not_true}
 use Rattle.dac_weave.specs.laws.Runs.{eq_self, node-after, count-after, seen-append, run-append, steps_node, grows, shipped_of, issued_of}
-use Rattle.dac_weave.proofs.Replays.{take-push, told-at, so_far}
+use Rattle.dac_weave.proofs.Replays.{take-push, journal_seen-at, so_far}
 use Rattle.dac_weave.specs.Recording.{IsRecorded}
 use Rattle.dac_weave.specs.laws.Recorded.{kept, recorded-gives}
 use Rattle.dac_weave.specs.laws.Complete.{Stands, furthest, same_number}
@@ -93,7 +93,7 @@ pub weaves-new : (t : Table) (js : List JournalValue) (l : Loom) → AllZip (Beg
 weaves-new t js l zip empty = record {
   count = AllZip-length (Begins t) js l.strands.items zip;
   strands = λ i j s at sat. let b = AllZip-at (Begins t) js l.strands.items i j s zip at sat in record { placed = zero_least s.placed s.good b.placed; longest = b.longest };
-  seen = λ i j s at sat. let b = AllZip-at (Begins t) js l.strands.items i j s zip at sat in ap (λ es. seen_in t es j.opening.node) empty.events ∙ ap (λ k. take k (told j)) (sym b.placed);
+  seen = λ i j s at sat. let b = AllZip-at (Begins t) js l.strands.items i j s zip at sat in ap (λ es. seen_in t es j.beginning.node) empty.events ∙ ap (λ k. take k (journal_seen j)) (sym b.placed);
   others = λ n none. ap (λ es. seen_in t es n) empty.events;
   operations = empty.operations ∙ ap (λ es. (run_from t (start t) es).operations) (sym empty.events);
   messages = empty.messages ∙ ap (λ es. (run_from t (start t) es).messages) (sym empty.events);
@@ -129,38 +129,38 @@ module _ (t : Table) (js : List JournalValue) (old : Loom) (i : ℕ) (what : Wha
   world = run_from t (start t) old.events.items
 
   abbrev event : WorldEvent
-  event = record { node = ready.journal.opening.node; what = what }
+  event = record { node = ready.journal.beginning.node; what = what }
 
   placed_event : event_of world.operations world.messages what ≡ Ok ready.next.event
   placed_event = ap (λ os. event_of os world.messages what) (sym w.operations) ∙ (ap (λ ms. event_of old.operations ms what) (sym w.messages) ∙ ready.named)
 
-  here_seen : seen_in t old.events.items ready.journal.opening.node ≡ take ready.strand.placed (told ready.journal)
+  here_seen : seen_in t old.events.items ready.journal.beginning.node ≡ take ready.strand.placed (journal_seen ready.journal)
   here_seen = w.seen i ready.journal ready.strand ready.at ready.strand_at
 
   placed_seen : seen_of t world event ≡ as_seen ready.next
   placed_seen =
       let j = ready.journal in
-      let steps = steps_node t j.opening.node world event (count-after t (start t) old.events.items refl) (eq_self j.opening.node.0) in
-      let history = history-at t j.opening.node (off_after 0) (told j) ready.strand.good ready.strand.placed (as_seen ready.next) (w.strands i j ready.strand ready.at ready.strand_at).longest.answered ready.left (told-at j ready.strand.placed ready.next ready.next_at) in
+      let steps = steps_node t j.beginning.node world event (count-after t (start t) old.events.items refl) (eq_self j.beginning.node.0) in
+      let history = history-at t j.beginning.node (off_after 0) (journal_seen j) ready.strand.good ready.strand.placed (as_seen ready.next) (w.strands i j ready.strand ready.at ready.strand_at).longest.answered ready.left (journal_seen-at j ready.strand.placed ready.next ready.next_at) in
       let answer : (seen_of t world event).answer ≡ worldly ready.next.answer =
       steps.answer
-      ∙ (ap (λ d. (node_step t j.opening.node d (seen_of t world event).event).answer) (node-after t j.opening.node (start t) old.events.items refl ∙ ap (replayed t j.opening.node (off_after 0)) here_seen)
-      ∙ (ap (λ e. (node_step t j.opening.node (so_far t j ready.strand.placed) e).answer) placed_event ∙ sym history)) in
+      ∙ (ap (λ d. (node_step t j.beginning.node d (seen_of t world event).event).answer) (node-after t j.beginning.node (start t) old.events.items refl ∙ ap (replayed t j.beginning.node (off_after 0)) here_seen)
+      ∙ (ap (λ e. (node_step t j.beginning.node (so_far t j ready.strand.placed) e).answer) placed_event ∙ sym history)) in
       λ k. record { event = placed_event k; answer = answer k }
 
-  more_seen : (n : NodeId) → seen_in t (old.events.items ++ event ∷ []) n ≡ seen_in t old.events.items n ++ cond (nat_eq ready.journal.opening.node.0 n.0) (as_seen ready.next ∷ []) []
-  more_seen n = seen-append t n (start t) old.events.items (event ∷ []) ∙ ap (λ (x : Seen). seen_in t old.events.items n ++ cond (nat_eq ready.journal.opening.node.0 n.0) (x ∷ []) []) placed_seen
+  more_seen : (n : NodeId) → seen_in t (old.events.items ++ event ∷ []) n ≡ seen_in t old.events.items n ++ cond (nat_eq ready.journal.beginning.node.0 n.0) (as_seen ready.next ∷ []) []
+  more_seen n = seen-append t n (start t) old.events.items (event ∷ []) ∙ ap (λ (x : Seen). seen_in t old.events.items n ++ cond (nat_eq ready.journal.beginning.node.0 n.0) (x ∷ []) []) placed_seen
 
-  more_here : seen_in t (old.events.items ++ event ∷ []) ready.journal.opening.node ≡ take (ready.strand.placed + 1) (told ready.journal)
+  more_here : seen_in t (old.events.items ++ event ∷ []) ready.journal.beginning.node ≡ take (ready.strand.placed + 1) (journal_seen ready.journal)
   more_here =
-      more_seen ready.journal.opening.node
-      ∙ (ap (λ b. seen_in t old.events.items ready.journal.opening.node ++ cond b (as_seen ready.next ∷ []) []) (eq_self ready.journal.opening.node.0)
-      ∙ (ap (λ xs. xs ++ as_seen ready.next ∷ []) here_seen ∙ sym (take-push (told ready.journal) ready.strand.placed (as_seen ready.next) (told-at ready.journal ready.strand.placed ready.next ready.next_at))))
+      more_seen ready.journal.beginning.node
+      ∙ (ap (λ b. seen_in t old.events.items ready.journal.beginning.node ++ cond b (as_seen ready.next ∷ []) []) (eq_self ready.journal.beginning.node.0)
+      ∙ (ap (λ xs. xs ++ as_seen ready.next ∷ []) here_seen ∙ sym (take-push (journal_seen ready.journal) ready.strand.placed (as_seen ready.next) (journal_seen-at ready.journal ready.strand.placed ready.next ready.next_at))))
 
-  more_else : (n : NodeId) → ready.journal.opening.node ≢ n → seen_in t (old.events.items ++ event ∷ []) n ≡ seen_in t old.events.items n
+  more_else : (n : NodeId) → ready.journal.beginning.node ≢ n → seen_in t (old.events.items ++ event ∷ []) n ≡ seen_in t old.events.items n
   more_else n apart =
       more_seen n
-      ∙ (ap (λ b. seen_in t old.events.items n ++ cond b (as_seen ready.next ∷ []) []) (not_true (nat_eq ready.journal.opening.node.0 n.0) (λ e. apart (same_number ready.journal.opening.node n e)))
+      ∙ (ap (λ b. seen_in t old.events.items n ++ cond b (as_seen ready.next ∷ []) []) (not_true (nat_eq ready.journal.beginning.node.0 n.0) (λ e. apart (same_number ready.journal.beginning.node n e)))
       ∙ append-nil (seen_in t old.events.items n))
 
   module _ (new : Loom) (placed : Places js old i what new) where
@@ -168,7 +168,7 @@ module _ (t : Table) (js : List JournalValue) (old : Loom) (i : ℕ) (what : Wha
     does = placed.each ready.journal ready.strand ready.next ready.at ready.strand_at ready.next_at
 
     -- another journal is another node's
-    apart : (k : ℕ) (b : JournalValue) → At js k b → k ≢ i → ready.journal.opening.node ≢ b.opening.node
+    apart : (k : ℕ) (b : JournalValue) → At js k b → k ≢ i → ready.journal.beginning.node ≢ b.beginning.node
     apart k b at ne same = fit k b at (inr (i, (ready.journal, (ready.at, ((λ e. ne (sym e)), same)))))
 
     strand_cases : (k : ℕ) (s : Strand) → At new.strands.items k s → ((k ≡ i) × (longer ready.strand ≡ s)) ⊎ ((k ≢ i) × At old.strands.items k s)
@@ -187,9 +187,9 @@ module _ (t : Table) (js : List JournalValue) (old : Loom) (i : ℕ) (what : Wha
         | inl own ↦ subst (λ (x : Strand). IsStrand t b x) own.1 (subst (λ (x : JournalValue). IsStrand t x (longer ready.strand)) (own_journal k b at own.0) (record { placed = up_to; longest = (w.strands i ready.journal ready.strand ready.at ready.strand_at).longest }))
         | inr other ↦ w.strands k b s at other.1
       ];
-      seen = λ k b s at sat. ap (λ es. seen_in t es b.opening.node) does.events ∙ elim (strand_cases k s sat) as (λ _. seen_in t (old.events.items ++ event ∷ []) b.opening.node ≡ take s.placed (told b)) [
-        | inl own ↦ subst (λ (x : Strand). seen_in t (old.events.items ++ event ∷ []) b.opening.node ≡ take x.placed (told b)) own.1 (subst (λ (x : JournalValue). seen_in t (old.events.items ++ event ∷ []) x.opening.node ≡ take (ready.strand.placed + 1) (told x)) (own_journal k b at own.0) more_here)
-        | inr other ↦ more_else b.opening.node (apart k b at other.0) ∙ w.seen k b s at other.1
+      seen = λ k b s at sat. ap (λ es. seen_in t es b.beginning.node) does.events ∙ elim (strand_cases k s sat) as (λ _. seen_in t (old.events.items ++ event ∷ []) b.beginning.node ≡ take s.placed (journal_seen b)) [
+        | inl own ↦ subst (λ (x : Strand). seen_in t (old.events.items ++ event ∷ []) b.beginning.node ≡ take x.placed (journal_seen b)) own.1 (subst (λ (x : JournalValue). seen_in t (old.events.items ++ event ∷ []) x.beginning.node ≡ take (ready.strand.placed + 1) (journal_seen x)) (own_journal k b at own.0) more_here)
+        | inr other ↦ more_else b.beginning.node (apart k b at other.0) ∙ w.seen k b s at other.1
       ];
       others = λ n none. ap (λ es. seen_in t es n) does.events ∙ (more_else n (none i ready.journal ready.at) ∙ w.others n none);
       operations = does.operations ∙ (ap (λ (os : List Operation). os ++ issued_in ready.next.answer) w.operations
@@ -266,24 +266,24 @@ at_front : (all : List Seen) (k : ℕ) (x : Seen) (rest : List Seen) → k ≤ l
 at_front all k x rest le e =
     ap (λ xs. slice_get xs k) e ∙ (ap (slice_get ((take k all ++ x ∷ []) ++ rest)) (sym (length-take-le k all le)) ∙ at_end (take k all) x rest)
 
-told-long : (t : Table) (j : JournalValue) (s : Strand) → IsStrand t j s → s.placed ≤ length (told j)
-told-long t j s k = let a = k.placed in let b = k.longest.within in rw length-map (omega arith)
+journal_seen-long : (t : Table) (j : JournalValue) (s : Strand) → IsStrand t j s → s.placed ≤ length (journal_seen j)
+journal_seen-long t j s k = let a = k.placed in let b = k.longest.within in rw length-map (omega arith)
 
 pub stands : (t : Table) (js : List JournalValue) (l : Loom) → Weaves t js l → AllStill js l → Stands t js l.events.items
 stands t js l w still i j at x front answer what named =
     let k = still i (slice_get_within js i j at) in
     let same : k.journal ≡ j = one_at js i k.journal j k.at at in
     let strand : IsStrand t j k.strand = w.strands i j k.strand at k.strand_at in
-    let seen : seen_in t l.events.items j.opening.node ≡ take k.strand.placed (told j) = w.seen i j k.strand at k.strand_at in
-    let there : At (told j) k.strand.placed x = at_front (told j) k.strand.placed x front.0 (told-long t j k.strand strand) (front.1 ∙ ap (λ xs. (xs ++ x ∷ []) ++ front.0) seen) in
+    let seen : seen_in t l.events.items j.beginning.node ≡ take k.strand.placed (journal_seen j) = w.seen i j k.strand at k.strand_at in
+    let there : At (journal_seen j) k.strand.placed x = at_front (journal_seen j) k.strand.placed x front.0 (journal_seen-long t j k.strand strand) (front.1 ∙ ap (λ xs. (xs ++ x ∷ []) ++ front.0) seen) in
     elim k.cause [
       | inl used ↦
           let whole : k.strand.placed ≡ k.strand.good = (let a = strand.placed in omega arith) in
-          strand.longest.ends x (subst (λ n. At (told j) n x) whole there)
-          (answer ∙ ap (λ d. (node_step t j.opening.node d x.event).answer) (node-after t j.opening.node (start t) l.events.items refl ∙ ap (replayed t j.opening.node (off_after 0)) (seen ∙ ap (λ n. take n (told j)) whole)))
+          strand.longest.ends x (subst (λ n. At (journal_seen j) n x) whole there)
+          (answer ∙ ap (λ d. (node_step t j.beginning.node d x.event).answer) (node-after t j.beginning.node (start t) l.events.items refl ∙ ap (replayed t j.beginning.node (off_after 0)) (seen ∙ ap (λ n. take n (journal_seen j)) whole)))
       | inr next ↦
           let r = next.0 in
-          let is : x ≡ as_seen r = same_seen x (as_seen r) (sym there ∙ told-at j k.strand.placed r (subst (λ (y : JournalValue). At y.records k.strand.placed r) same next.1.0)) in
+          let is : x ≡ as_seen r = same_seen x (as_seen r) (sym there ∙ journal_seen-at j k.strand.placed r (subst (λ (y : JournalValue). At y.records k.strand.placed r) same next.1.0)) in
           next.1.1 what (ap (λ os. event_of os l.messages what) w.operations ∙ (ap (λ ms. event_of (run_from t (start t) l.events.items).operations ms what) w.messages ∙ (named ∙ ap (λ (y : Seen). y.event) is)))
     ]
   where
@@ -291,8 +291,8 @@ stands t js l w still i j at x front answer what named =
     same_seen a b e = cc
 
 -- ---- the end
-take-whole : (j : JournalValue) (k : ℕ) → length j.records ≤ k → take k (told j) ≡ told j
-take-whole j k h = take_all k (told j) (rw length-map h)
+take-whole : (j : JournalValue) (k : ℕ) → length j.records ≤ k → take k (journal_seen j) ≡ journal_seen j
+take-whole j k h = take_all k (journal_seen j) (rw length-map h)
 
 not_below : (a b : ℕ) → (a < b → ⊥) → b ≤ a
 not_below a b h = omega arith
@@ -309,7 +309,7 @@ strand_there (k ∷ js) (r ∷ ss) (suc i) j e at = strand_there js ss i j (less
 
 module _ (t : Table) (js : List JournalValue) (l : Loom) (w : Weaves t js l) (fit : AllFit js) where
   -- a journal of which nothing is left is given whole
-  given_whole : (i : ℕ) (j : JournalValue) → At js i j → (IsLeft l.strands.items i j → ⊥) → seen_in t l.events.items j.opening.node ≡ told j
+  given_whole : (i : ℕ) (j : JournalValue) → At js i j → (IsLeft l.strands.items i j → ⊥) → seen_in t l.events.items j.beginning.node ≡ journal_seen j
   given_whole i j at not =
       let s = strand_there js l.strands.items i j w.count at in
       w.seen i j s.0 at s.1 ∙ take-whole j s.0.placed (not_below s.0.placed (length j.records) (λ lt. not (s.0, (s.1, lt))))
@@ -321,7 +321,7 @@ module _ (t : Table) (js : List JournalValue) (l : Loom) (w : Weaves t js l) (fi
   gives_fronts = record {
     each = λ i j at.
         let s = strand_there js l.strands.items i j w.count at in
-        (drop s.0.placed (told j), sym (take-append-drop s.0.placed (told j)) ∙ ap (λ xs. xs ++ drop s.0.placed (told j)) (sym (w.seen i j s.0 at s.1)));
+        (drop s.0.placed (journal_seen j), sym (take-append-drop s.0.placed (journal_seen j)) ∙ ap (λ xs. xs ++ drop s.0.placed (journal_seen j)) (sym (w.seen i j s.0 at s.1)));
     others = w.others;
   }
 
@@ -334,13 +334,13 @@ module _ (t : Table) (js : List JournalValue) (l : Loom) (w : Weaves t js l) (fi
       let left = first.is in
       let own : left.0 ≡ s = same_strand left.0 s (sym left.1.0 ∙ sat) in
       let strand = w.strands i j s at sat in
-      let placed : length (seen_in t l.events.items j.opening.node) ≡ s.placed =
-      ap (λ (xs : List Seen). length xs) (w.seen i j s at sat) ∙ length-take-le s.placed (told j) (told-long t j s strand) in
+      let placed : length (seen_in t l.events.items j.beginning.node) ≡ s.placed =
+      ap (λ (xs : List Seen). length xs) (w.seen i j s at sat) ∙ length-take-le s.placed (journal_seen j) (journal_seen-long t j s strand) in
       record {
         there = at;
         within = next (subst (λ (x : Strand). x.placed < length j.records) own left.1.1);
         reached = (l.events.items, (gives_fronts, (ap (λ n. n + 1) placed, λ k b there lt. given_whole k b there (λ more. before (first.least k b there more) lt))));
-        never = λ es fronts. below (front_length _ _ (furthest t js l.events.items gives_fronts (stands t js l w still) es fronts j.opening.node)) placed;
+        never = λ es fronts. below (front_length _ _ (furthest t js l.events.items gives_fronts (stands t js l w still) es fronts j.beginning.node)) placed;
       }
     where
       next : {a b : ℕ} → a < b → a + 1 ≤ b
@@ -356,7 +356,7 @@ module _ (t : Table) (js : List JournalValue) (l : Loom) (w : Weaves t js l) (fi
 -- of journals that a fault names no run gives all
 pub gives_fronts-of : (t : Table) (js : List JournalValue) (es : List WorldEvent) → Gives t js es → GivesFronts t js es
 gives_fronts-of t js es g = record {
-  each = λ i j at. ([], sym (g.each i j at) ∙ sym (append-nil (seen_in t es j.opening.node)));
+  each = λ i j at. ([], sym (g.each i j at) ∙ sym (append-nil (seen_in t es j.beginning.node)));
   others = g.others;
 }
 

@@ -20,7 +20,7 @@ use Rattle.dac_journal.specs.Histories.{off_after}
 use Rattle.dac_journal.specs.NodeValue.{off}
 use Rattle.dac_journal.specs.declared.record.Record.{Record}
 use Rattle.dac_journal.specs.Journals.{JournalValue}
-use Rattle.dac_weave.specs.Woven.{Seen, as_seen, told, worldly, At}
+use Rattle.dac_weave.specs.Woven.{Seen, as_seen, journal_seen, worldly, At}
 use Rattle.dac_weave.specs.Replay.{NodeStepped, moved, node_step, node_step_by, replayed, AreAnswered, IsLongest, Repeats}
 use Rattle.dac_weave.specs.laws.Runs.{replayed-append, AreAnswered-push}
 
@@ -28,8 +28,8 @@ use Rattle.dac_weave.specs.laws.Runs.{replayed-append, AreAnswered-push}
 pub take-push : {X : Type 0} (xs : List X) (i : ℕ) (x : X) → slice_get xs i ≡ Some x → take (i + 1) xs ≡ take i xs ++ x ∷ []
 take-push xs i x h = take_more xs i x (slice_get_within xs i x h) ∙ ap (λ z. take i xs ++ z ∷ []) (get_or_from_slice_get xs i x x h)
 
-pub told-at : (j : JournalValue) (i : ℕ) (r : Record) → At j.records i r → At (told j) i (as_seen r)
-told-at j i r h = slice_get-map as_seen j.records i ∙ ap (option_map as_seen) h
+pub journal_seen-at : (j : JournalValue) (i : ℕ) (r : Record) → At j.records i r → At (journal_seen j) i (as_seen r)
+journal_seen-at j i r h = slice_get-map as_seen j.records i ∙ ap (option_map as_seen) h
 
 -- ---- one step
 pub worldly-same : (a b : Result Reply Refusal) → worldly a ≡ worldly b → a ≡ b
@@ -61,39 +61,39 @@ module _ (t : Table) (n : NodeId) (inside : nat_lt n.0 (node_count t) ≡ true) 
 
 -- ---- as far as the replay has come
 abbrev pub so_far : Table → JournalValue → ℕ → ModelNode
-so_far t j i = replayed t j.opening.node (off_after 0) (take i (told j))
+so_far t j i = replayed t j.beginning.node (off_after 0) (take i (journal_seen j))
 
 pub record Replaying (t : Table) (j : JournalValue) (i : ℕ) (node : NodeValue) : Type 0 where
-  pub inside : nat_lt j.opening.node.0 (node_count t) ≡ true
-  pub answered : AreAnswered t j.opening.node (off_after 0) (take i (told j))
+  pub inside : nat_lt j.beginning.node.0 (node_count t) ≡ true
+  pub answered : AreAnswered t j.beginning.node (off_after 0) (take i (journal_seen j))
   pub shows : shown t (so_far t j i) ≡ node
 
-pub replay_turn : (t : Table) (j : JournalValue) (i : ℕ) (old new : NodeValue) (r : Record) → Replaying t j i old → At j.records i r → Repeats t j.opening.node old r new true → Replaying t j (i + 1) new
+pub replay_turn : (t : Table) (j : JournalValue) (i : ℕ) (old new : NodeValue) (r : Record) → Replaying t j i old → At j.records i r → Repeats t j.beginning.node old r new true → Replaying t j (i + 1) new
 replay_turn t j i old new r p at rep =
-    let more = take-push (told j) i (as_seen r) (told-at j i r at) in
+    let more = take-push (journal_seen j) i (as_seen r) (journal_seen-at j i r at) in
     let step = rep.by (so_far t j i) p.shows in
     record {
       inside = p.inside;
-      answered = subst (AreAnswered t j.opening.node (off_after 0)) (sym more)
-          (AreAnswered-push t j.opening.node (off_after 0) (take i (told j)) (as_seen r) p.answered (sym (node_step-answer t j.opening.node p.inside (so_far t j i) r.event ∙ ap worldly (step.1.0 refl))));
-      shows = ap (λ xs. shown t (replayed t j.opening.node (off_after 0) xs)) more
-          ∙ (ap (shown t) (replayed-append t j.opening.node (off_after 0) (take i (told j)) (as_seen r ∷ []))
-          ∙ (ap (shown t) (node_step-node t j.opening.node p.inside (so_far t j i) r.event) ∙ step.0));
+      answered = subst (AreAnswered t j.beginning.node (off_after 0)) (sym more)
+          (AreAnswered-push t j.beginning.node (off_after 0) (take i (journal_seen j)) (as_seen r) p.answered (sym (node_step-answer t j.beginning.node p.inside (so_far t j i) r.event ∙ ap worldly (step.1.0 refl))));
+      shows = ap (λ xs. shown t (replayed t j.beginning.node (off_after 0) xs)) more
+          ∙ (ap (shown t) (replayed-append t j.beginning.node (off_after 0) (take i (journal_seen j)) (as_seen r ∷ []))
+          ∙ (ap (shown t) (node_step-node t j.beginning.node p.inside (so_far t j i) r.event) ∙ step.0));
     }
 
 same_seen : (x y : Seen) → Some x ≡ Some y → x ≡ y
 same_seen x y e = cc
 
-pub replay_stop : (t : Table) (j : JournalValue) (i : ℕ) (old new : NodeValue) (r : Record) → Replaying t j i old → At j.records i r → Repeats t j.opening.node old r new false → IsLongest t j i
+pub replay_stop : (t : Table) (j : JournalValue) (i : ℕ) (old new : NodeValue) (r : Record) → Replaying t j i old → At j.records i r → Repeats t j.beginning.node old r new false → IsLongest t j i
 replay_stop t j i old new r p at rep = record {
   within = before (slice_get_within j.records i r at);
   answered = p.answered;
   ends = λ x there is.
-      let e : x ≡ as_seen r = same_seen x (as_seen r) (sym there ∙ told-at j i r at) in
+      let e : x ≡ as_seen r = same_seen x (as_seen r) (sym there ∙ journal_seen-at j i r at) in
       let step = rep.by (so_far t j i) p.shows in
-      let answer : worldly r.answer ≡ worldly (model_step t j.opening.node (so_far t j i) r.event).answer =
-      subst (λ (y : Seen). y.answer ≡ (node_step t j.opening.node (so_far t j i) y.event).answer) e is ∙ node_step-answer t j.opening.node p.inside (so_far t j i) r.event in
-      true≢false (sym (step.1.1 (sym (worldly-same r.answer (model_step t j.opening.node (so_far t j i) r.event).answer answer))));
+      let answer : worldly r.answer ≡ worldly (model_step t j.beginning.node (so_far t j i) r.event).answer =
+      subst (λ (y : Seen). y.answer ≡ (node_step t j.beginning.node (so_far t j i) y.event).answer) e is ∙ node_step-answer t j.beginning.node p.inside (so_far t j i) r.event in
+      true≢false (sym (step.1.1 (sym (worldly-same r.answer (model_step t j.beginning.node (so_far t j i) r.event).answer answer))));
 }
   where
     before : i < length j.records → i ≤ length j.records
@@ -103,19 +103,19 @@ pub replay_end : (t : Table) (j : JournalValue) (i : ℕ) (node : NodeValue) →
 replay_end t j i node e p = record {
   within = all;
   answered = p.answered;
-  ends = λ x there is. past x (sym there ∙ slice_get_past (told j) i long);
+  ends = λ x there is. past x (sym there ∙ slice_get_past (journal_seen j) i long);
 }
   where
     all : i ≤ length j.records
     all = omega arith
 
-    long : length (told j) ≤ i
+    long : length (journal_seen j) ≤ i
     long = rw length-map (omega arith)
 
     past : (x : Seen) → Some x ≡ None → ⊥
     past x e = cc
 
--- what is told is of a record
+-- what a journal's node saw is of a record
 recorded : (rs : List Record) (i : ℕ) (x : Seen) → slice_get (map as_seen rs) i ≡ Some x → (r : Record) × (x ≡ as_seen r)
 recorded [] i x h = cc
 recorded (r ∷ rs) zero x h = (r, cc)
@@ -126,24 +126,24 @@ worldly-there (Ok x) e = cc
 worldly-there (Err x) e = cc
 
 -- no record of a node that isn't there
-pub replay_nowhere : (t : Table) (j : JournalValue) → nat_lt j.opening.node.0 (node_count t) ≡ false → IsLongest t j 0
+pub replay_nowhere : (t : Table) (j : JournalValue) → nat_lt j.beginning.node.0 (node_count t) ≡ false → IsLongest t j 0
 replay_nowhere t j outside = record {
   within = omega arith;
   answered = tt;
   ends = λ x there is.
       let r = recorded j.records 0 x there in
-      worldly-there r.0.answer (sym (ap (λ (y : Seen). y.answer) r.1) ∙ (is ∙ ap (λ b. (cond b (node_step_by t j.opening.node (off_after 0) x.event) (record { node = off_after 0; answer = Err NoSuchNode })).answer) outside));
+      worldly-there r.0.answer (sym (ap (λ (y : Seen). y.answer) r.1) ∙ (is ∙ ap (λ b. (cond b (node_step_by t j.beginning.node (off_after 0) x.event) (record { node = off_after 0; answer = Err NoSuchNode })).answer) outside));
 }
 
 pub outside : (n c : ℕ) → c ≤ n → nat_lt n c ≡ false
 outside n c h = grind (arith, nat_tests)
 
 -- ---- as the code reads them
-module _ (t : Table) (j : JournalValue) (i : ℕ) (old new : NodeValue) (rs : List Record) (r : Record) (read : r ≡ get_or rs i r) (n : NodeId) (n_is : n ≡ j.opening.node) (rs_is : rs ≡ j.records) (same : Bool) where
+module _ (t : Table) (j : JournalValue) (i : ℕ) (old new : NodeValue) (rs : List Record) (r : Record) (read : r ≡ get_or rs i r) (n : NodeId) (n_is : n ≡ j.beginning.node) (rs_is : rs ≡ j.records) (same : Bool) where
   read_at : i < length rs → At j.records i r
   read_at lt = subst (λ xs. slice_get xs i ≡ Some r) rs_is (slice_get_read rs (length rs) i r refl lt read)
 
-  own_node : Repeats t n old r new same → (b : Bool) → same ≡ b → Repeats t j.opening.node old r new b
+  own_node : Repeats t n old r new same → (b : Bool) → same ≡ b → Repeats t j.beginning.node old r new b
   own_node rep b e = subst (λ (m : NodeId). Repeats t m old r new b) n_is (subst (λ (s : Bool). Repeats t n old r new s) e rep)
 
   pub read_turn : i < length rs → same ≡ true → Replaying t j i old → Repeats t n old r new same → Replaying t j (i + 1) new
@@ -158,7 +158,7 @@ repeated t me old new r test a steps tests = record {
   by = λ d shows. let s = steps.by d shows in (s.0, (λ h. s.1 ∙ sym (tests.0 h), λ h. tests.1 (sym h ∙ s.1)));
 }
 
-pub replay_start : (t : Table) (j : JournalValue) (n : NodeId) (node : NodeValue) → n ≡ j.opening.node → n.0 < node_count t → node ≡ off 0 → Replaying t j 0 node
+pub replay_start : (t : Table) (j : JournalValue) (n : NodeId) (node : NodeValue) → n ≡ j.beginning.node → n.0 < node_count t → node ≡ off 0 → Replaying t j 0 node
 replay_start t j n node is lt e = record {
   inside = subst (λ (m : NodeId). nat_lt m.0 (node_count t) ≡ true) is (lt-ltb n.0 (node_count t) lt);
   answered = tt;

@@ -14,4 +14,4 @@ use Rattle.dac_weave.specs.Woven.{At}
 pub record IsConverged (t : Table) (js : List JournalValue) (es : List WorldEvent) : Type 0 where
   pub converges : Converges t es (answers_of t (start t) es) (shown_world t (model_run t es))
   pub ends : (i : ℕ) (j : JournalValue) → At js i j
-      → IsHistory t j.opening.node (off_after 0) (map entry_of j.records) ((model_run t es).node j.opening.node)
+      → IsHistory t j.beginning.node (off_after 0) (map entry_of j.records) ((model_run t es).node j.beginning.node)

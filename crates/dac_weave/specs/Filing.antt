@@ -12,8 +12,8 @@ abbrev pub bucket_of : List (Vec ℕ) → ℕ → List ℕ
 bucket_of lists label = numbers_of (slice_get lists (label % length lists))
 
 -- k is one of them
-abbrev pub IsIn : List (Vec ℕ) → ℕ → ℕ → Type 0
-IsIn lists label k = (i : ℕ) × (slice_get (bucket_of lists label) i ≡ Some k)
+abbrev pub IsFiledIn : List (Vec ℕ) → ℕ → ℕ → Type 0
+IsFiledIn lists label k = (i : ℕ) × (slice_get (bucket_of lists label) i ≡ Some k)
 
 -- each bucket has the same numbers
 abbrev pub IsKept : List (Vec ℕ) → List (Vec ℕ) → Type 0
@@ -21,12 +21,12 @@ IsKept old new = (label : ℕ) → bucket_of new label ≡ bucket_of old label
 
 -- one more number is filed under this label
 pub record Files (old : List (Vec ℕ)) (label : ℕ) (number : ℕ) (new : List (Vec ℕ)) : Type 0 where
-  pub here : IsIn new label number
-  pub kept : (q k : ℕ) → IsIn old q k → IsIn new q k
-  pub only : (q k : ℕ) → IsIn new q k → IsIn old q k ⊎ (k ≡ number)
+  pub here : IsFiledIn new label number
+  pub kept : (q k : ℕ) → IsFiledIn old q k → IsFiledIn new q k
+  pub only : (q k : ℕ) → IsFiledIn new q k → IsFiledIn old q k ⊎ (k ≡ number)
 
 -- Of these items each place filed under a label is one, and each item has an equal one filed under its label.
 pub record Finds {X : Type 0} (label_of : X → ℕ) (xs : List X) (lists : List (Vec ℕ)) : Type 0 where
-  pub within : (q k : ℕ) → IsIn lists q k → (x : X) × (slice_get xs k ≡ Some x)
+  pub within : (q k : ℕ) → IsFiledIn lists q k → (x : X) × (slice_get xs k ≡ Some x)
   pub found : (i : ℕ) (x : X) → slice_get xs i ≡ Some x
-      → (k : ℕ) × (IsIn lists (label_of x) k × (slice_get xs k ≡ Some x))
+      → (k : ℕ) × (IsFiledIn lists (label_of x) k × (slice_get xs k ≡ Some x))

@@ -39,4 +39,4 @@ shipped_in (Err why) = []
 -- r is the lesser by name of k and i, and k where they are equal
 pub record IsLesser (js : List JournalValue) (k i r : ℕ) : Type 0 where
   pub cases : (a b : JournalValue) → At js k a → At js i b
-      → ((r ≡ k) × (a.opening.node.0 ≤ b.opening.node.0)) ⊎ ((r ≡ i) × (b.opening.node.0 < a.opening.node.0))
+      → ((r ≡ k) × (a.beginning.node.0 ≤ b.beginning.node.0)) ⊎ ((r ≡ i) × (b.beginning.node.0 < a.beginning.node.0))

@@ -8,7 +8,7 @@ use Rattle.dac_journal.specs.declared.record.Record.{Record}
 use Rattle.dac_weave.specs.declared.strand.Strand.{Strand}
 use Rattle.dac_weave.specs.declared.loom.Loom.{Loom}
 use Rattle.dac_journal.specs.Journals.{JournalValue}
-use Rattle.dac_weave.specs.Woven.{told, At, HasNone, IsFirst, seen_in}
+use Rattle.dac_weave.specs.Woven.{journal_seen, At, HasNone, IsFirst, seen_in}
 use Rattle.dac_journal.specs.EveryList.{run_from}
 use Rattle.dac_weave.specs.Replay.{IsLongest}
 use Rattle.dac_weave.specs.Names.{IsUnnamed, issued_in, shipped_in}
@@ -28,7 +28,7 @@ pub record Weaves (t : Table) (js : List JournalValue) (l : Loom) : Type 0 where
   pub count : length l.strands.items ≡ length js
   pub strands : (i : ℕ) (j : JournalValue) (s : Strand) → At js i j → At l.strands.items i s → IsStrand t j s
   pub seen : (i : ℕ) (j : JournalValue) (s : Strand) → At js i j → At l.strands.items i s
-      → seen_in t l.events.items j.opening.node ≡ take s.placed (told j)
+      → seen_in t l.events.items j.beginning.node ≡ take s.placed (journal_seen j)
   pub others : (n : NodeId) → HasNone js n → seen_in t l.events.items n ≡ []
   pub operations : l.operations ≡ (run_from t (start t) l.events.items).operations
   pub messages : l.messages ≡ (run_from t (start t) l.events.items).messages
@@ -68,7 +68,7 @@ longer s = record { placed = s.placed + 1; good = s.good }
 pub record PlacesRecord (old : Loom) (i : ℕ) (what : What) (new : Loom) (j : JournalValue) (s : Strand)
     (r : Record) : Type 0 where
   pub strands : new.strands.items ≡ set old.strands.items i (longer s)
-  pub events : new.events.items ≡ old.events.items ++ (record { node = j.opening.node; what = what }) ∷ []
+  pub events : new.events.items ≡ old.events.items ++ (record { node = j.beginning.node; what = what }) ∷ []
   pub operations : new.operations ≡ old.operations ++ issued_in r.answer
   pub messages : new.messages ≡ old.messages ++ shipped_in r.answer
 
@@ -89,7 +89,7 @@ pub record IsLeftAt (js : List JournalValue) (ss : List Strand) (node : NodeId) 
   pub strand : Strand
   pub first : IsFirst js (IsLeft ss) index journal
   pub strand_at : At ss index strand
-  pub node_is : journal.opening.node ≡ node
+  pub node_is : journal.beginning.node ≡ node
   pub place_is : strand.placed + 1 ≡ place
 
 -- every journal is placed whole

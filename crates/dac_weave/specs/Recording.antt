@@ -18,5 +18,5 @@ records_in t es n = records_at t n (start t) es (answers_of t (start t) es)
 -- name no node, no message or no operation: nothing is recorded of them, and they change nothing.
 pub record IsRecorded (t : Table) (js : List JournalValue) (es : List WorldEvent) : Type 0 where
   pub fit : AllFit js
-  pub each : (i : ℕ) (j : JournalValue) → At js i j → records_in t es j.opening.node ≡ map entry_of j.records
+  pub each : (i : ℕ) (j : JournalValue) → At js i j → records_in t es j.beginning.node ≡ map entry_of j.records
   pub others : (n : NodeId) → HasNone js n → records_in t es n ≡ []

@@ -13,7 +13,7 @@ use Rattle.dac_journal.specs.Step.{model_step}
 use Rattle.dac_journal.specs.Histories.{off_after}
 use Rattle.dac_journal.specs.declared.record.Record.{Record}
 use Rattle.dac_journal.specs.Journals.{JournalValue}
-use Rattle.dac_weave.specs.Woven.{Seen, told, At}
+use Rattle.dac_weave.specs.Woven.{Seen, journal_seen, At}
 
 pub record NodeStepped : Type 0 where
   pub node : ModelNode
@@ -46,10 +46,10 @@ AreAnswered t n d (x ∷ xs) =
 -- so many records, from the first on, have the step's answers, and no more
 pub record IsLongest (t : Table) (j : JournalValue) (k : ℕ) : Type 0 where
   pub within : k ≤ length j.records
-  pub answered : AreAnswered t j.opening.node (off_after 0) (take k (told j))
-  pub ends : (x : Seen) → At (told j) k x
+  pub answered : AreAnswered t j.beginning.node (off_after 0) (take k (journal_seen j))
+  pub ends : (x : Seen) → At (journal_seen j) k x
       → x.answer
-      ≡ (node_step t j.opening.node (replayed t j.opening.node (off_after 0) (take k (told j))) x.event).answer → ⊥
+      ≡ (node_step t j.beginning.node (replayed t j.beginning.node (off_after 0) (take k (journal_seen j))) x.event).answer → ⊥
 
 -- From old, the program's node goes on to new as by the record's event, and same tells whether it answers
 -- as the record says.

@@ -41,8 +41,8 @@ worldly (Err why) = Err (Refused why)
 abbrev pub as_seen : Record → Seen
 as_seen r = record { event = Ok r.event; answer = worldly r.answer }
 
-abbrev pub told : JournalValue → List Seen
-told j = list_map as_seen j.records
+abbrev pub journal_seen : JournalValue → List Seen
+journal_seen j = list_map as_seen j.records
 
 -- the i-th journal, from 0
 abbrev pub At : {X : Type 0} → List X → ℕ → X → Type 0
@@ -53,15 +53,15 @@ IsFrontOf xs ys = (rest : List Seen) × (ys ≡ xs ++ rest)
 
 -- no journal is node n's
 abbrev pub HasNone : List JournalValue → NodeId → Type 0
-HasNone js n = (i : ℕ) (j : JournalValue) → At js i j → j.opening.node ≢ n
+HasNone js n = (i : ℕ) (j : JournalValue) → At js i j → j.beginning.node ≢ n
 
 -- another journal is the i-th one's node's too
 abbrev pub IsTwice : List JournalValue → ℕ → JournalValue → Type 0
-IsTwice js i j = (k : ℕ) × ((b : JournalValue) × (At js k b × ((k ≢ i) × (b.opening.node ≡ j.opening.node))))
+IsTwice js i j = (k : ℕ) × ((b : JournalValue) × (At js k b × ((k ≢ i) × (b.beginning.node ≡ j.beginning.node))))
 
 -- The i-th journal is no whole history: its node was booted before it begins, or another journal is its node's too.
 abbrev pub IsUnfit : List JournalValue → ℕ → JournalValue → Type 0
-IsUnfit js i j = (j.opening.last ≢ 0) ⊎ IsTwice js i j
+IsUnfit js i j = (j.beginning.last ≢ 0) ⊎ IsTwice js i j
 
 abbrev pub AllFit : List JournalValue → Type 0
 AllFit js = (i : ℕ) (j : JournalValue) → At js i j → IsUnfit js i j → ⊥
@@ -71,12 +71,12 @@ AllFit js = (i : ℕ) (j : JournalValue) → At js i j → IsUnfit js i j → �
 -- with their answers, and nothing at any other node.
 pub record Gives (t : Table) (js : List JournalValue) (es : List WorldEvent) : Type 0 where
   pub fit : AllFit js
-  pub each : (i : ℕ) (j : JournalValue) → At js i j → seen_in t es j.opening.node ≡ told j
+  pub each : (i : ℕ) (j : JournalValue) → At js i j → seen_in t es j.beginning.node ≡ journal_seen j
   pub others : (n : NodeId) → HasNone js n → seen_in t es n ≡ []
 
 -- the run gives a front of each journal
 pub record GivesFronts (t : Table) (js : List JournalValue) (es : List WorldEvent) : Type 0 where
-  pub each : (i : ℕ) (j : JournalValue) → At js i j → IsFrontOf (seen_in t es j.opening.node) (told j)
+  pub each : (i : ℕ) (j : JournalValue) → At js i j → IsFrontOf (seen_in t es j.beginning.node) (journal_seen j)
   pub others : (n : NodeId) → HasNone js n → seen_in t es n ≡ []
 
 -- The i-th journal is one of these, and of those the first by name.
@@ -84,29 +84,29 @@ pub record IsFirst (js : List JournalValue) (among : ℕ → JournalValue → Ty
     (j : JournalValue) : Type 0 where
   pub there : At js i j
   pub is : among i j
-  pub least : (k : ℕ) (b : JournalValue) → At js k b → among k b → j.opening.node.0 ≤ b.opening.node.0
+  pub least : (k : ℕ) (b : JournalValue) → At js k b → among k b → j.beginning.node.0 ≤ b.beginning.node.0
 
 -- the run gives the journals of lesser names whole
 abbrev pub GivesEarlier : Table → List JournalValue → NodeId → List WorldEvent → Type 0
 GivesEarlier t js node es =
-    (k : ℕ) (b : JournalValue) → At js k b → b.opening.node.0 < node.0 → seen_in t es b.opening.node ≡ told b
+    (k : ℕ) (b : JournalValue) → At js k b → b.beginning.node.0 < node.0 → seen_in t es b.beginning.node ≡ journal_seen b
 
 -- the run gives a front of each journal, of this one all before this place, and the journals of lesser names whole
 abbrev pub ReachesPlace : Table → List JournalValue → JournalValue → ℕ → List WorldEvent → Type 0
 ReachesPlace t js j place es =
     GivesFronts t js es
-    × ((length (seen_in t es j.opening.node) + 1 ≡ place) × GivesEarlier t js j.opening.node es)
+    × ((length (seen_in t es j.beginning.node) + 1 ≡ place) × GivesEarlier t js j.beginning.node es)
 
 -- Some run reaches this place of the i-th journal, and none gives more of this one.
 pub record IsStuckAt (t : Table) (js : List JournalValue) (i : ℕ) (j : JournalValue) (place : ℕ) : Type 0 where
   pub there : At js i j
   pub within : place ≤ length j.records
   pub reached : (es : List WorldEvent) × ReachesPlace t js j place es
-  pub never : (es : List WorldEvent) → GivesFronts t js es → length (seen_in t es j.opening.node) < place
+  pub never : (es : List WorldEvent) → GivesFronts t js es → length (seen_in t es j.beginning.node) < place
 
 -- the fault of journals that no run gives
 pub record IsUnwoven (t : Table) (js : List JournalValue) (node : NodeId) (place : ℕ) : Type 0 where
   pub journal : JournalValue
   pub index : ℕ
-  pub node_is : journal.opening.node ≡ node
+  pub node_is : journal.beginning.node ≡ node
   pub cause : ((place ≡ 0) × IsFirst js (IsUnfit js) index journal) ⊎ (AllFit js × IsStuckAt t js index journal place)

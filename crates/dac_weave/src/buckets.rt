@@ -1,7 +1,7 @@
 //! Numbers filed under labels.
 
 ghost use Rattle.std.specs.Prelude.{◌≡◌, ℕ, ◌<◌, IfOk, OnOk, OnErr, length};
-ghost use Rattle.dac_weave.specs.Filing.{bucket_of, IsIn, Files, IsKept};
+ghost use Rattle.dac_weave.specs.Filing.{bucket_of, IsFiledIn, Files, IsKept};
 
 use dac_base::NoMemory;
 use std::alloc::Global;
@@ -17,7 +17,7 @@ pub(crate) struct Buckets {
 impl Buckets {
     /// No numbers. There are at most so many buckets, and one at least.
     pub(crate) fn new(alloc: Global, count: usize) -> Result<Self, NoMemory>
-        ensures { IfOk result (λ made. (label k : ℕ) → IsIn made.lists.items label k → ⊥) }
+        ensures { IfOk result (λ made. (label k : ℕ) → IsFiledIn made.lists.items label k → ⊥) }
     {
         let mut lists = Vec::new(alloc);
         lists.push(Vec::new(alloc))?;

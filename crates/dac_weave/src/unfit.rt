@@ -30,7 +30,7 @@ fn is_other(journals: &[Closed], i: usize, k: usize) -> bool
     requires first { i < length journals.now }
     requires second { k < length journals.now }
     ensures { (j b : JournalValue) → At journals.now i j → At journals.now k b
-        → IsTrue result ↔ (k ≢ i) × (b.opening.node ≡ j.opening.node) }
+        → IsTrue result ↔ (k ≢ i) × (b.beginning.node ≡ j.beginning.node) }
 {
     k != i && journals[k].node() == journals[i].node()
 }

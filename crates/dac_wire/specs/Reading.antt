@@ -1,4 +1,4 @@
--- Reading the fields of a packet of a version from left to right, with the first fault that is met and its place.
+-- Reading the fields of a packet of a version from left to right, with the first fault that is met and its offset.
 use Rattle.std.specs.Prelude.{ℕ, zero, suc, Bool, true, false, List, length, Option, None, Some, is_none, Result, Ok, nat_lt, ◌==◌, if◌then◌else◌}
 use Rattle.std.specs.Int.{w8, w16, w64}
 use Rattle.dac_base.specs.declared.NodeId.{NodeId}

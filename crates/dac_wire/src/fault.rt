@@ -6,7 +6,7 @@ use dac_bytes::{ReadFault, ReadFaultKind};
 use std::error::Error;
 use std::fmt;
 
-/// What is wrong at a place of the bytes. The number of each kind is its place in this list, from 1, and
+/// What is wrong at an offset of the bytes. The number of each kind is its place in this list, from 1, and
 /// its name and number are part of the program's output.
 #[derive(Clone, Copy, Debug, PartialEq, Eq, Hash)]
 pub enum WireFaultKind {
@@ -85,7 +85,7 @@ impl Error for WireFaultKind {}
 pub struct WireFault {
     /// What is wrong.
     pub kind: WireFaultKind,
-    /// Where: the place of a byte, from 0; 0 for `NoMemory`.
+    /// Where: the offset of a byte, from 0; 0 for `NoMemory`.
     pub at: usize,
 }
 

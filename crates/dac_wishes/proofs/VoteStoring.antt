@@ -17,7 +17,7 @@ use Rattle.dac_lattice.specs.declared.flags.Flag.{Flag}
 use Rattle.dac_lattice.specs.Chains.{IsAny}
 use Rattle.dac_lattice.specs.Flags.{IsFlagBelow, join_flags}
 use Rattle.dac_lattice.specs.laws.Flags.{flag_laws}
-use Rattle.dac_lattice.specs.Lattices.{IsIn}
+use Rattle.dac_lattice.specs.Lattices.{IsOptionOf}
 use Rattle.dac_lattice.specs.Maps.{IsMap}
 use Rattle.dac_store.specs.Stores.{IsHeld, IsStoredBelow, join_stored}
 use Rattle.dac_store.specs.laws.Stores.{causal_laws}
@@ -102,7 +102,7 @@ module _ {K : Type 0} {R : K → K → Ordering} (keys_total : IsTotalOrder R) (
 
 -- ---- deltas
 
-one_in : (b : Bool) (f : Flag) → IsIn IsAny (cond b (Some f) None)
+one_in : (b : Bool) (f : Flag) → IsOptionOf IsAny (cond b (Some f) None)
 one_in true f = tt
 one_in false f = tt
 

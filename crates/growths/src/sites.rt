@@ -95,7 +95,7 @@ fn open_and_call<L: SiteName, R: Print + Wait>(
     blank: SiteBlank,
     happens: Happens,
 ) -> Option<Came>
-    requires { IsBlankOf blank L.name L.parts L.seats L.opening }
+    requires { IsBlankOf blank L.name L.parts L.seats L.beginning }
 {
     let (site, mut seats, mut readers) = open_site::<L, R>(rt, blank).ok()?;
     let came = match (seats.first_mut(), readers.first_mut()) {
@@ -147,7 +147,7 @@ pub fn opening<'a, R: Wait>(rt: &'a R, alloc: Global, opens: bool) -> Option<Ope
 
 /// Opens a site and closes it.
 fn opens<L: SiteName, R: Wait>(rt: &R, blank: SiteBlank) -> Said
-    requires { IsBlankOf blank L.name L.parts L.seats L.opening }
+    requires { IsBlankOf blank L.name L.parts L.seats L.beginning }
 {
     match open_site::<L, R>(rt, blank) {
         Ok((site, seats, _readers)) => match site.close(rt, seats) {

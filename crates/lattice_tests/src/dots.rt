@@ -1,7 +1,7 @@
 //! Contexts, and sorted lists of keys.
 use crate::sample::{context_of, dot, origin};
 use dac_base::{AppId, NoMemory};
-use dac_contexts::{Context, Further, MarkedContext};
+use dac_contexts::{Context, Further, FilteredContext};
 use dac_dots::keys::{MapKey, holds_key, insert_key, remove_key};
 use std::alloc::Global;
 
@@ -78,8 +78,8 @@ fn dots_of_a_vector(rt: HostRuntime) {
 
 /// Whether a context that is asked about so many dots has the fourth dot of node 0, and not the third.
 fn tells_its_dots(context: &Context, asked: usize) -> bool {
-    let marked = MarkedContext::of(context, asked);
-    marked.contains(dot(0, 4)) && !marked.contains(dot(0, 3)) && marked.context().len() == 3
+    let filtered = FilteredContext::of(context, asked);
+    filtered.contains(dot(0, 4)) && !filtered.contains(dot(0, 3)) && filtered.context().len() == 3
 }
 
 /// Whether that is so of a context of three dots, with marks and without.

@@ -13,7 +13,7 @@ use std::test::Fail;
 /// A site with one seat and one reader: the place of the page that is read behind a boot, and how many records the closed
 /// journal has.
 fn boot_at<L: SiteName, R: Wait>(rt: &R, alloc: Global, blank: SiteBlank) -> Option<(u64, usize)>
-    requires { IsBlankOf blank L.name L.parts L.seats L.opening }
+    requires { IsBlankOf blank L.name L.parts L.seats L.beginning }
 {
     let (site, mut seats, mut readers) = open_site::<L, R>(rt, blank).ok()?;
     let mut place = 0;

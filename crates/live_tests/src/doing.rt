@@ -388,7 +388,7 @@ fn open_and_ask<L: SiteName, R: Wait>(
     alloc: Global,
     blank: SiteBlank,
 ) -> Option<(Option<Wrong>, bool)>
-    requires { IsBlankOf blank L.name L.parts L.seats L.opening }
+    requires { IsBlankOf blank L.name L.parts L.seats L.beginning }
 {
     let (site, mut seats, mut readers) = open_site::<L, R>(rt, blank).ok()?;
     let (Some(seat), Some(reader)) = (seats.first_mut(), readers.first_mut()) else {

@@ -71,7 +71,7 @@ fn work<L: SiteName, R: Wait>(
     blank: SiteBlank,
     with_both: bool,
 ) -> Option<([(u64, Told); 5], Result<Closed, CloseFault>)>
-    requires { IsBlankOf blank L.name L.parts L.seats L.opening }
+    requires { IsBlankOf blank L.name L.parts L.seats L.beginning }
 {
     let (site, seats, _readers) = open_site::<L, R>(rt, blank).ok()?;
     let Some((mut first, mut second)) = first_two(seats) else {
@@ -219,7 +219,7 @@ fn watch<L: SiteName, R: Wait>(
     alloc: Global,
     blank: SiteBlank,
 ) -> Option<[Option<PageShort>; 5]>
-    requires { IsBlankOf blank L.name L.parts L.seats L.opening }
+    requires { IsBlankOf blank L.name L.parts L.seats L.beginning }
 {
     let (site, seats, mut readers) = open_site::<L, R>(rt, blank).ok()?;
     let (Some((mut first, second)), Some(mut reader)) = (first_two(seats), readers.pop()) else {
@@ -278,7 +278,7 @@ fn one_more<L: SiteName, R: Wait>(
     alloc: Global,
     blank: SiteBlank,
 ) -> Option<(Told, usize, usize)>
-    requires { IsBlankOf blank L.name L.parts L.seats L.opening }
+    requires { IsBlankOf blank L.name L.parts L.seats L.beginning }
 {
     let (site, seats, _readers) = open_site::<L, R>(rt, blank).ok()?;
     let Some((mut first, second)) = first_two(seats) else {
@@ -328,7 +328,7 @@ fn both<L: SiteName + Send + Sync, R: Threads + Wait + Sync>(
     alloc: Global,
     blank: SiteBlank,
 ) -> Option<usize>
-    requires { IsBlankOf blank L.name L.parts L.seats L.opening }
+    requires { IsBlankOf blank L.name L.parts L.seats L.beginning }
 {
     let (site, seats, _readers) = open_site::<L, R>(rt, blank).ok()?;
     let Some((first, second)) = first_two(seats) else {

@@ -74,7 +74,7 @@ fn open_and_close<L: SiteName, R: Wait>(
     config: &Config,
     blank: SiteBlank,
 ) -> Option<Ended>
-    requires { IsBlankOf blank L.name L.parts L.seats L.opening }
+    requires { IsBlankOf blank L.name L.parts L.seats L.beginning }
 {
     let (site, mut seats, _readers) = open_site::<L, R>(rt, blank).ok()?;
     let lost = match seats.first_mut() {

@@ -181,7 +181,7 @@ pub fn context(alloc: Global, list: &[Dot]) -> Result<Context, NoMemory> {
 }
 
 /// Values at two dots of a node, at a key, beside what was heard.
-type Kept = DotMap<u64, DotFun<Flag>>;
+type FlagMap = DotMap<u64, DotFun<Flag>>;
 
 fn votes_of(alloc: Global, node: NodeId) -> Result<DotFun<Flag>, NoMemory> {
     let mut votes = DotFun::one(alloc, dot(node, 1), Flag::Down)?;
@@ -189,7 +189,7 @@ fn votes_of(alloc: Global, node: NodeId) -> Result<DotFun<Flag>, NoMemory> {
     Ok(votes)
 }
 
-fn causal_of(alloc: Global, node: NodeId, key: u64) -> Result<Causal<Kept>, NoMemory> {
+fn causal_of(alloc: Global, node: NodeId, key: u64) -> Result<Causal<FlagMap>, NoMemory> {
     let store = DotMap::one(alloc, key, votes_of(alloc, node)?)?;
     let heard = context(alloc, &[dot(node, 1), dot(node, 3), dot(node, 9)])?;
     match Causal::new(store, heard) {
@@ -199,7 +199,7 @@ fn causal_of(alloc: Global, node: NodeId, key: u64) -> Result<Causal<Kept>, NoMe
 }
 
 /// The bench of a call.
-pub fn causals(alloc: Global, asked: OfLattice) -> Option<LatticeBench<Causal<Kept>>> {
+pub fn causals(alloc: Global, asked: OfLattice) -> Option<LatticeBench<Causal<FlagMap>>> {
     both(asked, causal_of(alloc, ME, 1), causal_of(alloc, OTHER, 2))
 }
 
@@ -271,12 +271,12 @@ pub fn dot_funs(alloc: Global, asked: OfStore) -> Option<StoreBench<DotFun<Flag>
     stores(alloc, asked, votes_of(alloc, ME), votes_of(alloc, OTHER))
 }
 
-fn map_at(alloc: Global, node: NodeId, key: u64) -> Result<Kept, NoMemory> {
+fn map_at(alloc: Global, node: NodeId, key: u64) -> Result<FlagMap, NoMemory> {
     DotMap::one(alloc, key, votes_of(alloc, node)?)
 }
 
 /// The bench of a call.
-pub fn dot_maps(alloc: Global, asked: OfStore) -> Option<StoreBench<Kept>> {
+pub fn dot_maps(alloc: Global, asked: OfStore) -> Option<StoreBench<FlagMap>> {
     stores(alloc, asked, map_at(alloc, ME, 1), map_at(alloc, OTHER, 2))
 }
 
@@ -407,7 +407,7 @@ pub struct PushBench {
     pushed: Pushed,
     set: DotSet,
     fun: DotFun<Flag>,
-    map: Kept,
+    map: FlagMap,
     more: Vec<DotFun<Flag>>,
 }
 

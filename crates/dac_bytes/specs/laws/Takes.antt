@@ -25,20 +25,20 @@ pub Takes-front : (n : ℕ) (r : Rest) → n ≤ length r.bytes → IsBytes r.by
 Takes-front n r long fits =
     record {
       parts = sym (take-append-drop n r.bytes);
-      place = omega (arith, length-take n r.bytes);
+      offset = omega (arith, length-take n r.bytes);
       fits = IsBytes-drop n r.bytes fits;
     }
 
 -- no byte is taken
 pub Takes-none : (r : Rest) → IsBytes r.bytes → Takes r [] r
-Takes-none r fits = record { parts = refl; place = omega arith; fits = fits }
+Takes-none r fits = record { parts = refl; offset = omega arith; fits = fits }
 
 -- one text, and then another
 pub Takes-then : (a : Rest) (x : List ℕ) (b : Rest) (y : List ℕ) (c : Rest) → Takes a x b → Takes b y c → Takes a (x ++ y) c
 Takes-then a x b y c p q =
     record {
       parts = p.parts ∙ ap (λ (t : List ℕ). x ++ t) q.parts ∙ sym (append_assoc x y c.bytes);
-      place = omega (arith, p.place, q.place, length-append x y);
+      offset = omega (arith, p.offset, q.offset, length-append x y);
       fits = q.fits;
     }
 
@@ -120,8 +120,8 @@ pub Again-then : {X Y : Type 0} (read : Rest → Field X) (more : X × Rest → 
 Again-then read more a b x y p q at rest =
     let first = ap (λ (t : List ℕ). read (record { at = at; bytes = t }) >>= more) (append_assoc a b rest) in
     let second = ap (λ f. f >>= more) (p at (b ++ rest)) in
-    let place : at + length a + length b ≡ at + length (a ++ b) = omega (arith, length-append a b) in
-    first ∙ second ∙ q (at + length a) rest ∙ ap (λ (n : ℕ). Ok (y, record { at = n; bytes = rest })) place
+    let offset : at + length a + length b ≡ at + length (a ++ b) = omega (arith, length-append a b) in
+    first ∙ second ∙ q (at + length a) rest ∙ ap (λ (n : ℕ). Ok (y, record { at = n; bytes = rest })) offset
 
 -- a field of which something is made
 pub Again-made : {X Y : Type 0} (read : Rest → Field X) (make : X → Y) (text : List ℕ) (x : X) → Again read text x → Again (λ r. read r >>= λ x. Ok (make x.0, x.1)) text (make x)

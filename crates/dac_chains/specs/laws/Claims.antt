@@ -17,12 +17,12 @@ use Rattle.dac_lattice.specs.laws.Dots.{origins_total, exact_origins}
 use Rattle.dac_chains.specs.declared.claims.How.{How}
 use Rattle.dac_chains.specs.declared.claims.How.TheVariants.{Normal, Failover, Takeover}
 use Rattle.dac_chains.specs.declared.claims.Claim.{Claim}
-use Rattle.dac_chains.specs.Claims.{claim_cmp, how_cmp, manner_cmp, place}
+use Rattle.dac_chains.specs.Claims.{claim_cmp, how_cmp, manner_cmp, rank}
 
 -- ---- laws
 
 pub hows_total : IsTotalOrder how_cmp
-hows_total = on_total place nat_cmp_total
+hows_total = on_total rank nat_cmp_total
 
 pub claims_total : IsTotalOrder claim_cmp
 claims_total =

@@ -11,7 +11,7 @@ use Rattle.std.proofs.lemmas.Map.Lookups.{CmpEqualImpliesEq}
 use Rattle.dac_lattice.specs.Dot.{Dot}
 use Rattle.dac_lattice.specs.Chains.{IsAny, IsAtMost}
 use Rattle.dac_lattice.specs.laws.Chains.{chain_laws}
-use Rattle.dac_lattice.specs.Lattices.{IsLattice, IsIn, IsWithin, join_options}
+use Rattle.dac_lattice.specs.Lattices.{IsLattice, IsOptionOf, IsOptionBelow, join_options}
 use Rattle.dac_lattice.specs.laws.Lattices.{optional_laws}
 use Rattle.dac_lattice.specs.laws.Entries.{find_merge}
 use Rattle.dac_lattice.specs.Pieces.{IsPiece}
@@ -44,7 +44,7 @@ module _ {T : Type 0} {cmp : T → T → Ordering} (o : IsTotalOrder cmp) (exact
   greatest_same P Q None to back g = λ v q. g v (back v q)
   greatest_same P Q (Some v) to back g = (to v g.0, λ w q. g.1 w (back w q))
 
-any : {T : Type 0} (x : Option T) → IsIn {T = T} IsAny x
+any : {T : Type 0} (x : Option T) → IsOptionOf {T = T} IsAny x
 any None = tt
 any (Some v) = tt
 
@@ -67,14 +67,14 @@ module _ {K T : Type 0} {R : K → K → Ordering} {cmp : T → T → Ordering} 
         trans = λ s t u _ _ _ p q k. values.trans (map.get s k) (map.get t k) (map.get u k) (any _) (any _) (any _) (p k) (q k);
         antisymm = λ s t _ _ p q. map.same_map keys exact_keys s t (λ k. values.antisymm (map.get s k) (map.get t k) (any _) (any _) (p k) (q k));
         closed = λ s t _ _. tt;
-        left = λ s t _ _ k. subst (IsWithin (IsAtMost cmp) (map.get s k)) (sym (get-greater keys exact_keys cmp s t k)) (values.left (map.get s k) (map.get t k) (any _) (any _));
-        right = λ s t _ _ k. subst (IsWithin (IsAtMost cmp) (map.get t k)) (sym (get-greater keys exact_keys cmp s t k)) (values.right (map.get s k) (map.get t k) (any _) (any _));
-        least = λ s t u _ _ _ p q k. subst (λ x. IsWithin (IsAtMost cmp) x (map.get u k)) (sym (get-greater keys exact_keys cmp s t k)) (values.least (map.get s k) (map.get t k) (map.get u k) (any _) (any _) (any _) (p k) (q k));
+        left = λ s t _ _ k. subst (IsOptionBelow (IsAtMost cmp) (map.get s k)) (sym (get-greater keys exact_keys cmp s t k)) (values.left (map.get s k) (map.get t k) (any _) (any _));
+        right = λ s t _ _ k. subst (IsOptionBelow (IsAtMost cmp) (map.get t k)) (sym (get-greater keys exact_keys cmp s t k)) (values.right (map.get s k) (map.get t k) (any _) (any _));
+        least = λ s t u _ _ _ p q k. subst (λ x. IsOptionBelow (IsAtMost cmp) x (map.get u k)) (sym (get-greater keys exact_keys cmp s t k)) (values.least (map.get s k) (map.get t k) (map.get u k) (any _) (any _) (any _) (p k) (q k));
       }
 
   -- a map without keys is below all
   pub empty_is_least : (s : map.FinMap R T) → AreNotAbove cmp map.empty s
-  empty_is_least s k = subst (λ x. IsWithin (IsAtMost cmp) x (map.get s k)) (sym (map.get-empty R k)) tt
+  empty_is_least s k = subst (λ x. IsOptionBelow (IsAtMost cmp) x (map.get s k)) (sym (map.get-empty R k)) tt
 
   entry_says : (e : K × T) (k : K) → IsGreatest cmp (λ v. Some e ≡ Some (k, v)) (cond (eq_by_cmp R k e.0) (Some e.1) None)
   entry_says e k =

@@ -110,7 +110,7 @@ module _ (table : Table) (s : StateValue) where
       (to_all_up (is_mandatory table) (λ node lt m. up node lt (or_first (is_mandatory table node) (is_optional table node) m)))
       (to_all_up (is_optional table) (λ node lt o. up node lt (or_second (is_mandatory table node) (is_optional table node) o)))
 
-  -- ---- the gate
+  -- ---- the start gate
 
   abbrev is_ms : SyncWait → Bool
   is_ms NoSync = false

@@ -3,7 +3,7 @@ use Rattle.std.specs.Prelude.{List, [], ◌∷◌, fold}
 use Rattle.std.proofs.Common.{zero, suc, arith}
 use Rattle.std.specs.List.{All}
 use Rattle.dac_lattice.specs.Lattices.{IsLattice}
-use Rattle.dac_deltas.specs.Kept.{IsJoinOf}
+use Rattle.dac_deltas.specs.KeptDeltas.{IsJoinOf}
 
 module _ {L : Type 0} {is_value : L → Type 0} {below : L → L → Type 0} {join : L → L → L} (laws : IsLattice is_value below join) where
   joined_value : (ds : List L) (x : L) → is_value x → All is_value ds → is_value (fold join x ds)

@@ -2,13 +2,13 @@
 use Rattle.std.specs.Prelude.{◌≡◌, ◌≤◌, ℕ, ◌+◌, ◌-◌, List, [], ◌∷◌, ◌++◌, length, drop, fold, min, max, cond, Some, None, refl}
 use Rattle.std.proofs.Common.{arith, sym, ap, ◌∙◌, suc, append_assoc, drop-drop, lt-ltb, le-ltb}
 use Rattle.std.proofs.lemmas.List.{append-nil, drop-append-le, length-append, length-drop}
-use Rattle.dac_deltas.specs.Kept.{Kept, cut, pushed}
+use Rattle.dac_deltas.specs.KeptDeltas.{KeptDeltas, cut, pushed}
 use Rattle.dac_deltas.specs.declared.buffer.TheConstants.{MAX_DELTAS}
 use Rattle.dac_deltas.specs.Logs.{DroppedHaveNone, IntervalsAreOfTheLog, PushesAppend, PushesAppendAll, TrimsMoveTheBase, kept_of}
 
 -- ---- the laws
 module _ {L : Type 0} where
-  pub same_kept : (count count' base base' : ℕ) (ds ds' : List L) → count ≡ count' → base ≡ base' → ds ≡ ds' → ◌≡◌ {A = Kept L} (record { count = count; base = base; deltas = ds }) (record { count = count'; base = base'; deltas = ds' })
+  pub same_kept : (count count' base base' : ℕ) (ds ds' : List L) → count ≡ count' → base ≡ base' → ds ≡ ds' → ◌≡◌ {A = KeptDeltas L} (record { count = count; base = base; deltas = ds }) (record { count = count'; base = base'; deltas = ds' })
   same_kept count count' base base' ds ds' c b d = λ i. record { count = c i; base = b i; deltas = d i }
 
   pub pushes_append : PushesAppend L
@@ -21,7 +21,7 @@ module _ {L : Type 0} where
       same_kept _ _ _ _ _ _ (sym all) to (ap (drop gone) (sym (drop-append-le base log (delta ∷ []) h)) ∙ (drop-drop gone base more ∙ ap (λ n. drop n more) to))
 
   -- several pushes drop at last what each would drop in turn
-  pub pushes_drop_together : (k : Kept L) (ds : List L) → length k.deltas ≤ MAX_DELTAS → fold pushed k ds ≡ cut (record { count = k.count + length ds; base = k.base; deltas = k.deltas ++ ds }) (length k.deltas + length ds - MAX_DELTAS)
+  pub pushes_drop_together : (k : KeptDeltas L) (ds : List L) → length k.deltas ≤ MAX_DELTAS → fold pushed k ds ≡ cut (record { count = k.count + length ds; base = k.base; deltas = k.deltas ++ ds }) (length k.deltas + length ds - MAX_DELTAS)
   pushes_drop_together k [] few =
       let none : length k.deltas + 0 - MAX_DELTAS ≡ 0 = omega arith in
       same_kept _ _ _ _ _ _ (omega arith) (omega arith) (sym (append-nil k.deltas) ∙ ap (λ n. drop n (k.deltas ++ [])) (sym none))

@@ -8,14 +8,14 @@ use Rattle.dac_model_world.specs.Step.{Steps, model_step}
 use Rattle.dac_model_world.specs.Histories.{Entry, IsHistory, off_after}
 use Rattle.dac_model_world.specs.laws.Histories.{IsHistory-push}
 use Rattle.dac_journal.specs.declared.record.Record.{Record}
-use Rattle.dac_journal.specs.Journals.{Opening, entry_of, record_of, EndsAt, AreHistory}
+use Rattle.dac_journal.specs.Journals.{Beginning, entry_of, record_of, EndsAt, AreHistory}
 
 entries_push : (rs : List Record) (r : Record) → map entry_of (rs ++ r ∷ []) ≡ map entry_of rs ++ entry_of r ∷ []
 entries_push [] r = refl
 entries_push (x ∷ rs) r = ap (λ l. entry_of x ∷ l) (entries_push rs r)
 
 -- a step of the program's node, recorded
-pub goes_on : (o : Opening) (rs : List Record) (old new : NodeValue) (seat : ℕ) (event : Event) (answer : Result Reply Refusal) → EndsAt o rs old → Steps o.table o.node old event new answer
+pub goes_on : (o : Beginning) (rs : List Record) (old new : NodeValue) (seat : ℕ) (event : Event) (answer : Result Reply Refusal) → EndsAt o rs old → Steps o.table o.node old event new answer
     → EndsAt o (rs ++ record_of seat event answer ∷ []) new
 goes_on o rs old new seat event answer ends step =
     let by = step.by ends.final ends.shows in
@@ -27,5 +27,5 @@ goes_on o rs old new seat event answer ends step =
     }
 
 -- where a journal ends it is a history
-pub is_history : (o : Opening) (rs : List Record) (v : NodeValue) → EndsAt o rs v → AreHistory o rs
+pub is_history : (o : Beginning) (rs : List Record) (v : NodeValue) → EndsAt o rs v → AreHistory o rs
 is_history o rs v ends = record { final = ends.final; history = ends.history }

@@ -1,7 +1,7 @@
 -- Laws of the definitions in `Lattices`.
 use Rattle.std.specs.Prelude.{◌≡◌, Option, None, Some, refl}
 use Rattle.std.proofs.Common.{sym, ap, subst, ◌∙◌}
-use Rattle.dac_lattice.specs.Lattices.{IsIn, IsLattice, IsWithin, join_options}
+use Rattle.dac_lattice.specs.Lattices.{IsOptionOf, IsLattice, IsOptionBelow, join_options}
 
 -- the laws of a wrapper from those of what it wraps
 pub wrapped_laws : {S T : Type 0} {is_value : T → Type 0} {below : T → T → Type 0} {join : T → T → T} (out : S → T) (into : T → S)
@@ -32,44 +32,44 @@ paired_laws a b = record {
 }
 
 module _ {T : Type 0} {is_value : T → Type 0} {below : T → T → Type 0} {join : T → T → T} (laws : IsLattice is_value below join) where
-  o_refl : (x : Option T) → IsIn is_value x → IsWithin below x x
+  o_refl : (x : Option T) → IsOptionOf is_value x → IsOptionBelow below x x
   o_refl None v = tt
   o_refl (Some x) v = laws.refl x v
 
-  o_trans : (x y z : Option T) → IsIn is_value x → IsIn is_value y → IsIn is_value z → IsWithin below x y → IsWithin below y z → IsWithin below x z
+  o_trans : (x y z : Option T) → IsOptionOf is_value x → IsOptionOf is_value y → IsOptionOf is_value z → IsOptionBelow below x y → IsOptionBelow below y z → IsOptionBelow below x z
   o_trans None y z u v w p q = tt
   o_trans (Some x) None z u v w p q = absurd p
   o_trans (Some x) (Some y) None u v w p q = absurd q
   o_trans (Some x) (Some y) (Some z) u v w p q = laws.trans x y z u v w p q
 
-  o_antisymm : (x y : Option T) → IsIn is_value x → IsIn is_value y → IsWithin below x y → IsWithin below y x → x ≡ y
+  o_antisymm : (x y : Option T) → IsOptionOf is_value x → IsOptionOf is_value y → IsOptionBelow below x y → IsOptionBelow below y x → x ≡ y
   o_antisymm None None u v p q = refl
   o_antisymm None (Some y) u v p q = absurd q
   o_antisymm (Some x) None u v p q = absurd p
   o_antisymm (Some x) (Some y) u v p q = ap (λ z. Some z) (laws.antisymm x y u v p q)
 
-  o_closed : (x y : Option T) → IsIn is_value x → IsIn is_value y → IsIn is_value (join_options join x y)
+  o_closed : (x y : Option T) → IsOptionOf is_value x → IsOptionOf is_value y → IsOptionOf is_value (join_options join x y)
   o_closed None y u v = v
   o_closed (Some x) None u v = u
   o_closed (Some x) (Some y) u v = laws.closed x y u v
 
-  o_left : (x y : Option T) → IsIn is_value x → IsIn is_value y → IsWithin below x (join_options join x y)
+  o_left : (x y : Option T) → IsOptionOf is_value x → IsOptionOf is_value y → IsOptionBelow below x (join_options join x y)
   o_left None y u v = tt
   o_left (Some x) None u v = laws.refl x u
   o_left (Some x) (Some y) u v = laws.left x y u v
 
-  o_right : (x y : Option T) → IsIn is_value x → IsIn is_value y → IsWithin below y (join_options join x y)
+  o_right : (x y : Option T) → IsOptionOf is_value x → IsOptionOf is_value y → IsOptionBelow below y (join_options join x y)
   o_right None None u v = tt
   o_right (Some x) None u v = tt
   o_right None (Some y) u v = laws.refl y v
   o_right (Some x) (Some y) u v = laws.right x y u v
 
-  o_least : (x y z : Option T) → IsIn is_value x → IsIn is_value y → IsIn is_value z → IsWithin below x z → IsWithin below y z → IsWithin below (join_options join x y) z
+  o_least : (x y z : Option T) → IsOptionOf is_value x → IsOptionOf is_value y → IsOptionOf is_value z → IsOptionBelow below x z → IsOptionBelow below y z → IsOptionBelow below (join_options join x y) z
   o_least None y z u v w p q = q
   o_least (Some x) None z u v w p q = p
   o_least (Some x) (Some y) None u v w p q = absurd p
   o_least (Some x) (Some y) (Some z) u v w p q = laws.least x y z u v w p q
 
   -- with a least value added
-  pub optional_laws : IsLattice (IsIn is_value) (IsWithin below) (join_options join)
+  pub optional_laws : IsLattice (IsOptionOf is_value) (IsOptionBelow below) (join_options join)
   optional_laws = record { refl = o_refl; trans = o_trans; antisymm = o_antisymm; closed = o_closed; left = o_left; right = o_right; least = o_least }

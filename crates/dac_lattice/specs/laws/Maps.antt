@@ -6,7 +6,7 @@ use Rattle.std.specs.Cmp.{IsTotalOrder}
 use Rattle.std.proofs.lemmas.Map.Lookups.{CmpEqualImpliesEq}
 use Rattle.std.specs.FinMap.{find}
 use Rattle.std.specs.FinMap.Entries.{same_entries}
-use Rattle.dac_lattice.specs.Lattices.{IsLattice, IsIn, IsWithin, join_options}
+use Rattle.dac_lattice.specs.Lattices.{IsLattice, IsOptionOf, IsOptionBelow, join_options}
 use Rattle.dac_lattice.specs.laws.Lattices.{optional_laws}
 use Rattle.dac_lattice.specs.laws.Entries.{sorted_merge, find_merge}
 use Rattle.dac_lattice.specs.Maps.{IsMap, IsMapBelow, join_maps}
@@ -25,9 +25,9 @@ module _ {K X : Type 0} {R : K → K → Ordering} (o : IsTotalOrder R) (exact :
         antisymm = λ x y u v p q. same_entries R o exact x y u.in_order v.in_order (λ k. values.antisymm _ _ (u.values k) (v.values k) (p k) (q k));
         closed = λ x y u v. record {
           in_order = sorted_merge o exact (λ _. join_options join) x y u.in_order v.in_order;
-          values = λ k. subst (IsIn is_value) (sym (find_join k x y u v)) (values.closed _ _ (u.values k) (v.values k));
+          values = λ k. subst (IsOptionOf is_value) (sym (find_join k x y u v)) (values.closed _ _ (u.values k) (v.values k));
         };
-        left = λ x y u v k. subst (IsWithin below (find R k x)) (sym (find_join k x y u v)) (values.left _ _ (u.values k) (v.values k));
-        right = λ x y u v k. subst (IsWithin below (find R k y)) (sym (find_join k x y u v)) (values.right _ _ (u.values k) (v.values k));
-        least = λ x y z u v w p q k. subst (λ j. IsWithin below j (find R k z)) (sym (find_join k x y u v)) (values.least _ _ _ (u.values k) (v.values k) (w.values k) (p k) (q k));
+        left = λ x y u v k. subst (IsOptionBelow below (find R k x)) (sym (find_join k x y u v)) (values.left _ _ (u.values k) (v.values k));
+        right = λ x y u v k. subst (IsOptionBelow below (find R k y)) (sym (find_join k x y u v)) (values.right _ _ (u.values k) (v.values k));
+        least = λ x y z u v w p q k. subst (λ j. IsOptionBelow below j (find R k z)) (sym (find_join k x y u v)) (values.least _ _ _ (u.values k) (v.values k) (w.values k) (p k) (q k));
       }

@@ -5,32 +5,32 @@ use Rattle.std.proofs.Math.Seq.{drop-cons}
 use Rattle.dac_dots.specs.declared.dot.Dot.{Dot}
 use Rattle.dac_lattice.specs.Lattices.{IsLattice}
 use Rattle.dac_lattice.specs.laws.Joins.{join_comm, join_assoc, join_bottom}
-use Rattle.dac_lattice.specs.Pieces.{In, Within, AreOperations, IsPiece, joined, JoinsAreTogether, OrderAndRepeatsAreNothing, DeltasAreMeanings}
+use Rattle.dac_lattice.specs.Pieces.{IsGivenIn, AreGivenIn, AreOperations, IsPiece, joined, JoinsAreTogether, OrderAndRepeatsAreNothing, DeltasAreMeanings}
 
 -- ---- lists of operations
 
 module _ {A : Type 0} where
-  pub in_front : (o : Dot × A) (os ps : List (Dot × A)) → In o os → In o (os ++ ps)
+  pub in_front : (o : Dot × A) (os ps : List (Dot × A)) → IsGivenIn o os → IsGivenIn o (os ++ ps)
   in_front o [] ps h = elim h [ ]
   in_front o (p ∷ os) ps (inl is) = inl is
   in_front o (p ∷ os) ps (inr rest) = inr (in_front o os ps rest)
 
-  pub in_back : (o : Dot × A) (os ps : List (Dot × A)) → In o ps → In o (os ++ ps)
+  pub in_back : (o : Dot × A) (os ps : List (Dot × A)) → IsGivenIn o ps → IsGivenIn o (os ++ ps)
   in_back o [] ps h = h
   in_back o (p ∷ os) ps h = inr (in_back o os ps h)
 
-  pub in_drop : (o : Dot × A) (os : List (Dot × A)) (i : ℕ) → In o (drop i os) → In o os
+  pub in_drop : (o : Dot × A) (os : List (Dot × A)) (i : ℕ) → IsGivenIn o (drop i os) → IsGivenIn o os
   in_drop o os zero h = h
   in_drop o [] (suc i) h = h
   in_drop o (p ∷ os) (suc i) h = inr (in_drop o os i h)
 
-  pub operation_at : (os : List (Dot × A)) (i : ℕ) (e : Dot × A) → i < length os → In (get_or os i e) os
+  pub operation_at : (os : List (Dot × A)) (i : ℕ) (e : Dot × A) → i < length os → IsGivenIn (get_or os i e) os
   operation_at [] i e p = absurd (omega arith)
   operation_at (o ∷ os) zero e p = inl refl
   operation_at (o ∷ os) (suc i) e p = inr (operation_at os i e (omega arith))
 
   -- some of the operations are operations
-  pub of_within : (fits : Dot → A → Type 0) (os ps : List (Dot × A)) → Within os ps → AreOperations fits ps → AreOperations fits os
+  pub of_within : (fits : Dot → A → Type 0) (os ps : List (Dot × A)) → AreGivenIn os ps → AreOperations fits ps → AreOperations fits os
   of_within fits os ps within h = record {
     fit = λ o i. h.fit o (within o i);
     agree = λ o p i j. h.agree o p (within o i) (within p j);
@@ -60,17 +60,17 @@ module _ {V : Type 0} {is_value : V → Type 0} {below : V → V → Type 0} {jo
     joined_means (o ∷ os) h = piece.step os o _ (joined_value os) h (joined_means os (of_within fits os (o ∷ os) (λ p i. inr i) h))
 
     -- the delta of each operation is below the joined deltas
-    delta_below : (o : Dot × A) (os : List (Dot × A)) → In o os → below (delta o.0 o.1) (joined join bottom delta os)
+    delta_below : (o : Dot × A) (os : List (Dot × A)) → IsGivenIn o os → below (delta o.0 o.1) (joined join bottom delta os)
     delta_below o [] h = elim h [ ]
     delta_below o (p ∷ os) (inl is) = subst (λ q. below (delta q.0 q.1) (joined join bottom delta (p ∷ os))) (sym is) (laws.right _ _ (joined_value os) (piece.delta_value p.0 p.1))
     delta_below o (p ∷ os) (inr rest) =
         laws.trans _ _ _ (piece.delta_value o.0 o.1) (joined_value os) (joined_value (p ∷ os)) (delta_below o os rest) (laws.left _ _ (joined_value os) (piece.delta_value p.0 p.1))
 
-    joined_least : (os : List (Dot × A)) (v : V) → is_value v → ((o : Dot × A) → In o os → below (delta o.0 o.1) v) → below (joined join bottom delta os) v
+    joined_least : (os : List (Dot × A)) (v : V) → is_value v → ((o : Dot × A) → IsGivenIn o os → below (delta o.0 o.1) v) → below (joined join bottom delta os) v
     joined_least [] v u h = least v u
     joined_least (o ∷ os) v u h = laws.least _ _ v (joined_value os) (piece.delta_value o.0 o.1) u (joined_least os v u (λ p i. h p (inr i))) (h o (inl refl))
 
-    joined_within : (os ps : List (Dot × A)) → Within os ps → below (joined join bottom delta os) (joined join bottom delta ps)
+    joined_within : (os ps : List (Dot × A)) → AreGivenIn os ps → below (joined join bottom delta os) (joined join bottom delta ps)
     joined_within os ps within = joined_least os _ (joined_value ps) (λ o i. delta_below o ps (within o i))
 
     meaning_is : (os : List (Dot × A)) (v : V) → is_value v → AreOperations fits os → means os v → joined join bottom delta os ≡ v

@@ -15,7 +15,7 @@ use Rattle.dac_dots.specs.laws.Dots.{dots_total, exact_origins}
 use Rattle.dac_lattice.specs.declared.flags.Flag.{Flag}
 use Rattle.dac_lattice.specs.declared.flags.Flag.TheVariants.{Up, Down}
 use Rattle.dac_lattice.specs.Flags.{IsFlagBelow}
-use Rattle.dac_lattice.specs.Lattices.{IsWithin}
+use Rattle.dac_lattice.specs.Lattices.{IsOptionBelow}
 use Rattle.dac_lattice.specs.Chains.{IsAtMost}
 use Rattle.dac_wishes.specs.AtDot.{StandsBelow}
 use Rattle.dac_chains.specs.Greatest.{AreNotAbove}
@@ -47,7 +47,7 @@ passes {R = R} exact p k (m ∷ ks) h there = elim (or_cases (eq_by_cmp R k m) (
 -- ---- lives and claims
 
 module _ {K T : Type 0} {R : K → K → Ordering} (exact : CmpEqualImpliesEq R) (cmp : T → T → Ordering) where
-  within-is : (a b : Option T) → (IsWithin (IsAtMost cmp) a b → is_within cmp a b ≡ true) × (is_within cmp a b ≡ true → IsWithin (IsAtMost cmp) a b)
+  within-is : (a b : Option T) → (IsOptionBelow (IsAtMost cmp) a b → is_within cmp a b ≡ true) × (is_within cmp a b ≡ true → IsOptionBelow (IsAtMost cmp) a b)
   within-is None b = (λ _. refl, λ _. tt)
   within-is (Some v) None = (λ h. absurd h, λ h. absurd (true≢false (sym h)))
   within-is (Some v) (Some w) = (λ h. h, λ h. h)
@@ -58,7 +58,7 @@ module _ {K T : Type 0} {R : K → K → Ordering} (exact : CmpEqualImpliesEq R)
     λ h k. at k (map.get x k) refl h,
   )
     where
-      at : (k : K) (a : Option T) → map.get x k ≡ a → are_not_above cmp x y ≡ true → IsWithin (IsAtMost cmp) a (map.get y k)
+      at : (k : K) (a : Option T) → map.get x k ≡ a → are_not_above cmp x y ≡ true → IsOptionBelow (IsAtMost cmp) a (map.get y k)
       at k None e h = tt
       at k (Some v) e h = (within-is (Some v) (map.get y k)).1 (subst (λ o. is_within cmp o (map.get y k) ≡ true) e (passes exact (λ (m : K). is_within cmp (map.get x m) (map.get y m)) k (map.keys x) h (sym (map.contains_key-keys x k) ∙ ap is_some e)))
 

@@ -10,7 +10,7 @@ use Rattle.dac_chains.specs.laws.Greatest.{get-greater, greatest_either, greates
 use Rattle.dac_lattice.specs.laws.Joins.{join_above}
 use Rattle.dac_operations.specs.declared.act.Act.{Act}
 use Rattle.dac_operations.specs.Operations.{Operation, operation}
-use Rattle.dac_meaning.specs.Meaning.{Within, pairs, greatest_of}
+use Rattle.dac_meaning.specs.Meaning.{AreOperationsOf, pairs, greatest_of}
 use Rattle.dac_meaning.specs.laws.Members.{In-append_left, In-append_right, In-append_cases, in_pairs, of_pairs}
 use Rattle.dac_meaning.specs.Chained.{SaysFor}
 
@@ -22,7 +22,7 @@ module _ {K T : Type 0} (said : Dot → Act → Option (K × T)) where
   is_said os k v s = ((s.0.dot, s.0.act), (of_pairs s.0 os s.1.0, s.1.1))
 
   -- what is said by some is said by more
-  said_within : (os ps : List Operation) → Within os ps → (k : K) (v : T) → IsSaid said (pairs os) k v → IsSaid said (pairs ps) k v
+  said_within : (os ps : List Operation) → AreOperationsOf os ps → (k : K) (v : T) → IsSaid said (pairs os) k v → IsSaid said (pairs ps) k v
   said_within os ps within k v s = let o = of_said os k v s in is_said ps k v (o.0, (within o.0 o.1.0, o.1.1))
 
   said_either : (os ps : List Operation) (k : K) (v : T) → IsSaid said (pairs (os ++ ps)) k v → IsSaid said (pairs os) k v ⊎ IsSaid said (pairs ps) k v
@@ -43,7 +43,7 @@ module _ {K T : Type 0} {R : K → K → Ordering} {cmp : T → T → Ordering} 
   pub one_greatest : (os : List Operation) (m n : map.FinMap R T) → AreGreatest cmp said (pairs os) m → AreGreatest cmp said (pairs os) n → m ≡ n
   one_greatest os m n g h = (greatest_piece keys exact_keys o exact said {fits = λ _ _. Unit {0}}).one (pairs os) m n tt tt g h
 
-  pub greatest-same : (os ps : List Operation) → Within os ps → Within ps os → greatest_of {R = R} cmp said os ≡ greatest_of cmp said ps
+  pub greatest-same : (os ps : List Operation) → AreOperationsOf os ps → AreOperationsOf ps os → greatest_of {R = R} cmp said os ≡ greatest_of cmp said ps
   greatest-same os ps there back = one_greatest ps (greatest_of cmp said os) (greatest_of cmp said ps)
       (λ k. greatest_same o exact (IsSaid said (pairs os) k) (IsSaid said (pairs ps) k) (map.get (greatest_of cmp said os) k) (said_within said os ps there k) (said_within said ps os back k) (are_greatest os k))
       (are_greatest ps)

@@ -40,7 +40,7 @@ use Rattle.dac_operations.specs.declared.act.Act.{Act}
 use Rattle.dac_operations.specs.Operations.{Operation}
 use Rattle.dac_meaning.specs.StateValue.{IsState, permissions_of, wishes_of, drains_of, join}
 use Rattle.dac_meaning.specs.laws.StateLaws.{same_state, heard-join, permissions-join, wishes-join, lives-join, claims-join, drains-join}
-use Rattle.dac_meaning.specs.Meaning.{meaning_of, has_dot, replaces, is_replaced, names, wishes, is_start, flag_said, told, is_vote, vote_said, vote_at, permit_vote, drain_vote, life_said, claim_said, Within, Agree}
+use Rattle.dac_meaning.specs.Meaning.{meaning_of, has_dot, replaces, is_replaced, names, wishes, is_start, flag_said, vote_says, is_vote, vote_said, vote_at, permit_vote, drain_vote, life_said, claim_said, AreOperationsOf, DotsDetermine}
 use Rattle.dac_meaning.specs.laws.Members.{In-append_left, In-append_right, list_any-same, list_any-wider, shared}
 use Rattle.dac_meaning.specs.laws.Chained.{greatest-same, greatest-append}
 use Rattle.dac_meaning.specs.laws.Readers.{heard-meaning, known-meaning, starts-meaning, permits-meaning, lives-meaning, claims-meaning, drains-meaning}
@@ -51,7 +51,7 @@ same_dots a b h = set.same_set dots_total exact_dots a b h
 
 -- ---- order and repeats
 
-known-same : (os ps : List Operation) → Within os ps → Within ps os → (meaning_of os).known ≡ (meaning_of ps).known
+known-same : (os ps : List Operation) → AreOperationsOf os ps → AreOperationsOf ps os → (meaning_of os).known ≡ (meaning_of ps).known
 known-same os ps f g = same_dots _ _ (λ d. known-meaning os d ∙ list_any-same (names d) os ps f g ∙ sym (known-meaning ps d))
 
 -- ---- a meaning is a state
@@ -67,7 +67,7 @@ start_has_dot w o t = (and_parts (wishes w.key o.act) (has_dot w.dot o) t).1
 
 module _ {K : Type 0} (R : K → K → Ordering) (vote : Act → Option (K × Bool)) where
   pub vote_has_dot : (w : KeyedWrite K) (v : Bool) (o : Operation) → is_vote R vote w v o ≡ true → has_dot w.dot o ≡ true
-  vote_has_dot w v o t = (and_parts (told R w.key v (vote o.act)) (has_dot w.dot o) t).1
+  vote_has_dot w v o t = (and_parts (vote_says R w.key v (vote o.act)) (has_dot w.dot o) t).1
 
   module _ (down : Bool) where
     -- what is said has a dot of theirs
@@ -82,7 +82,7 @@ module _ {K : Type 0} (R : K → K → Ordering) (vote : Act → Option (K × Bo
         either false true h = refl
         either false false h = h
 
-    vote_at-same : (os ps : List Operation) → Within os ps → Within ps os → (w : KeyedWrite K) → vote_at R vote down os w ≡ vote_at R vote down ps w
+    vote_at-same : (os ps : List Operation) → AreOperationsOf os ps → AreOperationsOf ps os → (w : KeyedWrite K) → vote_at R vote down os w ≡ vote_at R vote down ps w
     vote_at-same os ps f g w = λ i. cond (list_any-same (replaces w.dot) os ps f g i) None (flag_said (list_any-same (is_vote R vote w down) os ps f g i) (list_any-same (is_vote R vote w (not down)) os ps f g i))
 
     -- a vote that stands has its dot known
@@ -94,7 +94,7 @@ module _ {K : Type 0} (R : K → K → Ordering) (vote : Act → Option (K × Bo
         given false v h = h
 
 -- the meaning depends on which operations there are, and on no more
-pub meaning-same : (os ps : List Operation) → Within os ps → Within ps os → meaning_of os ≡ meaning_of ps
+pub meaning-same : (os ps : List Operation) → AreOperationsOf os ps → AreOperationsOf ps os → meaning_of os ≡ meaning_of ps
 meaning-same os ps f g = same_state (meaning_of os) (meaning_of ps)
     (same_dots _ _ (λ d. heard-meaning os d ∙ list_any-same (has_dot d) os ps f g ∙ sym (heard-meaning ps d)))
     (same_permissions _ _ (known-same os ps f g) (λ w. permits-meaning os w ∙ vote_at-same key_cmp permit_vote false os ps f g w ∙ sym (permits-meaning ps w)))
@@ -175,11 +175,11 @@ said-append R vote down w os ps =
     both false true false false = refl
     both false false c e = refl
 
-module _ (os ps : List Operation) (agree : Agree (os ++ ps)) where
-  left : Within os (os ++ ps)
+module _ (os ps : List Operation) (agree : DotsDetermine (os ++ ps)) where
+  left : AreOperationsOf os (os ++ ps)
   left o h = In-append_left o os ps h
 
-  right : Within ps (os ++ ps)
+  right : AreOperationsOf ps (os ++ ps)
   right o h = In-append_right o os ps h
 
   known_together : set.union (meaning_of os).known (meaning_of ps).known ≡ (meaning_of (os ++ ps)).known

@@ -3,32 +3,32 @@ use Rattle.std.proofs.Common.{◌≡◌, Bool, true, false, ◌⊎◌, List, [],
 use Rattle.std.specs.List.{list_any}
 use Rattle.std.proofs.lemmas.Bool.{false≢true, or_cases, or_left, or_right, false_from_ne_true}
 use Rattle.dac_dots.specs.declared.dot.Dot.{Dot}
-use Rattle.dac_lattice.specs.Pieces.{In as InPairs}
+use Rattle.dac_lattice.specs.Pieces.{IsGivenIn as InPairs}
 use Rattle.dac_wishes.specs.laws.Stores.{both_ways}
 use Rattle.dac_wishes.specs.laws.KeyedWrites.{same_dot_is}
 use Rattle.dac_operations.specs.declared.act.Act.{Act}
 use Rattle.dac_operations.specs.Operations.{Operation, operation}
-use Rattle.dac_meaning.specs.Meaning.{In, Within, Agree, has_dot, pairs}
+use Rattle.dac_meaning.specs.Meaning.{IsOperationOf, AreOperationsOf, DotsDetermine, has_dot, pairs}
 
-pub In-append_left : (o : Operation) (os ps : List Operation) → In o os → In o (os ++ ps)
+pub In-append_left : (o : Operation) (os ps : List Operation) → IsOperationOf o os → IsOperationOf o (os ++ ps)
 In-append_left o [] ps h = absurd h
 In-append_left o (x ∷ os) ps (inl e) = inl e
 In-append_left o (x ∷ os) ps (inr h) = inr (In-append_left o os ps h)
 
-pub In-append_right : (o : Operation) (os ps : List Operation) → In o ps → In o (os ++ ps)
+pub In-append_right : (o : Operation) (os ps : List Operation) → IsOperationOf o ps → IsOperationOf o (os ++ ps)
 In-append_right o [] ps h = h
 In-append_right o (x ∷ os) ps h = inr (In-append_right o os ps h)
 
-pub In-append_cases : (o : Operation) (os ps : List Operation) → In o (os ++ ps) → In o os ⊎ In o ps
+pub In-append_cases : (o : Operation) (os ps : List Operation) → IsOperationOf o (os ++ ps) → IsOperationOf o os ⊎ IsOperationOf o ps
 In-append_cases o [] ps h = inr h
 In-append_cases o (x ∷ os) ps (inl e) = inl (inl e)
 In-append_cases o (x ∷ os) ps (inr h) = elim (In-append_cases o os ps h) [ inl a ↦ inl (inr a) | inr b ↦ inr b ]
 
-pub Within-append : (os ps qs : List Operation) → Within os qs → Within ps qs → Within (os ++ ps) qs
+pub Within-append : (os ps qs : List Operation) → AreOperationsOf os qs → AreOperationsOf ps qs → AreOperationsOf (os ++ ps) qs
 Within-append os ps qs f g o h = elim (In-append_cases o os ps h) [ inl a ↦ f o a | inr b ↦ g o b ]
 
 -- what a test finds is one of the operations
-pub found : (p : Operation → Bool) (os : List Operation) → list_any p os ≡ true → (o : Operation) × (In o os × (p o ≡ true))
+pub found : (p : Operation → Bool) (os : List Operation) → list_any p os ≡ true → (o : Operation) × (IsOperationOf o os × (p o ≡ true))
 found p [] h = absurd (false≢true h)
 found p (x ∷ os) h = elim (or_cases (p x) (list_any p os) h) [
   | inl t ↦ (x, (inl refl, t))
@@ -36,16 +36,16 @@ found p (x ∷ os) h = elim (or_cases (p x) (list_any p os) h) [
 ]
 
 -- a test that one of the operations passes finds one
-pub finds : (p : Operation → Bool) (os : List Operation) (o : Operation) → In o os → p o ≡ true → list_any p os ≡ true
+pub finds : (p : Operation → Bool) (os : List Operation) (o : Operation) → IsOperationOf o os → p o ≡ true → list_any p os ≡ true
 finds p [] o h t = absurd h
 finds p (x ∷ os) o (inl e) t = or_left (p x) (list_any p os) (ap p (sym e) ∙ t)
 finds p (x ∷ os) o (inr h) t = or_right (p x) (list_any p os) (finds p os o h t)
 
-list_any-Within : (p : Operation → Bool) (os ps : List Operation) → Within os ps → list_any p os ≡ true → list_any p ps ≡ true
+list_any-Within : (p : Operation → Bool) (os ps : List Operation) → AreOperationsOf os ps → list_any p os ≡ true → list_any p ps ≡ true
 list_any-Within p os ps w h = let f = found p os h in finds p ps f.0 (w f.0 f.1.0) f.1.1
 
 -- tests answer alike on lists of the same operations
-pub list_any-same : (p : Operation → Bool) (os ps : List Operation) → Within os ps → Within ps os → list_any p os ≡ list_any p ps
+pub list_any-same : (p : Operation → Bool) (os ps : List Operation) → AreOperationsOf os ps → AreOperationsOf ps os → list_any p os ≡ list_any p ps
 list_any-same p os ps f g = both_ways (list_any p os) (list_any p ps) (list_any-Within p os ps f) (list_any-Within p ps os g)
 
 -- what passes a test passes a wider one too
@@ -57,7 +57,7 @@ pub list_any-narrower : (p q : Operation → Bool) → ((o : Operation) → p o 
 list_any-narrower p q f os h = false_from_ne_true (list_any p os) (λ t. false≢true (sym h ∙ list_any-wider p q f os t))
 
 -- An operation of os that passes a test of one dot alone is one of ps, if those have the dot.
-pub shared : (p : Operation → Bool) (d : Dot) → ((o : Operation) → p o ≡ true → has_dot d o ≡ true) → (os ps all : List Operation) → Within os all → Within ps all → Agree all
+pub shared : (p : Operation → Bool) (d : Dot) → ((o : Operation) → p o ≡ true → has_dot d o ≡ true) → (os ps all : List Operation) → AreOperationsOf os all → AreOperationsOf ps all → DotsDetermine all
     → list_any p os ≡ true → list_any (has_dot d) ps ≡ true → list_any p ps ≡ true
 shared p d narrow os ps all f g agree a b =
     let o = found p os a in
@@ -67,12 +67,12 @@ shared p d narrow os ps all f g agree a b =
 
 -- ---- operations as pairs
 
-pub in_pairs : (q : Dot × Act) (os : List Operation) → InPairs q (pairs os) → In (operation q.0 q.1) os
+pub in_pairs : (q : Dot × Act) (os : List Operation) → InPairs q (pairs os) → IsOperationOf (operation q.0 q.1) os
 in_pairs q [] h = h
 in_pairs q (o ∷ os) (inl e) = inl (ap (λ (p : Dot × Act). operation p.0 p.1) e)
 in_pairs q (o ∷ os) (inr h) = inr (in_pairs q os h)
 
-pub of_pairs : (o : Operation) (os : List Operation) → In o os → InPairs (o.dot, o.act) (pairs os)
+pub of_pairs : (o : Operation) (os : List Operation) → IsOperationOf o os → InPairs (o.dot, o.act) (pairs os)
 of_pairs o [] h = h
 of_pairs o (p ∷ os) (inl e) = inl (ap (λ (q : Operation). (q.dot, q.act)) e)
 of_pairs o (p ∷ os) (inr h) = inr (of_pairs o os h)

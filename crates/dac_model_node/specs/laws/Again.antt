@@ -31,7 +31,7 @@ use Rattle.dac_ticks.specs.laws.Claims.{state_joined}
 use Rattle.dac_ticks.specs.laws.Claimed.{claim_alike, claim_state, claimed_as}
 use Rattle.dac_ticks.specs.laws.Again.{second_tick}
 use Rattle.dac_ticks.specs.Again.{IsAmong}
-use Rattle.dac_model_node.specs.ModelNode.{ModelNode, ModelRun, base_after, joined, run_shown}
+use Rattle.dac_model_node.specs.ModelNode.{ModelNode, ModelRunning, base_after, joined, running_shown}
 use Rattle.dac_model_node.specs.EventRefusals.{causes_to_tick, refusal_to_tick, needed, too_few_left, too_many_deltas}
 use Rattle.dac_model_node.specs.Deeds.{meanings, opening_at, ticks_by}
 use Rattle.dac_model_node.specs.Step.{goes_on, model_step, step_by}
@@ -74,7 +74,7 @@ not_before n = false_from_ne_true _ (λ e. let less = ltb-true n n e in omega ar
 
 -- ---- the second tick
 
-module _ (t : Table) (me : NodeId) (last now : ℕ) (r : ModelRun) (is : IsState (joined r.log)) where
+module _ (t : Table) (me : NodeId) (last now : ℕ) (r : ModelRunning) (is : IsState (joined r.log)) where
   abbrev s : StateValue
   s = joined r.log
 
@@ -85,11 +85,11 @@ module _ (t : Table) (me : NodeId) (last now : ℕ) (r : ModelRun) (is : IsState
   turn = turn_of t r.origin (waits_of t noted) now s
 
   -- what runs after the first
-  abbrev later : ModelRun
+  abbrev later : ModelRunning
   later = record { origin = r.origin; moments = record { booted = r.moments.booted; last = now }; is_open = true; notes = noted; log = r.log ++ meanings turn.ops; base = base_after r.base (length (r.log ++ meanings turn.ops)) 0; peers = r.peers }
 
   abbrev there : ModelNode
-  there = record { last = last; run = Some later }
+  there = record { last = last; running = Some later }
 
   later_state : joined later.log ≡ turn.state
   later_state = joined-append r.log (meanings turn.ops) ∙ sym (state_joined t r.origin (waits_of t noted) now s)
@@ -109,9 +109,9 @@ module _ (t : Table) (me : NodeId) (last now : ℕ) (r : ModelRun) (is : IsState
     still = up_if r.origin (joined later.log) (subst (λ (u : StateValue). IsLive u.lives r.origin.node r.origin.inc) (sym later_state) (still_up t r.origin (waits_of t noted) now s (record { state = is; live = up })).live)
 
     abbrev few : Bool
-    few = too_few_left t (joined later.log) r.origin || too_many_deltas (run_shown t later) (needed t)
+    few = too_few_left t (joined later.log) r.origin || too_many_deltas (running_shown t later) (needed t)
 
-    refused : refusal_to_tick t (run_shown t later) now ≡ cond few (Some DotsUsedUp) None
+    refused : refusal_to_tick t (running_shown t later) now ≡ cond few (Some DotsUsedUp) None
     refused = λ i. first_cause ((still i, DeclaredDown) ∷ (not_before now i, MomentBack) ∷ (few, DotsUsedUp) ∷ [])
 
     claims_nothing : ClaimsNothing turn.passed (model_step t me there (Tick now)).answer
@@ -126,24 +126,24 @@ module _ (t : Table) (me : NodeId) (last now : ℕ) (r : ModelRun) (is : IsState
       )
     ] refl
 
-  -- by what the gate answered at the first
-  by_opening : (o : Opening) (ops : List Operation) (passed : List AppId) → IsLive s.lives r.origin.node r.origin.inc → ◌≡◌ {A = Result Reply Refusal} (Ok (ticks_by o t (run_shown t r) (waits_of t noted) now).reply) (Ok (Ticked ops passed)) →
-      ClaimsNothing passed (model_step t me (record { last = last; run = goes_on r (record { state = s; moment = now }) (ticks_by o t (run_shown t r) (waits_of t noted) now) }) (Tick now)).answer
+  -- by what the start gate answered at the first
+  by_opening : (o : Opening) (ops : List Operation) (passed : List AppId) → IsLive s.lives r.origin.node r.origin.inc → ◌≡◌ {A = Result Reply Refusal} (Ok (ticks_by o t (running_shown t r) (waits_of t noted) now).reply) (Ok (Ticked ops passed)) →
+      ClaimsNothing passed (model_step t me (record { last = last; running = goes_on r (record { state = s; moment = now }) (ticks_by o t (running_shown t r) (waits_of t noted) now) }) (Tick now)).answer
   by_opening Shut ops passed up e = cc
   by_opening GiveUp ops passed up e = cc
   by_opening Opened ops passed up e = let same : turn.passed ≡ passed = cc in subst (λ p. ClaimsNothing p (model_step t me there (Tick now)).answer) same (claims_nothing up)
 
   -- by why the first was refused, if it was
-  by_refusal : (x : Option Refusal) (ops : List Operation) (passed : List AppId) → refusal_to_tick t (run_shown t r) now ≡ x → (step_by x t me (record { last = last; run = Some r }) (Tick now)).answer ≡ Ok (Ticked ops passed) →
-      ClaimsNothing passed (model_step t me (step_by x t me (record { last = last; run = Some r }) (Tick now)).node (Tick now)).answer
+  by_refusal : (x : Option Refusal) (ops : List Operation) (passed : List AppId) → refusal_to_tick t (running_shown t r) now ≡ x → (step_by x t me (record { last = last; running = Some r }) (Tick now)).answer ≡ Ok (Ticked ops passed) →
+      ClaimsNothing passed (model_step t me (step_by x t me (record { last = last; running = Some r }) (Tick now)).node (Tick now)).answer
   by_refusal (Some why) ops passed e answer = cc
   by_refusal None ops passed e answer =
-      by_opening (opening_at t (run_shown t r) now) ops passed (live_if r.origin s (none_is (causes_to_tick t (run_shown t r) now) e).0) answer
+      by_opening (opening_at t (running_shown t r) now) ops passed (live_if r.origin s (none_is (causes_to_tick t (running_shown t r) now) e).0) answer
 
-second : (t : Table) (me : NodeId) (last : ℕ) (run : Option ModelRun) (now : ℕ) (ops : List Operation) (passed : List AppId) → HoldsState (record { last = last; run = run }) →
-    (model_step t me (record { last = last; run = run }) (Tick now)).answer ≡ Ok (Ticked ops passed) → ClaimsNothing passed (model_step t me (model_step t me (record { last = last; run = run }) (Tick now)).node (Tick now)).answer
+second : (t : Table) (me : NodeId) (last : ℕ) (running : Option ModelRunning) (now : ℕ) (ops : List Operation) (passed : List AppId) → HoldsState (record { last = last; running = running }) →
+    (model_step t me (record { last = last; running = running }) (Tick now)).answer ≡ Ok (Ticked ops passed) → ClaimsNothing passed (model_step t me (model_step t me (record { last = last; running = running }) (Tick now)).node (Tick now)).answer
 second t me last None now ops passed is answer = cc
-second t me last (Some r) now ops passed is answer = by_refusal t me last now r is (refusal_to_tick t (run_shown t r) now) ops passed refl answer
+second t me last (Some r) now ops passed is answer = by_refusal t me last now r is (refusal_to_tick t (running_shown t r) now) ops passed refl answer
 
 pub second_tick_claims_nothing : SecondTickClaimsNothing
-second_tick_claims_nothing t me d now ops passed is answer = second t me d.last d.run now ops passed is answer
+second_tick_claims_nothing t me d now ops passed is answer = second t me d.last d.running now ops passed is answer

@@ -6,14 +6,14 @@ use Rattle.dac_base.specs.declared.limits.TheConstants.{MAX_COUNTER}
 use Rattle.dac_config.specs.Table.{Table, app_count}
 use Rattle.dac_commands.specs.Commands.{greatest_counter}
 use Rattle.dac_commands.specs.laws.Written.{none_is}
-use Rattle.dac_model_node.specs.NodeValue.{RunValue}
+use Rattle.dac_model_node.specs.NodeValue.{RunningValue}
 use Rattle.dac_model_node.specs.EventRefusals.{causes_to_tick, refusal_to_tick, too_few_left, too_many_deltas, needed}
 
 neither : (a b : Bool) → (a || b) ≡ false → (a ≡ false) × (b ≡ false)
 neither true b e = absurd (true≢false e)
 neither false b e = (refl, e)
 
-module _ (t : Table) (r : RunValue) (now : ℕ) (none : refusal_to_tick t r now ≡ None) where
+module _ (t : Table) (r : RunningValue) (now : ℕ) (none : refusal_to_tick t r now ≡ None) where
   -- it isn't before the last one
   pub goes_on_in_time : r.moments.last ≤ now
   goes_on_in_time = ltb-false now r.moments.last (none_is (causes_to_tick t r now) none).1.0
@@ -36,5 +36,5 @@ room_left t greatest left = for_each MAX_COUNTER greatest (app_count t) (ltb-fal
     for_each : (m g a : ℕ) → g + max 1 a ≤ m → g + a ≤ m
     for_each m g a h = omega arith
 
-pub leaves_room : (t : Table) (r : RunValue) (now : ℕ) → refusal_to_tick t r now ≡ None → greatest_counter r.origin r.state.known + app_count t ≤ MAX_COUNTER
+pub leaves_room : (t : Table) (r : RunningValue) (now : ℕ) → refusal_to_tick t r now ≡ None → greatest_counter r.origin r.state.known + app_count t ≤ MAX_COUNTER
 leaves_room t r now none = room_left t (greatest_counter r.origin r.state.known) (leaves_enough t r now none)

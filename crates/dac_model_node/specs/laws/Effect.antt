@@ -20,13 +20,13 @@ use Rattle.dac_ticks.specs.laws.TakesEffect.{commands_take_effect}
 use Rattle.dac_events.specs.declared.Command.{Command}
 use Rattle.dac_events.specs.declared.Command.TheVariants.{Down, Permit, Start, Stop, Drain, Takeover}
 use Rattle.dac_messages.specs.declared.event.Event.{Event}
-use Rattle.dac_messages.specs.declared.event.Event.TheVariants.{Boot, Crash, Command as Told, Tick, Ship, Hear, HearOp}
+use Rattle.dac_messages.specs.declared.event.Event.TheVariants.{Boot, Crash, Command as Commanded, Tick, Ship, Hear, HearOp}
 use Rattle.dac_commands.specs.Commands.{next_operation, next_term, act_of}
 use Rattle.dac_commands.specs.laws.Written.{none_is}
-use Rattle.dac_model_node.specs.NodeValue.{NodeValue, RunValue}
+use Rattle.dac_model_node.specs.NodeValue.{NodeValue, RunningValue}
 use Rattle.dac_model_node.specs.EventRefusals.{causes_to_tick, refusal_by, refusal_to_tick}
 use Rattle.dac_model_node.specs.Deeds.{opening_at, ticks_by}
-use Rattle.dac_model_node.specs.Accepted.{left_by, reply_by, run_by}
+use Rattle.dac_model_node.specs.Accepted.{left_by, reply_by, running_by}
 use Rattle.dac_model_node.specs.Effect.{HasEffect}
 use Rattle.dac_model_node.specs.laws.Numbers.{obeyed}
 use Rattle.dac_model_node.specs.laws.Writing.{no_off}
@@ -59,15 +59,15 @@ was_true : (b : Bool) → not b ≡ false → b ≡ true
 was_true true e = refl
 was_true false e = absurd (true≢false e)
 
-module _ (t : Table) (last : ℕ) (r : RunValue) (noted : List (Option Noted)) (is : IsState r.state) where
+module _ (t : Table) (last : ℕ) (r : RunningValue) (noted : List (Option Noted)) (is : IsState r.state) where
   abbrev before : NodeValue
-  before = record { last = last; run = Some r }
+  before = record { last = last; running = Some r }
 
-  abbrev after : Option RunValue → NodeValue
-  after run = record { last = last; run = run }
+  abbrev after : Option RunningValue → NodeValue
+  after running = record { last = last; running = running }
 
   tick_effect : (now : ℕ) (opening : Opening) → refusal_to_tick t r now ≡ None
-      → HasEffect t before (Tick now) (ticks_by opening t r noted now).reply (after (run_by r noted (ticks_by opening t r noted now)))
+      → HasEffect t before (Tick now) (ticks_by opening t r noted now).reply (after (running_by r noted (ticks_by opening t r noted now)))
   tick_effect now Shut none = record { left = λ o app i. absurd i; later = nothing_later r.state }
   tick_effect now GiveUp none = record { left = tt; later = nothing_later r.state }
   tick_effect now Opened none =
@@ -78,18 +78,18 @@ module _ (t : Table) (last : ℕ) (r : RunValue) (noted : List (Option Noted)) (
       }
 
 -- what is accepted takes effect
-pub takes_effect : (t : Table) (me : NodeId) (last : ℕ) (run : Option RunValue) (noted : List (Option Noted)) (e : Event) → refusal_by t last run e ≡ None → IfSome run (λ (r : RunValue). IsState r.state) →
-    HasEffect t (record { last = last; run = run }) e (reply_by t me last run noted e) (left_by t me last run noted e)
+pub takes_effect : (t : Table) (me : NodeId) (last : ℕ) (running : Option RunningValue) (noted : List (Option Noted)) (e : Event) → refusal_by t last running e ≡ None → IfSome running (λ (r : RunningValue). IsState r.state) →
+    HasEffect t (record { last = last; running = running }) e (reply_by t me last running noted e) (left_by t me last running noted e)
 takes_effect t me last None noted (Boot now) none is = record { left = tt; later = tt }
 takes_effect t me last None noted Crash none is = no_off none
-takes_effect t me last None noted (Told c) none is = no_off none
+takes_effect t me last None noted (Commanded c) none is = no_off none
 takes_effect t me last None noted (Tick now) none is = no_off none
 takes_effect t me last None noted (Ship to) none is = no_off none
 takes_effect t me last None noted (Hear m) none is = no_off none
 takes_effect t me last None noted (HearOp o) none is = no_off none
 takes_effect t me last (Some r) noted (Boot now) none is = record { left = tt; later = nothing_later r.state }
 takes_effect t me last (Some r) noted Crash none is = record { left = tt; later = nothing_later r.state }
-takes_effect t me last (Some r) noted (Told c) none is = record { left = commands_take_effect t r.origin r.state c is (obeyed t r c none).0; later = later_command t r.origin r.state c }
+takes_effect t me last (Some r) noted (Commanded c) none is = record { left = commands_take_effect t r.origin r.state c is (obeyed t r c none).0; later = later_command t r.origin r.state c }
 takes_effect t me last (Some r) noted (Tick now) none is = tick_effect t last r noted is now (opening_at t r now) none
 takes_effect t me last (Some r) noted (Ship to) none is = record { left = tt; later = nothing_later r.state }
 takes_effect t me last (Some r) noted (Hear m) none is = record { left = tt; later = nothing_later r.state }

@@ -21,13 +21,13 @@ use Rattle.dac_decide.specs.declared.start_gate.Opening.TheVariants.{Shut, Opene
 use Rattle.dac_decide.specs.declared.waits.Noted.{Noted}
 use Rattle.dac_messages.specs.Bodies.{content_of}
 use Rattle.dac_messages.specs.declared.event.Event.{Event}
-use Rattle.dac_messages.specs.declared.event.Event.TheVariants.{Boot, Crash, Command as Told, Tick, Ship, Hear, HearOp}
+use Rattle.dac_messages.specs.declared.event.Event.TheVariants.{Boot, Crash, Command as Commanded, Tick, Ship, Hear, HearOp}
 use Rattle.dac_events.specs.declared.refusal.Refusal.TheVariants.{AlreadyOn}
 use Rattle.dac_ticks.specs.Ticks.{turn_of}
-use Rattle.dac_model_node.specs.NodeValue.{RunValue, state_of}
+use Rattle.dac_model_node.specs.NodeValue.{RunningValue, state_of}
 use Rattle.dac_model_node.specs.EventRefusals.{refusal_by}
 use Rattle.dac_model_node.specs.Deeds.{deed_of, brings, meanings, opening_at, ticks_by}
-use Rattle.dac_model_node.specs.Accepted.{left_by, reply_by, run_by}
+use Rattle.dac_model_node.specs.Accepted.{left_by, reply_by, running_by}
 use Rattle.dac_model_node.specs.Hearing.{dots_brought, dots_issued, HearsExactly}
 use Rattle.dac_model_node.specs.laws.Options.{some_same}
 
@@ -75,14 +75,14 @@ body_heard : (s body : StateValue) (b : Bool) → is_below body s ≡ b → (fol
 body_heard s body true e = nothing_more s.heard body.heard ((is_below-is body s).1 e).heard
 body_heard s body false e = heard-join s body
 
-off_run : {P : Type 0} {r : RunValue} → None ≡ Some r → P
+off_run : {P : Type 0} {r : RunningValue} → None ≡ Some r → P
 off_run e = cc
 
 -- what runs after a deed has heard so much
-run_state : (r r' : RunValue) (s : StateValue) (x : RunValue) → x.state ≡ s → Some x ≡ Some r' → r'.state.heard ≡ s.heard
-run_state r r' s x is e = ap (λ (y : RunValue). y.state.heard) (sym (some_same x r' e)) ∙ ap (λ (u : StateValue). u.heard) is
+run_state : (r r' : RunningValue) (s : StateValue) (x : RunningValue) → x.state ≡ s → Some x ≡ Some r' → r'.state.heard ≡ s.heard
+run_state r r' s x is e = ap (λ (y : RunningValue). y.state.heard) (sym (some_same x r' e)) ∙ ap (λ (u : StateValue). u.heard) is
 
-tick_heard : (opening : Opening) (t : Table) (r : RunValue) (noted : List (Option Noted)) (now : ℕ) (r' : RunValue) → run_by r noted (ticks_by opening t r noted now) ≡ Some r'
+tick_heard : (opening : Opening) (t : Table) (r : RunningValue) (noted : List (Option Noted)) (now : ℕ) (r' : RunningValue) → running_by r noted (ticks_by opening t r noted now) ≡ Some r'
     → r'.state.heard ≡ set.union r.state.heard (dots_issued (ticks_by opening t r noted now).reply)
 tick_heard Shut t r noted now r' is = run_state r r' r.state _ refl is ∙ nothing_at_all r.state.heard
 tick_heard GiveUp t r noted now r' is = off_run is
@@ -91,14 +91,14 @@ tick_heard Opened t r noted now r' is =
     run_state r r' (fold join r.state (meanings ops)) _ refl is ∙ heard_all r.state ops
 
 -- what a running node has heard after an event that it accepts and doesn't go off by
-run_heard : (t : Table) (last : ℕ) (r : RunValue) (noted : List (Option Noted)) (e : Event) (r' : RunValue) → refusal_by t last (Some r) e ≡ None → run_by r noted (deed_of t r noted e) ≡ Some r'
+run_heard : (t : Table) (last : ℕ) (r : RunningValue) (noted : List (Option Noted)) (e : Event) (r' : RunningValue) → refusal_by t last (Some r) e ≡ None → running_by r noted (deed_of t r noted e) ≡ Some r'
     → r'.state.heard ≡ set.union r.state.heard (dots_brought e (deed_of t r noted e).reply)
 run_heard t last r noted (Boot now) r' none is = absurd (no none)
   where
     no : Some AlreadyOn ≡ None → ⊥
     no p = cc
 run_heard t last r noted Crash r' none is = off_run is
-run_heard t last r noted (Told c) r' none is = run_state r r' (join r.state _) _ refl is ∙ (heard-join r.state _ ∙ ap (set.union r.state.heard) (one_heard _))
+run_heard t last r noted (Commanded c) r' none is = run_state r r' (join r.state _) _ refl is ∙ (heard-join r.state _ ∙ ap (set.union r.state.heard) (one_heard _))
 run_heard t last r noted (Tick now) r' none is = tick_heard (opening_at t r now) t r noted now r' is
 run_heard t last r noted (Ship to) r' none is = run_state r r' r.state _ refl is ∙ nothing_at_all r.state.heard
 run_heard t last r noted (Hear m) r' none is =
@@ -109,7 +109,7 @@ run_heard t last r noted (HearOp o) r' none is =
     run_state r r' (fold join r.state (brings r.state body)) _ refl is
     ∙ (body_heard r.state body (is_below body r.state) refl ∙ ap (set.union r.state.heard) (one_heard o))
 
-state_there : (run : Option RunValue) (s : StateValue) → state_of (record { last = 0; run = run }) ≡ Some s → (r : RunValue) × ((run ≡ Some r) × (r.state ≡ s))
+state_there : (running : Option RunningValue) (s : StateValue) → state_of (record { last = 0; running = running }) ≡ Some s → (r : RunningValue) × ((running ≡ Some r) × (r.state ≡ s))
 state_there None s e = absurd (no e)
   where
     no : None ≡ Some s → ⊥
@@ -117,8 +117,8 @@ state_there None s e = absurd (no e)
 state_there (Some r) s e = (r, (refl, some_same r.state s e))
 
 -- an accepted event is heard exactly
-pub hears_exactly : (t : Table) (me : NodeId) (last : ℕ) (run : Option RunValue) (noted : List (Option Noted)) (e : Event) → refusal_by t last run e ≡ None
-    → HearsExactly (record { last = last; run = run }) e (reply_by t me last run noted e) (left_by t me last run noted e)
+pub hears_exactly : (t : Table) (me : NodeId) (last : ℕ) (running : Option RunningValue) (noted : List (Option Noted)) (e : Event) → refusal_by t last running e ≡ None
+    → HearsExactly (record { last = last; running = running }) e (reply_by t me last running noted e) (left_by t me last running noted e)
 hears_exactly t me last None noted e none = record {
   each = λ s u was is. absurd (no s was);
 }
@@ -128,7 +128,7 @@ hears_exactly t me last None noted e none = record {
 hears_exactly t me last (Some r) noted e none = record {
   each = λ s u was is.
       let deed = deed_of t r noted e in
-      let next = state_there (run_by r noted deed) u is in
+      let next = state_there (running_by r noted deed) u is in
       sym (ap (λ (x : StateValue). x.heard) next.1.1)
       ∙ (run_heard t last r noted e next.0 none next.1.0
       ∙ ap (λ (x : StateValue). set.union x.heard (dots_brought e deed.reply)) (some_same r.state s was));

@@ -6,27 +6,27 @@ use Rattle.dac_config.specs.Table.{Table}
 use Rattle.dac_meaning.specs.StateValue.{StateValue, join}
 use Rattle.dac_meaning.specs.Meaning.{meaning_of}
 use Rattle.dac_meaning.specs.Below.{is_below}
-use Rattle.dac_deltas.specs.Kept.{Kept, pushed, trimmed}
+use Rattle.dac_deltas.specs.KeptDeltas.{KeptDeltas, pushed, trimmed}
 use Rattle.dac_deltas.specs.laws.Logs.{same_kept, pushes_drop_together}
 use Rattle.dac_decide.specs.declared.start_gate.Opening.{Opening}
 use Rattle.dac_decide.specs.declared.start_gate.Opening.TheVariants.{Shut, Opened, GiveUp}
 use Rattle.dac_decide.specs.declared.waits.Noted.{Noted}
 use Rattle.dac_messages.specs.Bodies.{content_of}
 use Rattle.dac_messages.specs.declared.event.Event.{Event}
-use Rattle.dac_messages.specs.declared.event.Event.TheVariants.{Boot, Crash, Command as Told, Tick, Ship, Hear, HearOp}
-use Rattle.dac_model_node.specs.NodeValue.{RunValue}
+use Rattle.dac_messages.specs.declared.event.Event.TheVariants.{Boot, Crash, Command as Commanded, Tick, Ship, Hear, HearOp}
+use Rattle.dac_model_node.specs.NodeValue.{RunningValue}
 use Rattle.dac_model_node.specs.EventRefusals.{refusal_by}
 use Rattle.dac_model_node.specs.Refused.{tick_in}
 use Rattle.dac_model_node.specs.Deeds.{Deed, deed_of, opening_at, ticks_by}
-use Rattle.dac_model_node.specs.Accepted.{AreNewest, IsNotingBy, left_by, reply_by, run_by}
+use Rattle.dac_model_node.specs.Accepted.{AreNewest, IsNotingBy, left_by, reply_by, running_by}
 use Rattle.dac_model_node.specs.Keeping.{AreWaitsAfter, Keeps, LeavesRunning, RunsOn, deltas_in, had_by_all, is_open_after, kept_after, peers_after}
-use Rattle.dac_model_node.specs.laws.Writing.{NotesSo, gate, no_off, no_on}
+use Rattle.dac_model_node.specs.laws.Writing.{NotesSo, start_gate, no_off, no_on}
 use Rattle.dac_deltas.specs.declared.buffer.TheConstants.{MAX_DELTAS}
 
 -- ---- the deltas kept
 
 -- some more, and a trim
-kept_so : (k : Kept StateValue) → AreNewest k → (deltas : List StateValue) (trim : ℕ) → trimmed (fold pushed k deltas) trim ≡ kept_after k deltas trim
+kept_so : (k : KeptDeltas StateValue) → AreNewest k → (deltas : List StateValue) (trim : ℕ) → trimmed (fold pushed k deltas) trim ≡ kept_after k deltas trim
 kept_so k newest deltas trim =
     let numbered = newest.numbered in
     let few = newest.few in
@@ -36,7 +36,7 @@ kept_so k newest deltas trim =
     let more = min trim count - (k.base + gone) in
     let to : k.base + gone + more ≡ base = omega arith in
     let all : gone + more ≡ base - k.base = omega arith in
-    ap (λ (x : Kept StateValue). trimmed x trim) (pushes_drop_together k deltas few)
+    ap (λ (x : KeptDeltas StateValue). trimmed x trim) (pushes_drop_together k deltas few)
     ∙ same_kept _ _ _ _ _ _ refl to (drop-drop more gone (k.deltas ++ deltas) ∙ ap (λ n. drop n (k.deltas ++ deltas)) all)
 
 -- what comes is a delta exactly where it is answered as new
@@ -46,8 +46,8 @@ new_comes body false = refl
 
 -- ---- what runs on
 
-module _ (t : Table) (r : RunValue) (newest : AreNewest r.kept) (noted : List (Option Noted)) (e : Event) (deed : Deed) where
-  abbrev next : RunValue
+module _ (t : Table) (r : RunningValue) (newest : AreNewest r.kept) (noted : List (Option Noted)) (e : Event) (deed : Deed) where
+  abbrev next : RunningValue
   next = record {
     origin = r.origin;
     moments = record { booted = r.moments.booted; last = deed.last };
@@ -72,28 +72,28 @@ module _ (t : Table) (r : RunValue) (newest : AreNewest r.kept) (noted : List (O
 
 -- ---- all events
 
-module _ (t : Table) (last : ℕ) (r : RunValue) (newest : AreNewest r.kept) (noted : List (Option Noted)) where
-  -- a tick, where the gate answers so
+module _ (t : Table) (last : ℕ) (r : RunningValue) (newest : AreNewest r.kept) (noted : List (Option Noted)) where
+  -- a tick, where the start gate answers so
   tick_leaves : (now : ℕ) (opening : Opening) → opening_at t r now ≡ opening → ((ticks_by opening t r noted now).notes ≡ true → NotesSo t r now noted) →
-      LeavesRunning t r (Tick now) (ticks_by opening t r noted now).reply (run_by r noted (ticks_by opening t r noted now))
-  tick_leaves now Shut is so = runs_on t r newest noted (Tick now) (ticks_by Shut t r noted now) refl (sym (gate t r now r.is_open Shut refl is).0) refl refl refl refl
+      LeavesRunning t r (Tick now) (ticks_by opening t r noted now).reply (running_by r noted (ticks_by opening t r noted now))
+  tick_leaves now Shut is so = runs_on t r newest noted (Tick now) (ticks_by Shut t r noted now) refl (sym (start_gate t r now r.is_open Shut refl is).0) refl refl refl refl
   tick_leaves now GiveUp is so = refl
   tick_leaves now Opened is so = runs_on t r newest noted (Tick now) (ticks_by Opened t r noted now) refl refl (so refl) refl refl refl
 
-  leaves : (e : Event) → refusal_by t last (Some r) e ≡ None → IsNotingBy t (Some r) noted e → LeavesRunning t r e (deed_of t r noted e).reply (run_by r noted (deed_of t r noted e))
+  leaves : (e : Event) → refusal_by t last (Some r) e ≡ None → IsNotingBy t (Some r) noted e → LeavesRunning t r e (deed_of t r noted e).reply (running_by r noted (deed_of t r noted e))
   leaves (Boot now) none noting = no_on none
   leaves Crash none noting = refl
-  leaves (Told c) none noting = runs_on t r newest noted (Told c) (deed_of t r noted (Told c)) refl refl refl refl refl refl
+  leaves (Commanded c) none noting = runs_on t r newest noted (Commanded c) (deed_of t r noted (Commanded c)) refl refl refl refl refl refl
   leaves (Tick now) none noting = tick_leaves now (opening_at t r now) refl noting
   leaves (Ship to) none noting = runs_on t r newest noted (Ship to) (deed_of t r noted (Ship to)) refl refl refl refl refl refl
   leaves (Hear m) none noting = let body = content_of m.body in runs_on t r newest noted (Hear m) (deed_of t r noted (Hear m)) refl refl refl (new_comes body (is_below body r.state)) refl refl
   leaves (HearOp o) none noting = let body = meaning_of (o ∷ []) in runs_on t r newest noted (HearOp o) (deed_of t r noted (HearOp o)) refl refl refl (new_comes body (is_below body r.state)) refl refl
 
-pub keeps : (t : Table) (me : NodeId) (last : ℕ) (run : Option RunValue) (noted : List (Option Noted)) (e : Event) → refusal_by t last run e ≡ None → IfSome run (λ (r : RunValue). AreNewest r.kept) → IsNotingBy t run noted e →
-    Keeps t me (record { last = last; run = run }) e (reply_by t me last run noted e) (left_by t me last run noted e)
+pub keeps : (t : Table) (me : NodeId) (last : ℕ) (running : Option RunningValue) (noted : List (Option Noted)) (e : Event) → refusal_by t last running e ≡ None → IfSome running (λ (r : RunningValue). AreNewest r.kept) → IsNotingBy t running noted e →
+    Keeps t me (record { last = last; running = running }) e (reply_by t me last running noted e) (left_by t me last running noted e)
 keeps t me last None noted (Boot now) none newest noting = (refl, record { origin = refl; booted = refl; last = refl; is_open = refl; waits = refl; state = refl; peers = refl; kept = refl })
 keeps t me last None noted Crash none newest noting = no_off none
-keeps t me last None noted (Told c) none newest noting = no_off none
+keeps t me last None noted (Commanded c) none newest noting = no_off none
 keeps t me last None noted (Tick now) none newest noting = no_off none
 keeps t me last None noted (Ship to) none newest noting = no_off none
 keeps t me last None noted (Hear m) none newest noting = no_off none

@@ -19,12 +19,12 @@ use Rattle.dac_events.specs.declared.Command.{Command}
 use Rattle.dac_messages.specs.declared.message.Message.{Message}
 use Rattle.dac_messages.specs.Bodies.{content_of}
 use Rattle.dac_messages.specs.declared.event.Event.{Event}
-use Rattle.dac_messages.specs.declared.event.Event.TheVariants.{Boot, Crash, Command as Told, Tick, Ship, Hear, HearOp}
+use Rattle.dac_messages.specs.declared.event.Event.TheVariants.{Boot, Crash, Command as Commanded, Tick, Ship, Hear, HearOp}
 use Rattle.dac_events.specs.declared.refusal.Refusal.{Refusal}
 use Rattle.dac_events.specs.declared.refusal.Refusal.TheVariants.{DotsUsedUp}
 use Rattle.dac_commands.specs.Causes.{first, refusal_of_command}
 use Rattle.dac_commands.specs.laws.Written.{none_is}
-use Rattle.dac_model_node.specs.NodeValue.{RunValue}
+use Rattle.dac_model_node.specs.NodeValue.{RunningValue}
 use Rattle.dac_model_node.specs.EventRefusals.{needed, otherwise, overflows, refusal_on, causes_to_hear, refusal_to_hear, refusal_to_obey, too_many_deltas}
 use Rattle.dac_model_node.specs.Deeds.{brings, deed_of, meanings, opening_at, ticks_by}
 use Rattle.dac_model_node.specs.laws.Counters.{leaves_numbers}
@@ -34,7 +34,7 @@ either_none : (x y : Option Refusal) → otherwise x y ≡ None → (x ≡ None)
 either_none None y e = (refl, e)
 either_none (Some why) y e = cc
 
-pub obeyed : (t : Table) (r : RunValue) (c : Command) → refusal_to_obey t r c ≡ None → (refusal_of_command t r.origin r.state c ≡ None) × (too_many_deltas r 1 ≡ false)
+pub obeyed : (t : Table) (r : RunningValue) (c : Command) → refusal_to_obey t r c ≡ None → (refusal_of_command t r.origin r.state c ≡ None) × (too_many_deltas r 1 ≡ false)
 obeyed t r c none =
     let both = either_none (refusal_of_command t r.origin r.state c) (first ((too_many_deltas r 1, DotsUsedUp) ∷ [])) none in
     (both.0, (none_is ((too_many_deltas r 1, DotsUsedUp) ∷ []) both.1).0)
@@ -45,7 +45,7 @@ few_claims t own waits now s = turn_reaches t own waits now (λ n turn. length t
     turned_by t own waits now (λ (after : Turn). length after.ops ≤ n + 1) turn (numbered n) (λ none. omega arith) (λ mine used. omega arith)
     (λ mine left. let one = length-append turn.ops (claim_of t own turn.state (numbered n) ∷ []) in omega arith))
 
-module _ (r : RunValue) where
+module _ (r : RunningValue) where
   room_if : (more : ℕ) → too_many_deltas r more ≡ false → r.kept.count + more ≤ MAX_COUNTER
   room_if more h = ltb-false MAX_COUNTER (r.kept.count + more) h
 
@@ -57,7 +57,7 @@ module _ (r : RunValue) where
       by true e = omega arith
       by false e = room_if 1 e
 
-module _ (t : Table) (r : RunValue) (noted : List (Option Noted)) (countable : r.kept.count ≤ MAX_COUNTER) where
+module _ (t : Table) (r : RunningValue) (noted : List (Option Noted)) (countable : r.kept.count ≤ MAX_COUNTER) where
   nothing_more : r.kept.count + 0 ≤ MAX_COUNTER
   nothing_more = omega arith
 
@@ -78,7 +78,7 @@ module _ (t : Table) (r : RunValue) (noted : List (Option Noted)) (countable : r
   pub fits : (e : Event) → refusal_on t r e ≡ None → r.kept.count + length (deed_of t r noted e).adds ≤ MAX_COUNTER
   fits (Boot now) none = nothing_more
   fits Crash none = nothing_more
-  fits (Told c) none = room_if r 1 (obeyed t r c none).1
+  fits (Commanded c) none = room_if r 1 (obeyed t r c none).1
   fits (Tick now) none = room_to_tick (opening_at t r now) now (leaves_numbers t r now none)
   fits (Ship to) none = nothing_more
   fits (Hear m) none = room_to_hear r (content_of m.body) countable (not_heard m none)

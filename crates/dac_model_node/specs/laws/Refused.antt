@@ -25,7 +25,7 @@ use Rattle.dac_events.specs.declared.Command.{Command}
 use Rattle.dac_events.specs.declared.Command.TheVariants.{Down, Permit, Start, Stop, Drain, Takeover}
 use Rattle.dac_messages.specs.declared.message.Message.{Message}
 use Rattle.dac_messages.specs.declared.event.Event.{Event}
-use Rattle.dac_messages.specs.declared.event.Event.TheVariants.{Boot, Crash, Command as Told, Tick, Ship, Hear, HearOp}
+use Rattle.dac_messages.specs.declared.event.Event.TheVariants.{Boot, Crash, Command as Commanded, Tick, Ship, Hear, HearOp}
 use Rattle.dac_events.specs.declared.refusal.Refusal.{Refusal}
 use Rattle.dac_events.specs.declared.refusal.Refusal.TheVariants.{Off, AlreadyOn, DeclaredDown, UnknownApp, UnknownNode, OnSelf, NotInList, MomentBack, NotLive, NotStarted, NotEligible, NotRunning, AlreadyHolder, LowerPriority, NotForMe, UpToDate, TooManyDots, TermsUsedUp, DotsUsedUp, IncarnationsUsedUp, NoMemory}
 use Rattle.dac_events.specs.Refusals.{number_of}
@@ -33,9 +33,9 @@ use Rattle.dac_commands.specs.Causes.{first, refusal_of_command, no_node, no_app
 use Rattle.dac_commands.specs.Commands.{live_key, live_origin, standing_starts, standing_permits, standing_drains}
 use Rattle.dac_commands.specs.laws.Counters.{used_up_is}
 use Rattle.dac_commands.specs.laws.Terms.{terms_used_up_is}
-use Rattle.dac_model_node.specs.NodeValue.{NodeValue, RunValue}
+use Rattle.dac_model_node.specs.NodeValue.{NodeValue, RunningValue}
 use Rattle.dac_model_node.specs.EventRefusals.{needed, too_few_left, too_many_deltas, overflows, otherwise, is_for, refusal_by, refusal_of}
-use Rattle.dac_model_node.specs.laws.Places.{up_to_date_is}
+use Rattle.dac_model_node.specs.laws.Positions.{up_to_date_is}
 use Rattle.dac_model_node.specs.laws.Tests.{not_running_is, runs_earlier_is, too_few_is, lacks_for_tick}
 use Rattle.dac_model_node.specs.Refused.{causes_of_event, Holds, LacksNumbers, IsFor, IsOneOf, NoneHolds, IsLeastOf, IsFree, IsRefused, IsAnsweredBy, NeverWantsMemory}
 
@@ -185,9 +185,9 @@ is_on x = (λ e. absurd (false≢true e), λ e. absurd (true≢false (ap is_some
 
 -- ---- the table
 
-module _ (t : Table) (last : ℕ) (r : RunValue) where
+module _ (t : Table) (last : ℕ) (r : RunningValue) where
   abbrev here : NodeValue
-  here = record { last = last; run = Some r }
+  here = record { last = last; running = Some r }
 
   abbrev own : Origin
   own = r.origin
@@ -205,28 +205,28 @@ module _ (t : Table) (last : ℕ) (r : RunValue) where
 
   -- a command's last cause is that counters or numbers are used up
   obeys : (c : Command) (cs : List (Bool × Refusal)) → refusal_of_command t own s c ≡ first (cs ++ (used_up s own, DotsUsedUp) ∷ [])
-      → IsRight (Holds t here (Told c)) (causes_of_event (Told c)) (first (cs ++ (used_up s own || too_many_deltas r 1, DotsUsedUp) ∷ [])) → IsRight (Holds t here (Told c)) (causes_of_event (Told c)) (refusal_by t last (Some r) (Told c))
-  obeys c cs is right = subst (IsRight (Holds t here (Told c)) (causes_of_event (Told c))) (sym (ap (λ x. otherwise x (first ((too_many_deltas r 1, DotsUsedUp) ∷ []))) is ∙ one_list cs (used_up s own) (too_many_deltas r 1) DotsUsedUp)) right
+      → IsRight (Holds t here (Commanded c)) (causes_of_event (Commanded c)) (first (cs ++ (used_up s own || too_many_deltas r 1, DotsUsedUp) ∷ [])) → IsRight (Holds t here (Commanded c)) (causes_of_event (Commanded c)) (refusal_by t last (Some r) (Commanded c))
+  obeys c cs is right = subst (IsRight (Holds t here (Commanded c)) (causes_of_event (Commanded c))) (sym (ap (λ x. otherwise x (first ((too_many_deltas r 1, DotsUsedUp) ∷ []))) is ∙ one_list cs (used_up s own) (too_many_deltas r 1) DotsUsedUp)) right
 
-  on_command : (c : Command) → IsRight (Holds t here (Told c)) (causes_of_event (Told c)) (refusal_by t last (Some r) (Told c))
-  on_command (Down node) = obeys (Down node) ((declared_down own s, DeclaredDown) ∷ (no_node t node, UnknownNode) ∷ (nat_eq node.0 own.node.0, OnSelf) ∷ (not_live s node, NotLive) ∷ []) refl (first_is (Holds t here (Told (Down node))) 0 ((false, Off) ∷ (declared_down own s, DeclaredDown) ∷ (no_node t node, UnknownNode) ∷ (nat_eq node.0 own.node.0, OnSelf) ∷ (not_live s node, NotLive) ∷ (used_up s own || too_many_deltas r 1, DotsUsedUp) ∷ []) (causes_of_event (Told (Down node))) refl
+  on_command : (c : Command) → IsRight (Holds t here (Commanded c)) (causes_of_event (Commanded c)) (refusal_by t last (Some r) (Commanded c))
+  on_command (Down node) = obeys (Down node) ((declared_down own s, DeclaredDown) ∷ (no_node t node, UnknownNode) ∷ (nat_eq node.0 own.node.0, OnSelf) ∷ (not_live s node, NotLive) ∷ []) refl (first_is (Holds t here (Commanded (Down node))) 0 ((false, Off) ∷ (declared_down own s, DeclaredDown) ∷ (no_node t node, UnknownNode) ∷ (nat_eq node.0 own.node.0, OnSelf) ∷ (not_live s node, NotLive) ∷ (used_up s own || too_many_deltas r 1, DotsUsedUp) ∷ []) (causes_of_event (Commanded (Down node))) refl
       (refl, (is_on r, λ _. (refl, (declared_down_is own s, λ _. (refl, (at_least (node_count t) node.0, λ _. (refl, (same_node node own.node, λ _. (refl, (not_live_is s node, λ _. (refl, (used, λ _. tt)))))))))))))
-  on_command (Permit app node value) = obeys (Permit app node value) ((declared_down own s, DeclaredDown) ∷ (no_app t app, UnknownApp) ∷ (no_node t node, UnknownNode) ∷ (unlisted t app node, NotInList) ∷ (not_live s node, NotLive) ∷ (too_many (length (standing_permits s (live_key s app node))), TooManyDots) ∷ []) refl (first_is (Holds t here (Told (Permit app node value))) 0 ((false, Off) ∷ (declared_down own s, DeclaredDown) ∷ (no_app t app, UnknownApp) ∷ (no_node t node, UnknownNode) ∷ (unlisted t app node, NotInList) ∷ (not_live s node, NotLive) ∷ (too_many (length (standing_permits s (live_key s app node))), TooManyDots) ∷ (used_up s own || too_many_deltas r 1, DotsUsedUp) ∷ []) (causes_of_event (Told (Permit app node value))) refl
+  on_command (Permit app node value) = obeys (Permit app node value) ((declared_down own s, DeclaredDown) ∷ (no_app t app, UnknownApp) ∷ (no_node t node, UnknownNode) ∷ (unlisted t app node, NotInList) ∷ (not_live s node, NotLive) ∷ (too_many (length (standing_permits s (live_key s app node))), TooManyDots) ∷ []) refl (first_is (Holds t here (Commanded (Permit app node value))) 0 ((false, Off) ∷ (declared_down own s, DeclaredDown) ∷ (no_app t app, UnknownApp) ∷ (no_node t node, UnknownNode) ∷ (unlisted t app node, NotInList) ∷ (not_live s node, NotLive) ∷ (too_many (length (standing_permits s (live_key s app node))), TooManyDots) ∷ (used_up s own || too_many_deltas r 1, DotsUsedUp) ∷ []) (causes_of_event (Commanded (Permit app node value))) refl
       (refl, (is_on r, λ _. (refl, (declared_down_is own s, λ _. (refl, (at_least (app_count t) app.0, λ _. (refl, (at_least (node_count t) node.0, λ _. (refl, (is_missing (group_of t app node), λ _. (refl, (not_live_is s node, λ _. (refl, (less MAX_REPLACED (length (standing_permits s (live_key s app node))), λ _. (refl, (used, λ _. tt)))))))))))))))))
-  on_command (Start app node) = obeys (Start app node) ((declared_down own s, DeclaredDown) ∷ (no_app t app, UnknownApp) ∷ (no_node t node, UnknownNode) ∷ (unlisted t app node, NotInList) ∷ (not_live s node, NotLive) ∷ (too_many (length (standing_starts s (live_key s app node))), TooManyDots) ∷ []) refl (first_is (Holds t here (Told (Start app node))) 0 ((false, Off) ∷ (declared_down own s, DeclaredDown) ∷ (no_app t app, UnknownApp) ∷ (no_node t node, UnknownNode) ∷ (unlisted t app node, NotInList) ∷ (not_live s node, NotLive) ∷ (too_many (length (standing_starts s (live_key s app node))), TooManyDots) ∷ (used_up s own || too_many_deltas r 1, DotsUsedUp) ∷ []) (causes_of_event (Told (Start app node))) refl
+  on_command (Start app node) = obeys (Start app node) ((declared_down own s, DeclaredDown) ∷ (no_app t app, UnknownApp) ∷ (no_node t node, UnknownNode) ∷ (unlisted t app node, NotInList) ∷ (not_live s node, NotLive) ∷ (too_many (length (standing_starts s (live_key s app node))), TooManyDots) ∷ []) refl (first_is (Holds t here (Commanded (Start app node))) 0 ((false, Off) ∷ (declared_down own s, DeclaredDown) ∷ (no_app t app, UnknownApp) ∷ (no_node t node, UnknownNode) ∷ (unlisted t app node, NotInList) ∷ (not_live s node, NotLive) ∷ (too_many (length (standing_starts s (live_key s app node))), TooManyDots) ∷ (used_up s own || too_many_deltas r 1, DotsUsedUp) ∷ []) (causes_of_event (Commanded (Start app node))) refl
       (refl, (is_on r, λ _. (refl, (declared_down_is own s, λ _. (refl, (at_least (app_count t) app.0, λ _. (refl, (at_least (node_count t) node.0, λ _. (refl, (is_missing (group_of t app node), λ _. (refl, (not_live_is s node, λ _. (refl, (less MAX_REPLACED (length (standing_starts s (live_key s app node))), λ _. (refl, (used, λ _. tt)))))))))))))))))
-  on_command (Stop app node) = obeys (Stop app node) ((declared_down own s, DeclaredDown) ∷ (no_app t app, UnknownApp) ∷ (no_node t node, UnknownNode) ∷ (unlisted t app node, NotInList) ∷ (not_live s node, NotLive) ∷ (not_wished s (live_key s app node), NotStarted) ∷ (too_many (length (standing_starts s (live_key s app node))), TooManyDots) ∷ []) refl (first_is (Holds t here (Told (Stop app node))) 0 ((false, Off) ∷ (declared_down own s, DeclaredDown) ∷ (no_app t app, UnknownApp) ∷ (no_node t node, UnknownNode) ∷ (unlisted t app node, NotInList) ∷ (not_live s node, NotLive) ∷ (not_wished s (live_key s app node), NotStarted) ∷ (too_many (length (standing_starts s (live_key s app node))), TooManyDots) ∷ (used_up s own || too_many_deltas r 1, DotsUsedUp) ∷ []) (causes_of_event (Told (Stop app node))) refl
+  on_command (Stop app node) = obeys (Stop app node) ((declared_down own s, DeclaredDown) ∷ (no_app t app, UnknownApp) ∷ (no_node t node, UnknownNode) ∷ (unlisted t app node, NotInList) ∷ (not_live s node, NotLive) ∷ (not_wished s (live_key s app node), NotStarted) ∷ (too_many (length (standing_starts s (live_key s app node))), TooManyDots) ∷ []) refl (first_is (Holds t here (Commanded (Stop app node))) 0 ((false, Off) ∷ (declared_down own s, DeclaredDown) ∷ (no_app t app, UnknownApp) ∷ (no_node t node, UnknownNode) ∷ (unlisted t app node, NotInList) ∷ (not_live s node, NotLive) ∷ (not_wished s (live_key s app node), NotStarted) ∷ (too_many (length (standing_starts s (live_key s app node))), TooManyDots) ∷ (used_up s own || too_many_deltas r 1, DotsUsedUp) ∷ []) (causes_of_event (Commanded (Stop app node))) refl
       (refl, (is_on r, λ _. (refl, (declared_down_is own s, λ _. (refl, (at_least (app_count t) app.0, λ _. (refl, (at_least (node_count t) node.0, λ _. (refl, (is_missing (group_of t app node), λ _. (refl, (not_live_is s node, λ _. (refl, (fails (is_wished (live_key s app node) (wishes_of s)) (is_wished-some (live_key s app node) (wishes_of s)), λ _. (refl, (less MAX_REPLACED (length (standing_starts s (live_key s app node))), λ _. (refl, (used, λ _. tt)))))))))))))))))))
-  on_command (Drain node value) = obeys (Drain node value) ((declared_down own s, DeclaredDown) ∷ (no_node t node, UnknownNode) ∷ (not_live s node, NotLive) ∷ (too_many (length (standing_drains s (live_origin s node))), TooManyDots) ∷ []) refl (first_is (Holds t here (Told (Drain node value))) 0 ((false, Off) ∷ (declared_down own s, DeclaredDown) ∷ (no_node t node, UnknownNode) ∷ (not_live s node, NotLive) ∷ (too_many (length (standing_drains s (live_origin s node))), TooManyDots) ∷ (used_up s own || too_many_deltas r 1, DotsUsedUp) ∷ []) (causes_of_event (Told (Drain node value))) refl
+  on_command (Drain node value) = obeys (Drain node value) ((declared_down own s, DeclaredDown) ∷ (no_node t node, UnknownNode) ∷ (not_live s node, NotLive) ∷ (too_many (length (standing_drains s (live_origin s node))), TooManyDots) ∷ []) refl (first_is (Holds t here (Commanded (Drain node value))) 0 ((false, Off) ∷ (declared_down own s, DeclaredDown) ∷ (no_node t node, UnknownNode) ∷ (not_live s node, NotLive) ∷ (too_many (length (standing_drains s (live_origin s node))), TooManyDots) ∷ (used_up s own || too_many_deltas r 1, DotsUsedUp) ∷ []) (causes_of_event (Commanded (Drain node value))) refl
       (refl, (is_on r, λ _. (refl, (declared_down_is own s, λ _. (refl, (at_least (node_count t) node.0, λ _. (refl, (not_live_is s node, λ _. (refl, (less MAX_REPLACED (length (standing_drains s (live_origin s node))), λ _. (refl, (used, λ _. tt)))))))))))))
-  on_command (Takeover app) = obeys (Takeover app) ((declared_down own s, DeclaredDown) ∷ (no_app t app, UnknownApp) ∷ (unlisted t app own.node, NotInList) ∷ (not (is_eligible t s app own.node), NotEligible) ∷ (not (is_some (runner_of t s app)), NotRunning) ∷ (runs_at t s app own.node, AlreadyHolder) ∷ (runs_earlier t s app own.node, LowerPriority) ∷ (terms_used_up s app, TermsUsedUp) ∷ []) refl (first_is (Holds t here (Told (Takeover app))) 0 ((false, Off) ∷ (declared_down own s, DeclaredDown) ∷ (no_app t app, UnknownApp) ∷ (unlisted t app own.node, NotInList) ∷ (not (is_eligible t s app own.node), NotEligible) ∷ (not (is_some (runner_of t s app)), NotRunning) ∷ (runs_at t s app own.node, AlreadyHolder) ∷ (runs_earlier t s app own.node, LowerPriority) ∷ (terms_used_up s app, TermsUsedUp) ∷ (used_up s own || too_many_deltas r 1, DotsUsedUp) ∷ []) (causes_of_event (Told (Takeover app))) refl
+  on_command (Takeover app) = obeys (Takeover app) ((declared_down own s, DeclaredDown) ∷ (no_app t app, UnknownApp) ∷ (unlisted t app own.node, NotInList) ∷ (not (is_eligible t s app own.node), NotEligible) ∷ (not (is_some (runner_of t s app)), NotRunning) ∷ (runs_at t s app own.node, AlreadyHolder) ∷ (runs_earlier t s app own.node, LowerPriority) ∷ (terms_used_up s app, TermsUsedUp) ∷ []) refl (first_is (Holds t here (Commanded (Takeover app))) 0 ((false, Off) ∷ (declared_down own s, DeclaredDown) ∷ (no_app t app, UnknownApp) ∷ (unlisted t app own.node, NotInList) ∷ (not (is_eligible t s app own.node), NotEligible) ∷ (not (is_some (runner_of t s app)), NotRunning) ∷ (runs_at t s app own.node, AlreadyHolder) ∷ (runs_earlier t s app own.node, LowerPriority) ∷ (terms_used_up s app, TermsUsedUp) ∷ (used_up s own || too_many_deltas r 1, DotsUsedUp) ∷ []) (causes_of_event (Commanded (Takeover app))) refl
       (refl, (is_on r, λ _. (refl, (declared_down_is own s, λ _. (refl, (at_least (app_count t) app.0, λ _. (refl, (is_missing (group_of t app own.node), λ _. (refl, (fails (is_eligible t s app own.node) (eligible_is t s app own.node), λ _. (refl, (not_running_is t s app, λ _. (refl, (runs_is t s app own.node, λ _. (refl, (runs_earlier_is t s app own.node, λ _. (refl, (terms_used_up_is s app, λ _. (refl, (used, λ _. tt)))))))))))))))))))))
 
   on_event : (e : Event) → IsRight (Holds t here e) (causes_of_event e) (refusal_by t last (Some r) e)
   on_event (Boot now) = first_is (Holds t here (Boot now)) 0 ((true, AlreadyOn) ∷ (false, IncarnationsUsedUp) ∷ []) (causes_of_event (Boot now)) refl
       (refl, ((λ _. tt, λ _. refl), λ off. absurd (true≢false off)))
   on_event Crash = first_is (Holds t here Crash) 0 ((false, Off) ∷ []) (causes_of_event Crash) refl (refl, (is_on r, λ _. tt))
-  on_event (Told c) = on_command c
+  on_event (Commanded c) = on_command c
   on_event (Tick now) =
       let left = either (too_few_left t s own) (too_many_deltas r (needed t)) (too_few_is t s own) (less MAX_COUNTER (r.kept.count + needed t)) in
       let lacks = lacks_for_tick r (app_count t) in
@@ -241,7 +241,7 @@ module _ (t : Table) (last : ℕ) (r : RunValue) where
 
 module _ (t : Table) (last : ℕ) where
   abbrev gone : NodeValue
-  gone = record { last = last; run = None }
+  gone = record { last = last; running = None }
 
   off_first : (e : Event) (rs : List Refusal) → rises (number_of Off) rs ≡ true → IsLeastOf (Holds t gone e) (Off ∷ rs) Off
   off_first e rs h = at_head (Holds t gone e) Off rs h refl
@@ -250,28 +250,28 @@ module _ (t : Table) (last : ℕ) where
   off_event (Boot now) = first_is (Holds t gone (Boot now)) 0 ((false, AlreadyOn) ∷ (nat_le MAX_INCARNATION last, IncarnationsUsedUp) ∷ []) (causes_of_event (Boot now)) refl
       (refl, ((λ e. absurd (false≢true e), λ e. absurd e), λ _. (refl, (at_least MAX_INCARNATION last, λ _. tt))))
   off_event Crash = off_first Crash [] refl
-  off_event (Told (Down node)) = off_first (Told (Down node)) (DeclaredDown ∷ UnknownNode ∷ OnSelf ∷ NotLive ∷ DotsUsedUp ∷ []) refl
-  off_event (Told (Permit app node value)) = off_first (Told (Permit app node value)) (DeclaredDown ∷ UnknownApp ∷ UnknownNode ∷ NotInList ∷ NotLive ∷ TooManyDots ∷ DotsUsedUp ∷ []) refl
-  off_event (Told (Start app node)) = off_first (Told (Start app node)) (DeclaredDown ∷ UnknownApp ∷ UnknownNode ∷ NotInList ∷ NotLive ∷ TooManyDots ∷ DotsUsedUp ∷ []) refl
-  off_event (Told (Stop app node)) = off_first (Told (Stop app node)) (DeclaredDown ∷ UnknownApp ∷ UnknownNode ∷ NotInList ∷ NotLive ∷ NotStarted ∷ TooManyDots ∷ DotsUsedUp ∷ []) refl
-  off_event (Told (Drain node value)) = off_first (Told (Drain node value)) (DeclaredDown ∷ UnknownNode ∷ NotLive ∷ TooManyDots ∷ DotsUsedUp ∷ []) refl
-  off_event (Told (Takeover app)) = off_first (Told (Takeover app)) (DeclaredDown ∷ UnknownApp ∷ NotInList ∷ NotEligible ∷ NotRunning ∷ AlreadyHolder ∷ LowerPriority ∷ TermsUsedUp ∷ DotsUsedUp ∷ []) refl
+  off_event (Commanded (Down node)) = off_first (Commanded (Down node)) (DeclaredDown ∷ UnknownNode ∷ OnSelf ∷ NotLive ∷ DotsUsedUp ∷ []) refl
+  off_event (Commanded (Permit app node value)) = off_first (Commanded (Permit app node value)) (DeclaredDown ∷ UnknownApp ∷ UnknownNode ∷ NotInList ∷ NotLive ∷ TooManyDots ∷ DotsUsedUp ∷ []) refl
+  off_event (Commanded (Start app node)) = off_first (Commanded (Start app node)) (DeclaredDown ∷ UnknownApp ∷ UnknownNode ∷ NotInList ∷ NotLive ∷ TooManyDots ∷ DotsUsedUp ∷ []) refl
+  off_event (Commanded (Stop app node)) = off_first (Commanded (Stop app node)) (DeclaredDown ∷ UnknownApp ∷ UnknownNode ∷ NotInList ∷ NotLive ∷ NotStarted ∷ TooManyDots ∷ DotsUsedUp ∷ []) refl
+  off_event (Commanded (Drain node value)) = off_first (Commanded (Drain node value)) (DeclaredDown ∷ UnknownNode ∷ NotLive ∷ TooManyDots ∷ DotsUsedUp ∷ []) refl
+  off_event (Commanded (Takeover app)) = off_first (Commanded (Takeover app)) (DeclaredDown ∷ UnknownApp ∷ NotInList ∷ NotEligible ∷ NotRunning ∷ AlreadyHolder ∷ LowerPriority ∷ TermsUsedUp ∷ DotsUsedUp ∷ []) refl
   off_event (Tick now) = off_first (Tick now) (DeclaredDown ∷ MomentBack ∷ DotsUsedUp ∷ []) refl
   off_event (Ship to) = off_first (Ship to) (UnknownNode ∷ OnSelf ∷ UpToDate ∷ []) refl
   off_event (Hear m) = off_first (Hear m) (OnSelf ∷ NotForMe ∷ DotsUsedUp ∷ []) refl
   off_event (HearOp o) = off_first (HearOp o) (DotsUsedUp ∷ []) refl
 
-refusal_by_is : (t : Table) (last : ℕ) (run : Option RunValue) (e : Event) → IsRight (Holds t (record { last = last; run = run }) e) (causes_of_event e) (refusal_by t last run e)
+refusal_by_is : (t : Table) (last : ℕ) (running : Option RunningValue) (e : Event) → IsRight (Holds t (record { last = last; running = running }) e) (causes_of_event e) (refusal_by t last running e)
 refusal_by_is t last None e = off_event t last e
 refusal_by_is t last (Some r) e = on_event t last r e
 
 -- nothing refuses an event that the table lets through
 pub free_is : (t : Table) (v : NodeValue) (e : Event) → refusal_of t v e ≡ None → IsFree t v e
-free_is t v e is = subst (IsRight (Holds t v e) (causes_of_event e)) is (refusal_by_is t v.last v.run e)
+free_is t v e is = subst (IsRight (Holds t v e) (causes_of_event e)) is (refusal_by_is t v.last v.running e)
 
 -- the table answers the least cause
 pub refused_is : (t : Table) (v : NodeValue) (e : Event) (why : Refusal) → refusal_of t v e ≡ Some why → IsRefused t v e why
-refused_is t v e why is = subst (IsRight (Holds t v e) (causes_of_event e)) is (refusal_by_is t v.last v.run e)
+refused_is t v e why is = subst (IsRight (Holds t v e) (causes_of_event e)) is (refusal_by_is t v.last v.running e)
 
 answered_by : (t : Table) (v : NodeValue) (e : Event) (why : Refusal) (r : Option Refusal) → refusal_of t v e ≡ r → why ≡ unwrap_or r NoMemory → IsAnsweredBy t v e why
 answered_by t v e why None none is = inr (is, free_is t v e none)

@@ -7,78 +7,78 @@ use Rattle.std.proofs.lemmas.Bool.{leb-true, leb-false}
 use Rattle.dac_base.specs.declared.NodeId.{NodeId}
 use Rattle.dac_config.specs.Table.{Table}
 use Rattle.dac_meaning.specs.StateValue.{bottom, join}
-use Rattle.dac_peers.specs.declared.places.Place.{Place}
+use Rattle.dac_peers.specs.declared.positions.Position.{Position}
 use Rattle.dac_peers.specs.Peers.{begins}
 use Rattle.dac_messages.specs.declared.message.Body.TheVariants.{Nothing, Interval}
 use Rattle.dac_messages.specs.declared.event.Event.{Event}
-use Rattle.dac_messages.specs.declared.event.Event.TheVariants.{Boot, Crash, Command as Told, Tick, Ship, Hear, HearOp}
+use Rattle.dac_messages.specs.declared.event.Event.TheVariants.{Boot, Crash, Command as Commanded, Tick, Ship, Hear, HearOp}
 use Rattle.dac_messages.specs.declared.reply.Reply.{Reply}
 use Rattle.dac_messages.specs.declared.reply.Reply.TheVariants.{Shipped}
 use Rattle.dac_events.specs.declared.refusal.Refusal.{Refusal}
-use Rattle.dac_model_node.specs.NodeValue.{NodeValue, RunValue}
-use Rattle.dac_model_node.specs.ModelNode.{ModelRun, joined, run_shown}
+use Rattle.dac_model_node.specs.NodeValue.{NodeValue, RunningValue}
+use Rattle.dac_model_node.specs.ModelNode.{ModelRunning, joined, running_shown}
 use Rattle.dac_model_node.specs.EventRefusals.{refusal_to_ship}
 use Rattle.dac_model_node.specs.Deeds.{body_from, message_of}
 use Rattle.dac_model_node.specs.Accepted.{AcceptedAs}
 use Rattle.dac_model_node.specs.Step.{model_step, step_by}
-use Rattle.dac_model_node.specs.Shipping.{IsPlace, IsBody, IsReceipt, IsShipped, ShipsBy, ShipsSo, ShipsInWords}
-use Rattle.dac_model_node.specs.laws.Places.{begins_is}
+use Rattle.dac_model_node.specs.Shipping.{IsPosition, IsBody, IsAckShipped, IsShipped, ShipsBy, ShipsSo, ShipsInWords}
+use Rattle.dac_model_node.specs.laws.Positions.{begins_is}
 use Rattle.dac_model_node.specs.laws.Steps.{steps}
 
-module _ (t : Table) (r : ModelRun) (to : NodeId) where
-  abbrev here : RunValue
-  here = run_shown t r
+module _ (t : Table) (r : ModelRunning) (to : NodeId) where
+  abbrev here : RunningValue
+  here = running_shown t r
 
-  abbrev from_place : Option Place
-  from_place = begins here.peers here.state here.kept.base to
+  abbrev from_position : Option Position
+  from_position = begins here.peers here.state here.kept.base to
 
-  -- what is kept from a place on is what the log has from there on
-  from_there : (p : Place) → r.base ≤ p.number → fold join bottom (drop (p.number - r.base) (drop r.base r.log)) ≡ joined (drop p.number r.log)
+  -- what is kept from a position on is what the log has from there on
+  from_there : (p : Position) → r.base ≤ p.number → fold join bottom (drop (p.number - r.base) (drop r.base r.log)) ≡ joined (drop p.number r.log)
   from_there p h =
       let whole : r.base + (p.number - r.base) ≡ p.number = omega arith in
       ap joined (drop-drop (p.number - r.base) r.base r.log ∙ ap (λ n. drop n r.log) whole)
 
-  at_place : (p : Place) → IsPlace here to p → (b : Bool) → nat_le (length r.log) p.number ≡ b → IsBody t r to (Some p.inc) (cond b Nothing (Interval (fold join bottom (drop (p.number - r.base) (drop r.base r.log)))))
-  at_place p is true all = (p, (is, (refl, leb-true (length r.log) p.number all)))
-  at_place p is false more = let less = leb-false (length r.log) p.number more in (p, (is, (refl, (omega arith, from_there p is.kept))))
+  at_position : (p : Position) → IsPosition here to p → (b : Bool) → nat_le (length r.log) p.number ≡ b → IsBody t r to (Some p.inc) (cond b Nothing (Interval (fold join bottom (drop (p.number - r.base) (drop r.base r.log)))))
+  at_position p is true all = (p, (is, (refl, leb-true (length r.log) p.number all)))
+  at_position p is false more = let less = leb-false (length r.log) p.number more in (p, (is, (refl, (omega arith, from_there p is.kept))))
 
-  body_is : (from : Option Place) → from_place ≡ from → IsBody t r to (option_map (λ (p : Place). p.inc) from) (body_from here from)
+  body_is : (from : Option Position) → from_position ≡ from → IsBody t r to (option_map (λ (p : Position). p.inc) from) (body_from here from)
   body_is None none = (refl, (refl, λ p is. no p ((sym none) ∙ (begins_is here to p).1 is)))
     where
-      no : (p : Place) → None ≡ Some p → ⊥
+      no : (p : Position) → None ≡ Some p → ⊥
       no p e = cc
-  body_is (Some p) is = at_place p ((begins_is here to p).0 is) (nat_le (length r.log) p.number) refl
+  body_is (Some p) is = at_position p ((begins_is here to p).0 is) (nat_le (length r.log) p.number) refl
 
-  receipt_is : (got : Option Place) → map.get r.peers.got to ≡ got → IsReceipt r to (option_map (λ (g : Place). (record { node = to; inc = g.inc }, g.number)) got)
-  receipt_is None none = none
-  receipt_is (Some g) is = (refl, is)
+  ack_is : (got : Option Position) → map.get r.peers.got to ≡ got → IsAckShipped r to (option_map (λ (g : Position). (record { node = to; inc = g.inc }, g.number)) got)
+  ack_is None none = none
+  ack_is (Some g) is = (refl, is)
 
   pub message_is : IsShipped t r to (message_of here to)
-  message_is = record { from = refl; to = refl; up_to = refl; body = body_is from_place refl; ack = receipt_is (map.get r.peers.got to) refl }
+  message_is = record { from = refl; to = refl; up_to = refl; body = body_is from_position refl; ack = ack_is (map.get r.peers.got to) refl }
 
 -- by whether the ship is refused
-by_refusal : (t : Table) (me : NodeId) (last : ℕ) (r : ModelRun) (to : NodeId) (x : Option Refusal) (reply : Reply) → (step_by x t me (record { last = last; run = Some r }) (Ship to)).answer ≡ Ok reply → ShipsBy t (Some r) (Ship to) reply
+by_refusal : (t : Table) (me : NodeId) (last : ℕ) (r : ModelRunning) (to : NodeId) (x : Option Refusal) (reply : Reply) → (step_by x t me (record { last = last; running = Some r }) (Ship to)).answer ≡ Ok reply → ShipsBy t (Some r) (Ship to) reply
 by_refusal t me last r to (Some why) reply is = cc
-by_refusal t me last r to None reply is = let same : Shipped (message_of (run_shown t r) to) ≡ reply = cc in subst (ShipsBy t (Some r) (Ship to)) same (message_is t r to)
+by_refusal t me last r to None reply is = let same : Shipped (message_of (running_shown t r) to) ≡ reply = cc in subst (ShipsBy t (Some r) (Ship to)) same (message_is t r to)
 
-by_run : (t : Table) (me : NodeId) (last : ℕ) (run : Option ModelRun) (e : Event) (reply : Reply) → (model_step t me (record { last = last; run = run }) e).answer ≡ Ok reply → ShipsBy t run e reply
-by_run t me last (Some r) (Ship to) reply is = by_refusal t me last r to (refusal_to_ship t (run_shown t r) to) reply is
+by_run : (t : Table) (me : NodeId) (last : ℕ) (running : Option ModelRunning) (e : Event) (reply : Reply) → (model_step t me (record { last = last; running = running }) e).answer ≡ Ok reply → ShipsBy t running e reply
+by_run t me last (Some r) (Ship to) reply is = by_refusal t me last r to (refusal_to_ship t (running_shown t r) to) reply is
 by_run t me last None (Ship to) reply is = cc
 by_run t me last (Some r) (Boot now) reply is = tt
 by_run t me last (Some r) Crash reply is = tt
-by_run t me last (Some r) (Told c) reply is = tt
+by_run t me last (Some r) (Commanded c) reply is = tt
 by_run t me last (Some r) (Tick now) reply is = tt
 by_run t me last (Some r) (Hear m) reply is = tt
 by_run t me last (Some r) (HearOp o) reply is = tt
 by_run t me last None (Boot now) reply is = tt
 by_run t me last None Crash reply is = tt
-by_run t me last None (Told c) reply is = tt
+by_run t me last None (Commanded c) reply is = tt
 by_run t me last None (Tick now) reply is = tt
 by_run t me last None (Hear m) reply is = tt
 by_run t me last None (HearOp o) reply is = tt
 
 pub ships_in_words : ShipsInWords
-ships_in_words t me d e reply is = by_run t me d.last d.run e reply is
+ships_in_words t me d e reply is = by_run t me d.last d.running e reply is
 
 -- so does each model node that shows as a value, where the value is accepted so
 pub ships_so : (t : Table) (me : NodeId) (old : NodeValue) (e : Event) (new : NodeValue) (reply : Reply) → AcceptedAs t me old e new reply → ShipsSo t old e reply

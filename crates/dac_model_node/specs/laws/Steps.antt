@@ -7,7 +7,7 @@ use Rattle.std.proofs.lemmas.List.Sums.{fold-append}
 use Rattle.dac_base.specs.declared.NodeId.{NodeId}
 use Rattle.dac_config.specs.Table.{Table}
 use Rattle.dac_meaning.specs.StateValue.{StateValue, bottom, join}
-use Rattle.dac_deltas.specs.Kept.{pushed, trimmed}
+use Rattle.dac_deltas.specs.KeptDeltas.{pushed, trimmed}
 use Rattle.dac_deltas.specs.Logs.{kept_of}
 use Rattle.dac_deltas.specs.laws.Logs.{pushes_append_all, trims_move_the_base}
 use Rattle.dac_peers.specs.Peers.{PeersValue}
@@ -16,16 +16,16 @@ use Rattle.dac_decide.specs.declared.start_gate.Opening.TheVariants.{Shut, Opene
 use Rattle.dac_decide.specs.declared.waits.Noted.{Noted}
 use Rattle.dac_decide.specs.FailoverWait.{Note, waits_of}
 use Rattle.dac_messages.specs.declared.event.Event.{Event}
-use Rattle.dac_messages.specs.declared.event.Event.TheVariants.{Boot, Crash, Command as Told, Tick, Ship, Hear, HearOp}
+use Rattle.dac_messages.specs.declared.event.Event.TheVariants.{Boot, Crash, Command as Commanded, Tick, Ship, Hear, HearOp}
 use Rattle.dac_messages.specs.declared.reply.Reply.{Reply}
 use Rattle.dac_events.specs.declared.refusal.Refusal.{Refusal}
 use Rattle.dac_events.specs.declared.refusal.Refusal.TheVariants.{NoMemory}
-use Rattle.dac_model_node.specs.NodeValue.{NodeValue, RunValue, off}
-use Rattle.dac_model_node.specs.ModelNode.{ModelNode, ModelRun, base_after, shown, run_shown, joined}
+use Rattle.dac_model_node.specs.NodeValue.{NodeValue, RunningValue, off}
+use Rattle.dac_model_node.specs.ModelNode.{ModelNode, ModelRunning, base_after, shown, running_shown, joined}
 use Rattle.dac_model_node.specs.EventRefusals.{refusal_of}
 use Rattle.dac_model_node.specs.Deeds.{Deed, deed_of, ticks_by, opening_at, note_of}
 use Rattle.dac_model_node.specs.Step.{model_step, step_by, accepted, deed_on, goes_on, Stepped, Steps, IsShown}
-use Rattle.dac_model_node.specs.Accepted.{AcceptedAs, AreNewest, IsNoting, IsNotingBy, run_by, left_by, reply_by}
+use Rattle.dac_model_node.specs.Accepted.{AcceptedAs, AreNewest, IsNoting, IsNotingBy, running_by, left_by, reply_by}
 use Rattle.dac_deltas.specs.declared.buffer.TheConstants.{MAX_DELTAS}
 
 -- more states joined
@@ -33,25 +33,25 @@ pub joined-append : (log states : List StateValue) → joined (log ++ states) �
 joined-append log states = fold-append join bottom log states
 
 -- ---- a deed that notes nothing looks at nothing that is noted
-quiet_tick : (opening : Opening) (t : Table) (r : RunValue) (n m : List (Option Noted)) (now : ℕ) → (ticks_by opening t r n now).notes ≡ false → ticks_by opening t r n now ≡ ticks_by opening t r m now
+quiet_tick : (opening : Opening) (t : Table) (r : RunningValue) (n m : List (Option Noted)) (now : ℕ) → (ticks_by opening t r n now).notes ≡ false → ticks_by opening t r n now ≡ ticks_by opening t r m now
 quiet_tick Shut t r n m now h = refl
 quiet_tick GiveUp t r n m now h = refl
 quiet_tick Opened t r n m now h = absurd (true≢false h)
 
-quiet_deed : (t : Table) (r : RunValue) (n m : List (Option Noted)) (e : Event) → (deed_of t r n e).notes ≡ false → deed_of t r n e ≡ deed_of t r m e
+quiet_deed : (t : Table) (r : RunningValue) (n m : List (Option Noted)) (e : Event) → (deed_of t r n e).notes ≡ false → deed_of t r n e ≡ deed_of t r m e
 quiet_deed t r n m (Boot now) h = refl
 quiet_deed t r n m Crash h = refl
-quiet_deed t r n m (Told c) h = refl
+quiet_deed t r n m (Commanded c) h = refl
 quiet_deed t r n m (Tick now) h = quiet_tick (opening_at t r now) t r n m now h
 quiet_deed t r n m (Ship to) h = refl
 quiet_deed t r n m (Hear msg) h = refl
 quiet_deed t r n m (HearOp o) h = refl
 
-quiet_run : (r : RunValue) (n m : List (Option Noted)) (deed : Deed) → deed.notes ≡ false → run_by r n deed ≡ run_by r m deed
+quiet_run : (r : RunningValue) (n m : List (Option Noted)) (deed : Deed) → deed.notes ≡ false → running_by r n deed ≡ running_by r m deed
 quiet_run r n m deed h =
     ap (λ (b : Bool). with b n) h ∙ sym (ap (λ (b : Bool). with b m) h)
   where
-    with : Bool → List (Option Noted) → Option RunValue
+    with : Bool → List (Option Noted) → Option RunningValue
     with b noted = cond deed.goes_off None (Some (record {
       origin = r.origin;
       moments = record { booted = r.moments.booted; last = deed.last };
@@ -63,11 +63,11 @@ quiet_run r n m deed h =
     }))
 
 -- what is done and what is left depend on what is noted only where the event notes
-pub same_deed : (t : Table) (r : RunValue) (n m : List (Option Noted)) (e : Event) → ((deed_of t r n e).notes ≡ true → n ≡ m) → (deed_of t r n e ≡ deed_of t r m e) × (run_by r n (deed_of t r n e) ≡ run_by r m (deed_of t r m e))
+pub same_deed : (t : Table) (r : RunningValue) (n m : List (Option Noted)) (e : Event) → ((deed_of t r n e).notes ≡ true → n ≡ m) → (deed_of t r n e ≡ deed_of t r m e) × (running_by r n (deed_of t r n e) ≡ running_by r m (deed_of t r m e))
 same_deed t r n m e same =
-    elim (deed_of t r n e).notes as (λ b. (deed_of t r n e).notes ≡ b → (deed_of t r n e ≡ deed_of t r m e) × (run_by r n (deed_of t r n e) ≡ run_by r m (deed_of t r m e))) [
-      | true ↦ λ h. (ap (λ k. deed_of t r k e) (same h), ap (λ k. run_by r k (deed_of t r k e)) (same h))
-      | false ↦ λ h. (quiet_deed t r n m e h, quiet_run r n m (deed_of t r n e) h ∙ ap (run_by r m) (quiet_deed t r n m e h))
+    elim (deed_of t r n e).notes as (λ b. (deed_of t r n e).notes ≡ b → (deed_of t r n e ≡ deed_of t r m e) × (running_by r n (deed_of t r n e) ≡ running_by r m (deed_of t r m e))) [
+      | true ↦ λ h. (ap (λ k. deed_of t r k e) (same h), ap (λ k. running_by r k (deed_of t r k e)) (same h))
+      | false ↦ λ h. (quiet_deed t r n m e h, quiet_run r n m (deed_of t r n e) h ∙ ap (running_by r m) (quiet_deed t r n m e h))
     ] refl
 
 -- ---- what the model node shows as after a deed
@@ -80,51 +80,51 @@ kept-after base log adds trim newest =
     let few = newest.few in
     sym (ap (λ k. trimmed k trim) (pushes_append_all base log adds (omega arith) (omega arith)) ∙ trims_move_the_base (max base (length (log ++ adds) - MAX_DELTAS)) (log ++ adds) trim)
 
-module _ (t : Table) (r : ModelRun) (newest : AreNewest (kept_of r.base r.log)) (note : Note) (last : ℕ) (is_open : Bool) (adds : List StateValue) (peers : PeersValue) (trim : ℕ) where
+module _ (t : Table) (r : ModelRunning) (newest : AreNewest (kept_of r.base r.log)) (note : Note) (last : ℕ) (is_open : Bool) (adds : List StateValue) (peers : PeersValue) (trim : ℕ) where
   -- the model node with these notes
-  abbrev later : List Note → ModelRun
+  abbrev later : List Note → ModelRunning
   later notes = record { origin = r.origin; moments = record { booted = r.moments.booted; last = last }; is_open = is_open; notes = notes; log = r.log ++ adds; base = base_after r.base (length (r.log ++ adds)) trim; peers = peers }
 
   -- the program's with these waits
-  abbrev value : List (Option Noted) → RunValue
+  abbrev value : List (Option Noted) → RunningValue
   value waits = record { origin = r.origin; moments = record { booted = r.moments.booted; last = last }; is_open = is_open; waits = waits; state = fold join (joined r.log) adds; kept = trimmed (fold pushed (kept_of r.base r.log) adds) trim; peers = peers }
 
-  later_shown : (notes : List Note) → run_shown t (later notes) ≡ value (waits_of t notes)
+  later_shown : (notes : List Note) → running_shown t (later notes) ≡ value (waits_of t notes)
   later_shown notes = λ i. record { origin = r.origin; moments = record { booted = r.moments.booted; last = last }; is_open = is_open; waits = waits_of t notes; state = joined-append r.log adds i; kept = kept-after r.base r.log adds trim newest i; peers = peers }
 
-  shown_run : (off notes : Bool) → option_map (run_shown t) (cond off None (Some (later (cond notes (note ∷ r.notes) r.notes)))) ≡ cond off None (Some (value (cond notes (waits_of t (note ∷ r.notes)) (waits_of t r.notes))))
+  shown_run : (off notes : Bool) → option_map (running_shown t) (cond off None (Some (later (cond notes (note ∷ r.notes) r.notes)))) ≡ cond off None (Some (value (cond notes (waits_of t (note ∷ r.notes)) (waits_of t r.notes))))
   shown_run true notes = refl
-  shown_run false true = ap (λ (x : RunValue). Some x) (later_shown (note ∷ r.notes))
-  shown_run false false = ap (λ (x : RunValue). Some x) (later_shown r.notes)
+  shown_run false true = ap (λ (x : RunningValue). Some x) (later_shown (note ∷ r.notes))
+  shown_run false false = ap (λ (x : RunningValue). Some x) (later_shown r.notes)
 
 -- the same deed is done, where the program notes as the definition does
-pub deed_same : (t : Table) (r : ModelRun) (noted : List (Option Noted)) (e : Event) → AreNewest (kept_of r.base r.log) → IsNoting t (run_shown t r) noted e
-    → (deed_on t r e ≡ deed_of t (run_shown t r) noted e) × (option_map (run_shown t) (goes_on r (note_of (joined r.log) e) (deed_on t r e)) ≡ run_by (run_shown t r) noted (deed_of t (run_shown t r) noted e))
+pub deed_same : (t : Table) (r : ModelRunning) (noted : List (Option Noted)) (e : Event) → AreNewest (kept_of r.base r.log) → IsNoting t (running_shown t r) noted e
+    → (deed_on t r e ≡ deed_of t (running_shown t r) noted e) × (option_map (running_shown t) (goes_on r (note_of (joined r.log) e) (deed_on t r e)) ≡ running_by (running_shown t r) noted (deed_of t (running_shown t r) noted e))
 deed_same t r noted e newest noting =
-    let here = run_shown t r in
+    let here = running_shown t r in
     let own = waits_of t (note_of (joined r.log) e ∷ r.notes) in
     let same = same_deed t here noted own e (λ h. noting h r.notes refl) in
     let deed = deed_on t r e in
     (sym same.0, shown_run t r newest (note_of (joined r.log) e) deed.last deed.is_open deed.adds deed.peers deed.trim deed.goes_off deed.notes ∙ sym same.1)
 
 -- the deltas that a running node keeps are the newest
-abbrev AreNewestBy : Option RunValue → Type 0
-AreNewestBy run = IfSome run (λ (r : RunValue). AreNewest r.kept)
+abbrev AreNewestBy : Option RunningValue → Type 0
+AreNewestBy running = IfSome running (λ (r : RunningValue). AreNewest r.kept)
 
 -- after an accepted event it shows as what the rules on values leave
-pub shown_accepted : (t : Table) (me : NodeId) (last : ℕ) (run : Option ModelRun) (noted : List (Option Noted)) (e : Event) → AreNewestBy (option_map (run_shown t) run) → IsNotingBy t (option_map (run_shown t) run) noted e
-    → shown t (accepted t me last run e).node ≡ left_by t me last (option_map (run_shown t) run) noted e
+pub shown_accepted : (t : Table) (me : NodeId) (last : ℕ) (running : Option ModelRunning) (noted : List (Option Noted)) (e : Event) → AreNewestBy (option_map (running_shown t) running) → IsNotingBy t (option_map (running_shown t) running) noted e
+    → shown t (accepted t me last running e).node ≡ left_by t me last (option_map (running_shown t) running) noted e
 shown_accepted t me last None noted e newest noting = refl
-shown_accepted t me last (Some r) noted e newest noting = ap (λ run. record { last = last; run = run }) (deed_same t r noted e newest noting).1
+shown_accepted t me last (Some r) noted e newest noting = ap (λ running. record { last = last; running = running }) (deed_same t r noted e newest noting).1
 
 -- and answers their reply
-pub answer_accepted : (t : Table) (me : NodeId) (last : ℕ) (run : Option ModelRun) (noted : List (Option Noted)) (e : Event) → AreNewestBy (option_map (run_shown t) run) → IsNotingBy t (option_map (run_shown t) run) noted e
-    → (accepted t me last run e).answer ≡ Ok (reply_by t me last (option_map (run_shown t) run) noted e)
+pub answer_accepted : (t : Table) (me : NodeId) (last : ℕ) (running : Option ModelRunning) (noted : List (Option Noted)) (e : Event) → AreNewestBy (option_map (running_shown t) running) → IsNotingBy t (option_map (running_shown t) running) noted e
+    → (accepted t me last running e).answer ≡ Ok (reply_by t me last (option_map (running_shown t) running) noted e)
 answer_accepted t me last None noted e newest noting = refl
 answer_accepted t me last (Some r) noted e newest noting = ap (λ (deed : Deed). Ok deed.reply) (deed_same t r noted e newest noting).0
 
 -- the step where nothing refuses
-pub step_accepted : (t : Table) (me : NodeId) (d : ModelNode) (e : Event) → refusal_of t (shown t d) e ≡ None → model_step t me d e ≡ accepted t me d.last d.run e
+pub step_accepted : (t : Table) (me : NodeId) (d : ModelNode) (e : Event) → refusal_of t (shown t d) e ≡ None → model_step t me d e ≡ accepted t me d.last d.running e
 step_accepted t me d e none = ap (λ r. step_by r t me d e) none
 
 -- a value that is accepted so is a step of each model node that shows as the old one
@@ -134,8 +134,8 @@ steps t me old e new reply p = record { by = λ d same. subst (λ v. AcceptedAs 
     from : (d : ModelNode) → AcceptedAs t me (shown t d) e new reply → (shown t (model_step t me d e).node ≡ new) × ((model_step t me d e).answer ≡ Ok reply)
     from d q =
         let st = step_accepted t me d e q.accepted in (
-          ap (λ (s : Stepped). shown t s.node) st ∙ (shown_accepted t me d.last d.run q.noted e q.newest q.noting ∙ sym q.left),
-          ap (λ (s : Stepped). s.answer) st ∙ (answer_accepted t me d.last d.run q.noted e q.newest q.noting ∙ ap (λ r. Ok r) (sym q.reply)),
+          ap (λ (s : Stepped). shown t s.node) st ∙ (shown_accepted t me d.last d.running q.noted e q.newest q.noting ∙ sym q.left),
+          ap (λ (s : Stepped). s.answer) st ∙ (answer_accepted t me d.last d.running q.noted e q.newest q.noting ∙ ap (λ r. Ok r) (sym q.reply)),
         )
 
 -- an event that is refused by the table is a step that changes nothing
@@ -156,7 +156,7 @@ answered_steps t me v e why is other = by_refusal (refusal_of t v e) refl is
 
 -- Some model node shows as a node that is off. Where one shows as a node, one shows as what it becomes by a step
 pub off_shown : (t : Table) (last : ℕ) → IsShown t (off last)
-off_shown t last = (record { last = last; run = None }, refl)
+off_shown t last = (record { last = last; running = None }, refl)
 
 pub stays_shown : (t : Table) (me : NodeId) (old : NodeValue) (e : Event) (new : NodeValue) (reply : Reply) → AcceptedAs t me old e new reply → IsShown t old → IsShown t new
 stays_shown t me old e new reply p is = ((model_step t me is.0 e).node, ((steps t me old e new reply p).by is.0 is.1).0)

@@ -18,7 +18,7 @@ use Rattle.dac_commands.specs.Commands.{greatest_counter}
 use Rattle.dac_commands.specs.Causes.{runs_earlier, used_up}
 use Rattle.dac_commands.specs.laws.Counters.{counter-greatest, used_up_is, next_of_is}
 use Rattle.dac_model_node.specs.EventRefusals.{needed, too_few_left}
-use Rattle.dac_model_node.specs.NodeValue.{RunValue}
+use Rattle.dac_model_node.specs.NodeValue.{RunningValue}
 use Rattle.dac_model_node.specs.Refused.{LeavesFewer, LacksFor}
 
 -- ---- where an application runs
@@ -107,13 +107,13 @@ lack_more : (m n a b : ℕ) → a ≤ b → m < n + a → m < n + b
 lack_more m n a b le h = omega arith
 
 -- where so many are lacking, more are
-lacks_more : (r : RunValue) (a b : ℕ) → a ≤ b → LacksFor r a → LacksFor r b
+lacks_more : (r : RunningValue) (a b : ℕ) → a ≤ b → LacksFor r a → LacksFor r b
 lacks_more r a b le h = elim h [
   | inl few ↦ inl (few.0, (few.1.0, lack_more MAX_COUNTER few.0 a b le few.1.1))
   | inr none ↦ inr (lack_more MAX_COUNTER r.kept.count a b le none)
 ]
 
-pub lacks_for_tick : (r : RunValue) (a : ℕ) → LacksFor r (max 1 a) ↔ (LacksFor r 1 ⊎ LacksFor r a)
+pub lacks_for_tick : (r : RunningValue) (a : ℕ) → LacksFor r (max 1 a) ↔ (LacksFor r 1 ⊎ LacksFor r a)
 lacks_for_tick r a = (
   λ h. elim (most_is a) [
     | inl one ↦ inl (subst (LacksFor r) one h)

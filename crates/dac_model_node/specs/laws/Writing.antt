@@ -16,14 +16,14 @@ use Rattle.dac_decide.specs.StartGate.{IsOpening, opening_of}
 use Rattle.dac_decide.specs.laws.AllUp.{opening_is}
 use Rattle.dac_messages.specs.Bodies.{content_of}
 use Rattle.dac_messages.specs.declared.event.Event.{Event}
-use Rattle.dac_messages.specs.declared.event.Event.TheVariants.{Boot, Crash, Command as Told, Tick, Ship, Hear, HearOp}
+use Rattle.dac_messages.specs.declared.event.Event.TheVariants.{Boot, Crash, Command as Commanded, Tick, Ship, Hear, HearOp}
 use Rattle.dac_events.specs.declared.refusal.Refusal.TheVariants.{Off, AlreadyOn}
 use Rattle.dac_commands.specs.Commands.{greatest_counter}
 use Rattle.dac_commands.specs.laws.Written.{writes_what_is_said}
 use Rattle.dac_ticks.specs.Ticks.{turn_of}
 use Rattle.dac_ticks.specs.InWords.{IsTurn}
 use Rattle.dac_ticks.specs.laws.Words.{turn_in_words}
-use Rattle.dac_model_node.specs.NodeValue.{RunValue}
+use Rattle.dac_model_node.specs.NodeValue.{RunningValue}
 use Rattle.dac_model_node.specs.EventRefusals.{refusal_by}
 use Rattle.dac_model_node.specs.Deeds.{message_of, opening_at, ticks_by}
 use Rattle.dac_model_node.specs.Accepted.{IsNotingBy, reply_by}
@@ -33,26 +33,26 @@ use Rattle.dac_model_node.specs.laws.Numbers.{obeyed}
 
 -- ---- ticks
 
-module _ (t : Table) (r : RunValue) (now : ℕ) where
+module _ (t : Table) (r : RunningValue) (now : ℕ) where
   abbrev elapsed : ℕ
   elapsed = now - r.moments.booted
 
-  -- the gate was open, or answers so now
-  abbrev pub IsGate : Opening → Type 0
-  IsGate Opened = (r.is_open ≡ true) ⊎ IsAsked t r now Opened
-  IsGate Shut = IsAsked t r now Shut
-  IsGate GiveUp = IsAsked t r now GiveUp
+  -- the start gate was open, or answers so now
+  abbrev pub IsStartGate : Opening → Type 0
+  IsStartGate Opened = (r.is_open ≡ true) ⊎ IsAsked t r now Opened
+  IsStartGate Shut = IsAsked t r now Shut
+  IsStartGate GiveUp = IsAsked t r now GiveUp
 
   asked : (opening : Opening) → r.is_open ≡ false → opening_of t r.state elapsed ≡ opening → IsAsked t r now opening
   asked opening was is = (was, subst (IsOpening t r.state elapsed) is (opening_is t r.state elapsed))
 
-  pub gate : (b : Bool) (opening : Opening) → r.is_open ≡ b → cond b Opened (opening_of t r.state elapsed) ≡ opening → IsGate opening
-  gate true Opened was is = inl was
-  gate true Shut was is = cc
-  gate true GiveUp was is = cc
-  gate false Opened was is = inr (asked Opened was is)
-  gate false Shut was is = asked Shut was is
-  gate false GiveUp was is = asked GiveUp was is
+  pub start_gate : (b : Bool) (opening : Opening) → r.is_open ≡ b → cond b Opened (opening_of t r.state elapsed) ≡ opening → IsStartGate opening
+  start_gate true Opened was is = inl was
+  start_gate true Shut was is = cc
+  start_gate true GiveUp was is = cc
+  start_gate false Opened was is = inr (asked Opened was is)
+  start_gate false Shut was is = asked Shut was is
+  start_gate false GiveUp was is = asked GiveUp was is
 
   -- what the notes of the ticks say with this tick's
   abbrev pub NotesSo : List (Option Noted) → Type 0
@@ -65,9 +65,9 @@ module _ (t : Table) (r : RunValue) (now : ℕ) where
       subst (λ w. IsTurn t r.origin all now r.state (apps_of t) (turn_of t r.origin w now r.state).ops (turn_of t r.origin w now r.state).passed) (sym (so notes are)) (turn_in_words t r.origin all now r.state room)
 
   ticks_so : (opening : Opening) (noted : List (Option Noted)) → opening_at t r now ≡ opening → greatest_counter r.origin r.state.known + app_count t ≤ MAX_COUNTER → ((ticks_by opening t r noted now).notes ≡ true → NotesSo noted) → TicksSo t r now (ticks_by opening t r noted now).reply
-  ticks_so Shut noted is room so = gate r.is_open Shut refl is
-  ticks_so GiveUp noted is room so = gate r.is_open GiveUp refl is
-  ticks_so Opened noted is room so = (gate r.is_open Opened refl is, claims_so noted (so refl) room)
+  ticks_so Shut noted is room so = start_gate r.is_open Shut refl is
+  ticks_so GiveUp noted is room so = start_gate r.is_open GiveUp refl is
+  ticks_so Opened noted is room so = (start_gate r.is_open Opened refl is, claims_so noted (so refl) room)
 
 -- ---- what comes
 
@@ -86,17 +86,17 @@ no_off e = cc
 pub no_on : {P : Type 0} → Some AlreadyOn ≡ None → P
 no_on e = cc
 
-pub writes : (t : Table) (me : NodeId) (last : ℕ) (run : Option RunValue) (noted : List (Option Noted)) (e : Event) → refusal_by t last run e ≡ None → IsNotingBy t run noted e →
-    Writes t me (record { last = last; run = run }) e (reply_by t me last run noted e)
+pub writes : (t : Table) (me : NodeId) (last : ℕ) (running : Option RunningValue) (noted : List (Option Noted)) (e : Event) → refusal_by t last running e ≡ None → IsNotingBy t running noted e →
+    Writes t me (record { last = last; running = running }) e (reply_by t me last running noted e)
 writes t me last None noted (Boot now) none noting = (refl, refl)
-writes t me last None noted (Told c) none noting = no_off none
+writes t me last None noted (Commanded c) none noting = no_off none
 writes t me last None noted (Tick now) none noting = no_off none
 writes t me last None noted Crash none noting = no_off none
 writes t me last None noted (Ship to) none noting = no_off none
 writes t me last None noted (Hear m) none noting = no_off none
 writes t me last None noted (HearOp o) none noting = no_off none
 writes t me last (Some r) noted (Boot now) none noting = no_on none
-writes t me last (Some r) noted (Told c) none noting = writes_what_is_said t r.origin r.state c (obeyed t r c none).0
+writes t me last (Some r) noted (Commanded c) none noting = writes_what_is_said t r.origin r.state c (obeyed t r c none).0
 writes t me last (Some r) noted (Tick now) none noting = ticks_so t r now (opening_at t r now) noted refl (leaves_room t r now none) noting
 writes t me last (Some r) noted Crash none noting = refl
 writes t me last (Some r) noted (Ship to) none noting = (message_of r to, refl)

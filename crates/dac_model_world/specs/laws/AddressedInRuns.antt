@@ -19,8 +19,8 @@ use Rattle.dac_messages.specs.declared.event.Event.TheVariants.{Tick, Ship}
 use Rattle.dac_events.specs.declared.refusal.Refusal.TheVariants.{Off}
 use Rattle.dac_events.specs.declared.world_fault.WorldFault.{WorldFault}
 use Rattle.dac_events.specs.declared.world_fault.WorldFault.TheVariants.{NoSuchNode}
-use Rattle.dac_model_node.specs.NodeValue.{RunValue}
-use Rattle.dac_model_node.specs.ModelNode.{ModelRun, joined, shown, run_shown}
+use Rattle.dac_model_node.specs.NodeValue.{RunningValue}
+use Rattle.dac_model_node.specs.ModelNode.{ModelRunning, joined, shown, running_shown}
 use Rattle.dac_model_node.specs.EventRefusals.{refusal_of, refusal_by}
 use Rattle.dac_model_node.specs.Deeds.{ticks_by, opening_at, note_of}
 use Rattle.dac_model_node.specs.Step.{step_by, accepted}
@@ -45,14 +45,14 @@ ships_to os ms (Hand k) to e = no_operation (counted os k) (Ship to) (λ x p. cc
 ships_to os ms _ to e = cc
 
 -- ---- one event of the world
-tick_ships_none : (t : Table) (e : WorldEvent) (r : RunValue) (noted : List (Option Noted)) (now : ℕ) (opening : Opening) → ((to : NodeId) → e.what ≡ Ships to → ⊥) → IsAddressed e (Ok (ticks_by opening t r noted now).reply)
+tick_ships_none : (t : Table) (e : WorldEvent) (r : RunningValue) (noted : List (Option Noted)) (now : ℕ) (opening : Opening) → ((to : NodeId) → e.what ≡ Ships to → ⊥) → IsAddressed e (Ok (ticks_by opening t r noted now).reply)
 tick_ships_none t e r noted now Shut none = none
 tick_ships_none t e r noted now GiveUp none = none
 tick_ships_none t e r noted now Opened none = none
 
 module _ (t : Table) (w : ModelWorld) (s : SetWorld) (h : Sound w s) (e : WorldEvent) where
-  abbrev refused_by : Option ModelRun → Event → Type 0
-  refused_by run at = refusal_by t (w.node e.node).last (option_map (run_shown t) run) at ≡ None
+  abbrev refused_by : Option ModelRunning → Event → Type 0
+  refused_by running at = refusal_by t (w.node e.node).last (option_map (running_shown t) running) at ≡ None
 
   off_ships_none : (to : NodeId) → refused_by None (Ship to) → ⊥
   off_ships_none to p = no p
@@ -60,13 +60,13 @@ module _ (t : Table) (w : ModelWorld) (s : SetWorld) (h : Sound w s) (e : WorldE
       no : Some Off ≡ None → ⊥
       no q = cc
 
-  addressed_ok : (at : Event) (run : Option ModelRun) → event_of w.operations w.messages e.what ≡ Ok at → refused_by run at → (w.node e.node).run ≡ run →
-      let step = accepted t e.node (w.node e.node).last run at in
+  addressed_ok : (at : Event) (running : Option ModelRunning) → event_of w.operations w.messages e.what ≡ Ok at → refused_by running at → (w.node e.node).running ≡ running →
+      let step = accepted t e.node (w.node e.node).last running at in
       IsAddressed e (answered_by w e.node step.node step.answer).answer
   addressed_ok at None is none on = λ to ships. other_event w.operations w.messages e at to is ships (λ same. off_ships_none to (subst (refused_by None) same none))
   addressed_ok (Ship to) (Some r) is none on = (ships_to w.operations w.messages e.what to is, ap (λ (q : Origin). q.node) (held_at w s e.node r h on).mine)
   addressed_ok (Tick now) (Some r) is none on =
-      tick_ships_none t e (run_shown t r) (waits_of t (note_of (joined r.log) (Tick now) ∷ r.notes)) now (opening_at t (run_shown t r) now) (λ to ships. other_event w.operations w.messages e (Tick now) to is ships (λ same. cc))
+      tick_ships_none t e (running_shown t r) (waits_of t (note_of (joined r.log) (Tick now) ∷ r.notes)) now (opening_at t (running_shown t r) now) (λ to ships. other_event w.operations w.messages e (Tick now) to is ships (λ same. cc))
   addressed_ok at (Some r) is none on = λ to ships. other_event w.operations w.messages e at to is ships (λ same. cc)
 
   addressed_by : IsAddressed e (happens_by t w e.node (event_of w.operations w.messages e.what)).answer
@@ -76,7 +76,7 @@ module _ (t : Table) (w : ModelWorld) (s : SetWorld) (h : Sound w s) (e : WorldE
         | Err fault ↦ λ _. tt
         | Ok at ↦ λ is. elim (refusal_of t (shown t (w.node n)) at) as (λ r. refusal_of t (shown t (w.node n)) at ≡ r → IsAddressed e (answered_by w n (step_by r t n (w.node n) at).node (step_by r t n (w.node n) at).answer).answer) [
           | Some why ↦ λ _. tt
-          | None ↦ λ none. addressed_ok at (w.node n).run is none refl
+          | None ↦ λ none. addressed_ok at (w.node n).running is none refl
         ] refl
       ] refl
 

@@ -17,12 +17,12 @@ use Rattle.dac_dots.specs.Dots.{origin_cmp}
 use Rattle.dac_dots.specs.laws.Dots.{origins_total, exact_origins}
 use Rattle.dac_operations.specs.Operations.{Operation}
 use Rattle.dac_meaning.specs.StateValue.{StateValue}
-use Rattle.dac_meaning.specs.Meaning.{meaning_of, In, Within, Agree}
+use Rattle.dac_meaning.specs.Meaning.{meaning_of, IsOperationOf, AreOperationsOf, DotsDetermine}
 use Rattle.dac_meaning.specs.Below.{is_below}
 use Rattle.dac_meaning.specs.laws.Below.{is_below-is}
 use Rattle.dac_deltas.specs.Numbers.{Numbers, greater, raised}
-use Rattle.dac_model_node.specs.Place.{Place}
-use Rattle.dac_model_node.specs.Peers.{PeersValue, no_peers, acked_by, acked_at, kept_from, begins, later, got_after, got_by, counts, acked_after, heard_from, receipt, shipped_to}
+use Rattle.dac_model_node.specs.Position.{Position}
+use Rattle.dac_model_node.specs.Peers.{PeersValue, no_peers, acked_by, acked_at, kept_from, begins, later, got_after, got_by, counts, acked_after, heard_from, ack_for, shipped_to}
 use Rattle.dac_messages.specs.declared.message.Body.{Body}
 use Rattle.dac_messages.specs.declared.message.Body.TheVariants.{Nothing}
 use Rattle.dac_messages.specs.declared.message.Message.{Message}
@@ -42,8 +42,8 @@ none_some e = cc
 pub record PeersOk (v : NodeId → Seen) (n : NodeId) (last : ℕ) (p : PeersValue) : Type 0 where
   -- an incarnation that acknowledged so many has the first so many of this log
   pub acked : (k : Origin) (a : ℕ) → map.get p.acked k ≡ Some a → Covered (v n) (v k.node) last a k.inc
-  -- this node has the log up to the place that was got
-  pub got : (f : NodeId) (g : Place) → map.get p.got f ≡ Some g → Covered (v f) (v n) g.inc g.number last
+  -- this node has the log up to the position that was got
+  pub got : (f : NodeId) (g : Position) → map.get p.got f ≡ Some g → Covered (v f) (v n) g.inc g.number last
 
 pub PeersOk-later : (v u : NodeId → Seen) (n : NodeId) (last : ℕ) (p : PeersValue) → ((m : NodeId) → Later (v m) (u m)) → PeersOk v n last p → PeersOk u n last p
 PeersOk-later v u n last p l h = record {
@@ -74,7 +74,7 @@ greater_ok : (x y : Seen) (j b i : ℕ) (c : Option ℕ) → ((a : ℕ) → c �
 greater_ok x y j b i None old new = new
 greater_ok x y j b i (Some a) old new = Covered-max x y j a b i (old a refl) new
 
-later_ok : (x y : Seen) (i : ℕ) (g h : Place) → Covered x y g.inc g.number i → Covered x y h.inc h.number i → Covered x y (later g h).inc (later g h).number i
+later_ok : (x y : Seen) (i : ℕ) (g h : Position) → Covered x y g.inc g.number i → Covered x y h.inc h.number i → Covered x y (later g h).inc (later g h).number i
 later_ok x y i g h old new =
     elim (nat_lt g.inc h.inc) as (λ b. let l = cond b h (cond (nat_eq g.inc h.inc) (record { inc = g.inc; number = max g.number h.number }) g) in Covered x y l.inc l.number i) [
       | true ↦ new
@@ -84,7 +84,7 @@ later_ok x y i g h old new =
       ] refl
     ]
 
-got_ok : (x y : Seen) (i : ℕ) (c : Option Place) (h : Place) → ((g : Place) → c ≡ Some g → Covered x y g.inc g.number i) → Covered x y h.inc h.number i → Covered x y (got_after c h).inc (got_after c h).number i
+got_ok : (x y : Seen) (i : ℕ) (c : Option Position) (h : Position) → ((g : Position) → c ≡ Some g → Covered x y g.inc g.number i) → Covered x y h.inc h.number i → Covered x y (got_after c h).inc (got_after c h).number i
 got_ok x y i None h old new = new
 got_ok x y i (Some g) h old new = later_ok x y i g h (old g refl) new
 
@@ -123,10 +123,10 @@ acked_ok v n last count from (Some r) acked old new =
 
 -- what was got after a body of a sender, whose log is had up to this number
 got_by_ok : (v : NodeId → Seen) (n : NodeId) (last : ℕ) (p : PeersValue) (from : Origin) (up_to : ℕ) (body : Body) → PeersOk v n last p → Covered (v from.node) (v n) from.inc up_to last →
-    (f : NodeId) (g : Place) → map.get (got_by p from up_to body).got f ≡ Some g → Covered (v f) (v n) g.inc g.number last
+    (f : NodeId) (g : Position) → map.get (got_by p from up_to body).got f ≡ Some g → Covered (v f) (v n) g.inc g.number last
 got_by_ok v n last p from up_to Nothing h sent = h.got
 got_by_ok v n last p from up_to _ h sent =
-    put_ok nodes_total exact_nodes (λ (f : NodeId) (g : Place). Covered (v f) (v n) g.inc g.number last) p.got from.node (got_after (map.get p.got from.node) (record { inc = from.inc; number = up_to })) h.got
+    put_ok nodes_total exact_nodes (λ (f : NodeId) (g : Position). Covered (v f) (v n) g.inc g.number last) p.got from.node (got_after (map.get p.got from.node) (record { inc = from.inc; number = up_to })) h.got
     (got_ok (v from.node) (v n) last (map.get p.got from.node) (record { inc = from.inc; number = up_to }) (h.got from.node) sent)
 
 -- what is kept after a message that was accepted
@@ -138,16 +138,16 @@ heard_ok v n last count p m h sent ack = record {
   got = got_by_ok v n last p m.from m.up_to m.body h sent;
 }
 
--- a receipt says what was got
-pub receipt_ok : (v : NodeId → Seen) (n : NodeId) (last : ℕ) (p : PeersValue) (to : NodeId) → PeersOk v n last p → Acknowledges v (record { node = n; inc = last }) (receipt p to)
-receipt_ok v n last p to h = by_place (map.get p.got to) (h.got to)
+-- an acknowledgement says what was got
+pub ack_ok : (v : NodeId → Seen) (n : NodeId) (last : ℕ) (p : PeersValue) (to : NodeId) → PeersOk v n last p → Acknowledges v (record { node = n; inc = last }) (ack_for p to)
+ack_ok v n last p to h = by_place (map.get p.got to) (h.got to)
   where
-    by_place : (g : Option Place) → ((q : Place) → g ≡ Some q → Covered (v to) (v n) q.inc q.number last) → Acknowledges v (record { node = n; inc = last }) (option_map (λ (q : Place). (record { node = to; inc = q.inc }, q.number)) g)
+    by_place : (g : Option Position) → ((q : Position) → g ≡ Some q → Covered (v to) (v n) q.inc q.number last) → Acknowledges v (record { node = n; inc = last }) (option_map (λ (q : Position). (record { node = to; inc = q.inc }, q.number)) g)
     by_place None k r e = none_some e
     by_place (Some q) k r e = subst (λ (x : Origin × ℕ). Covered (v x.0.node) (v n) x.0.inc x.1 last) (some_same _ r e) (k q refl)
 
 -- where an interval begins there is an acknowledgement, and nothing from there on is dropped
-pub record Begins (p : PeersValue) (base : ℕ) (to : NodeId) (q : Place) : Type 0 where
+pub record Begins (p : PeersValue) (base : ℕ) (to : NodeId) (q : Position) : Type 0 where
   pub acked : map.get p.acked (record { node = to; inc = q.inc }) ≡ Some q.number
   pub kept : base ≤ q.number
 
@@ -156,20 +156,20 @@ from_some : {X Y : Type 0} (f : X → Option Y) (o : Option X) (y : Y) → optio
 from_some f None y e = none_some e
 from_some f (Some x) y e = (x, e)
 
-pub begins_is : (p : PeersValue) (s : StateValue) (base : ℕ) (to : NodeId) (q : Place) → begins p s base to ≡ Some q → Begins p base to q
+pub begins_is : (p : PeersValue) (s : StateValue) (base : ℕ) (to : NodeId) (q : Position) → begins p s base to ≡ Some q → Begins p base to q
 begins_is p s base to q e = kept (acked_at p s to) refl e
   where
     acked_is : (inc : ℕ) (c : Option ℕ) → map.get p.acked (record { node = to; inc = inc }) ≡ c → option_map (λ (n : ℕ). record { inc = inc; number = n }) c ≡ Some q → map.get p.acked (record { node = to; inc = q.inc }) ≡ Some q.number
     acked_is inc None is e = none_some e
-    acked_is inc (Some a) is e = subst (λ (z : Place). map.get p.acked (record { node = to; inc = z.inc }) ≡ Some z.number) (some_same (record { inc = inc; number = a }) q e) is
+    acked_is inc (Some a) is e = subst (λ (z : Position). map.get p.acked (record { node = to; inc = z.inc }) ≡ Some z.number) (some_same (record { inc = inc; number = a }) q e) is
 
     place_is : acked_at p s to ≡ Some q → map.get p.acked (record { node = to; inc = q.inc }) ≡ Some q.number
     place_is e = let life = from_some (acked_by p to) (map.get s.lives to) q e in acked_is life.0.inc (map.get p.acked (record { node = to; inc = life.0.inc })) refl life.1
 
-    kept : (c : Option Place) → acked_at p s to ≡ c → kept_from base c ≡ Some q → Begins p base to q
+    kept : (c : Option Position) → acked_at p s to ≡ c → kept_from base c ≡ Some q → Begins p base to q
     kept None is e = none_some e
     kept (Some r) is e = elim (nat_le base r.number) as (λ b. nat_le base r.number ≡ b → cond b (Some r) None ≡ Some q → Begins p base to q) [
-      | true ↦ λ t h. let same = some_same r q h in record { acked = place_is (is ∙ h); kept = subst (λ (z : Place). base ≤ z.number) same (leb-true base r.number t) }
+      | true ↦ λ t h. let same = some_same r q h in record { acked = place_is (is ∙ h); kept = subst (λ (z : Position). base ≤ z.number) same (leb-true base r.number t) }
       | false ↦ λ _ h. none_some h
     ] refl e
 
@@ -185,15 +185,15 @@ pub record CopyOk (ops : List Operation) (v : NodeId → Seen) (m : Message) (c 
   pub to : m.to ≡ c.to
   pub from : m.from.node ≡ c.from
   pub only : m.only ≡ c.only
-  pub within : Within c.operations ops
+  pub within : AreOperationsOf c.operations ops
   pub delta : List Operation
   pub body : content_of m.body ≡ meaning_of delta
-  pub inside : Within delta c.operations
-  pub rest : (o : Operation) → In o c.operations → In o delta ⊎ Bound v m.to m.only o
+  pub inside : AreOperationsOf delta c.operations
+  pub rest : (o : Operation) → IsOperationOf o c.operations → IsOperationOf o delta ⊎ Bound v m.to m.only o
   pub sent : Sent (v m.from.node) m.from.inc m.up_to c.operations
   pub ack : Acknowledges v m.from m.ack
 
-pub CopyOk-later : (ops qs : List Operation) (v u : NodeId → Seen) (m : Message) (c : Copy) → Within ops qs → ((n : NodeId) → Later (v n) (u n)) → CopyOk ops v m c → CopyOk qs u m c
+pub CopyOk-later : (ops qs : List Operation) (v u : NodeId → Seen) (m : Message) (c : Copy) → AreOperationsOf ops qs → ((n : NodeId) → Later (v n) (u n)) → CopyOk ops v m c → CopyOk qs u m c
 CopyOk-later ops qs v u m c more l h = record {
   to = h.to;
   from = h.from;
@@ -216,7 +216,7 @@ CopiesOk ops v [] (c ∷ cs) = ⊥
 CopiesOk ops v (m ∷ ms) [] = ⊥
 CopiesOk ops v (m ∷ ms) (c ∷ cs) = CopyOk ops v m c × CopiesOk ops v ms cs
 
-pub CopiesOk-later : (ops qs : List Operation) (v u : NodeId → Seen) (ms : List Message) (cs : List Copy) → Within ops qs → ((n : NodeId) → Later (v n) (u n)) → CopiesOk ops v ms cs → CopiesOk qs u ms cs
+pub CopiesOk-later : (ops qs : List Operation) (v u : NodeId → Seen) (ms : List Message) (cs : List Copy) → AreOperationsOf ops qs → ((n : NodeId) → Later (v n) (u n)) → CopiesOk ops v ms cs → CopiesOk qs u ms cs
 CopiesOk-later ops qs v u [] [] more l h = tt
 CopiesOk-later ops qs v u [] (c ∷ cs) more l h = absurd h
 CopiesOk-later ops qs v u (m ∷ ms) [] more l h = absurd h
@@ -246,11 +246,11 @@ message_copy ops v ms cs k m h e =
 pub record Brought (states : List StateValue) (delta os : List Operation) : Type 0 where
   pub entries : Entries
   pub is : states ≡ logged entries
-  pub inside : Within (gathered entries) delta
-  pub all : (o : Operation) → In o delta → In o (gathered entries) ⊎ In o os
+  pub inside : AreOperationsOf (gathered entries) delta
+  pub all : (o : Operation) → IsOperationOf o delta → IsOperationOf o (gathered entries) ⊎ IsOperationOf o os
 
 -- a state is brought unless it is below
-pub brought : (os delta ops : List Operation) (s x : StateValue) → s ≡ meaning_of os → x ≡ meaning_of delta → Within os ops → Within delta ops → Agree ops → Brought (brings s x) delta os
+pub brought : (os delta ops : List Operation) (s x : StateValue) → s ≡ meaning_of os → x ≡ meaning_of delta → AreOperationsOf os ops → AreOperationsOf delta ops → DotsDetermine ops → Brought (brings s x) delta os
 brought os delta ops s x is body w v agree =
     elim (is_below x s) as (λ b. is_below x s ≡ b → Brought (cond b [] (x ∷ [])) delta os) [
       | true ↦ λ t. record {
@@ -262,7 +262,7 @@ brought os delta ops s x is body w v agree =
       | false ↦ λ _. record {
         entries = delta ∷ [];
         is = ap (λ (y : StateValue). y ∷ []) body;
-        inside = λ o i. subst (In o) (append-nil delta) i;
-        all = λ o i. inl (subst (In o) (sym (append-nil delta)) i);
+        inside = λ o i. subst (IsOperationOf o) (append-nil delta) i;
+        all = λ o i. inl (subst (IsOperationOf o) (sym (append-nil delta)) i);
       }
     ] refl

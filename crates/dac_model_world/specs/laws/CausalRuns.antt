@@ -7,7 +7,7 @@ use Rattle.std.specs.Option.{option_map}
 use Rattle.dac_base.specs.declared.NodeId.{NodeId}
 use Rattle.dac_dots.specs.declared.dot.Origin.{Origin}
 use Rattle.dac_operations.specs.Operations.{Operation}
-use Rattle.dac_meaning.specs.Meaning.{Within, Agree}
+use Rattle.dac_meaning.specs.Meaning.{AreOperationsOf, DotsDetermine}
 use Rattle.dac_meaning.specs.laws.Members.{Within-append, In-append_left, In-append_right}
 use Rattle.dac_config.specs.Table.{Table}
 use Rattle.dac_decide.specs.declared.start_gate.Opening.{Opening}
@@ -20,14 +20,14 @@ use Rattle.dac_events.specs.declared.What.{What}
 use Rattle.dac_events.specs.declared.What.TheVariants.{Deliver, Hand}
 use Rattle.dac_messages.specs.declared.message.Message.{Message}
 use Rattle.dac_messages.specs.declared.event.Event.{Event}
-use Rattle.dac_messages.specs.declared.event.Event.TheVariants.{Boot, Crash, Command as Told, Tick, Ship, Hear, HearOp}
+use Rattle.dac_messages.specs.declared.event.Event.TheVariants.{Boot, Crash, Command as Commanded, Tick, Ship, Hear, HearOp}
 use Rattle.dac_messages.specs.declared.reply.Reply.{Reply}
 use Rattle.dac_commands.specs.Commands.{act_of, next_operation}
 use Rattle.dac_events.specs.declared.refusal.Refusal.{Refusal}
 use Rattle.dac_commands.specs.Causes.{refusal_of_command}
 use Rattle.dac_model_node.specs.Ticks.{turn_of}
 use Rattle.dac_model_node.specs.laws.Claims.{claims_are}
-use Rattle.dac_model_node.specs.ModelNode.{ModelNode, ModelRun, joined, shown, run_shown}
+use Rattle.dac_model_node.specs.ModelNode.{ModelNode, ModelRunning, joined, shown, running_shown}
 use Rattle.dac_model_node.specs.EventRefusals.{refusal_of, refusal_by, refusal_to_tick, otherwise}
 use Rattle.dac_model_node.specs.Deeds.{ticks_by, opening_at, note_of}
 use Rattle.dac_model_node.specs.Step.{step_by, up, goes_on, accepted}
@@ -153,7 +153,7 @@ issued_apart : (w : ModelWorld) (s : SetWorld) → Sound w s → Differ s.issued
 issued_apart w s h = subst DistinctDots (sym h.issued) h.distinct
 
 module _ (t : Table) (w : ModelWorld) (s : SetWorld) (n : NodeId) (h : Sound w s) (c : Causal s) where
-  causal_told : (r : ModelRun) → (w.node n).run ≡ Some r → (command : Command) → refusal_of_command t r.origin (joined r.log) command ≡ None →
+  causal_told : (r : ModelRunning) → (w.node n).running ≡ Some r → (command : Command) → refusal_of_command t r.origin (joined r.log) command ≡ None →
       let o = next_operation (joined r.log) r.origin (act_of t (joined r.log) command) in
       Differ (issuing s n (o ∷ [])).issued → Causal (issuing s n (o ∷ []))
   causal_told r on command none d =
@@ -162,22 +162,22 @@ module _ (t : Table) (w : ModelWorld) (s : SetWorld) (n : NodeId) (h : Sound w s
       let next : IsNextAfter held.set.operations o = after_command t r.origin (joined r.log) command held.set.operations held.state none in
       causal_issue s n c (o ∷ []) d (subst (λ (x : Option NodeSet). AreNext (held_by x) (o ∷ [])) (sym held.is) (next, tt))
 
-  causal_claims : (r : ModelRun) → (w.node n).run ≡ Some r → (noted : List (Option Noted)) (now : ℕ) → refusal_to_tick t (run_shown t r) now ≡ None →
+  causal_claims : (r : ModelRunning) → (w.node n).running ≡ Some r → (noted : List (Option Noted)) (now : ℕ) → refusal_to_tick t (running_shown t r) now ≡ None →
       let more = (turn_of t r.origin noted now (joined r.log)).ops in
-      Agree (w.operations ++ more) → Differ (issuing s n more).issued → Causal (issuing s n more)
+      DotsDetermine (w.operations ++ more) → Differ (issuing s n more).issued → Causal (issuing s n more)
   causal_claims r on noted now none agree d =
       let held = held_at w s n r h on in
       let os = held.set.operations in
       let more = (turn_of t r.origin noted now (joined r.log)).ops in
       let all = w.operations ++ more in
-      let inside : Within (os ++ more) all = Within-append os more all (λ o i. In-append_left o w.operations more (held.ok.within o i)) (λ o i. In-append_right o w.operations more i) in
-      let claims = claims_are t r.origin noted now (joined r.log) (leaves_room t (run_shown t r) now none) in
+      let inside : AreOperationsOf (os ++ more) all = Within-append os more all (λ o i. In-append_left o w.operations more (held.ok.within o i)) (λ o i. In-append_right o w.operations more i) in
+      let claims = claims_are t r.origin noted now (joined r.log) (leaves_room t (running_shown t r) now none) in
       let next : AreNext os more = after_claims t r.origin (joined r.log) os more held.state (Agree-within (os ++ more) all inside agree) claims in
       causal_issue s n c more d (subst (λ (x : Option NodeSet). AreNext (held_by x) more) (sym held.is) next)
 
-  causal_tick : (what : What) (r : ModelRun) → (w.node n).run ≡ Some r → (note : Note) (noted : List (Option Noted)) (now : ℕ) (opening : Opening) → refusal_to_tick t (run_shown t r) now ≡ None →
-      let deed = ticks_by opening t (run_shown t r) noted now in
-      let d : ModelNode = record { last = (w.node n).last; run = goes_on r note deed } in
+  causal_tick : (what : What) (r : ModelRunning) → (w.node n).running ≡ Some r → (note : Note) (noted : List (Option Noted)) (now : ℕ) (opening : Opening) → refusal_to_tick t (running_shown t r) now ≡ None →
+      let deed = ticks_by opening t (running_shown t r) noted now in
+      let d : ModelNode = record { last = (w.node n).last; running = goes_on r note deed } in
       Sound (answered_by w n d (Ok deed.reply)).world (set_step s n what (Ok deed.reply)) → Causal (set_step s n what (Ok deed.reply))
   causal_tick what r on note noted now Shut none next = c
   causal_tick what r on note noted now GiveUp none next = causal_off s n c
@@ -185,20 +185,20 @@ module _ (t : Table) (w : ModelWorld) (s : SetWorld) (n : NodeId) (h : Sound w s
       causal_claims r on noted now none (DistinctDots-agree _ next.distinct) (issued_apart _ (issuing s n (turn_of t r.origin noted now (joined r.log)).ops) next)
 
   -- an event that isn't refused
-  causal_ok : (what : What) (e : Event) (run : Option ModelRun) → refusal_of t (shown t (w.node n)) e ≡ None → (w.node n).run ≡ run →
-      let step = accepted t n (w.node n).last run e in
+  causal_ok : (what : What) (e : Event) (running : Option ModelRunning) → refusal_of t (shown t (w.node n)) e ≡ None → (w.node n).running ≡ running →
+      let step = accepted t n (w.node n).last running e in
       let by = answered_by w n step.node step.answer in
       Sound by.world (set_step s n what by.answer) → IsNoHanding what by.answer → Causal (set_step s n what by.answer)
   causal_ok what e None none on next unhanded = let own : Origin = own_origin n ((w.node n).last + 1) in causal_boot s n c (up own) (issued_apart _ (booting s n (up own)) next) (up_next own)
   causal_ok what (Boot now) (Some r) none on next unhanded = causal_hear s n c what _ unhanded
   causal_ok what Crash (Some r) none on next unhanded = causal_off s n c
-  causal_ok what (Told command) (Some r) none on next unhanded =
+  causal_ok what (Commanded command) (Some r) none on next unhanded =
       let o = next_operation (joined r.log) r.origin (act_of t (joined r.log) command) in
-      let free : refusal_of_command t r.origin (joined r.log) command ≡ None = first_free (refusal_of_command t r.origin (joined r.log) command) _ (ap (λ (l : Option ModelRun). refusal_by t (w.node n).last (option_map (run_shown t) l) (Told command)) (sym on) ∙ none) in
+      let free : refusal_of_command t r.origin (joined r.log) command ≡ None = first_free (refusal_of_command t r.origin (joined r.log) command) _ (ap (λ (l : Option ModelRunning). refusal_by t (w.node n).last (option_map (running_shown t) l) (Commanded command)) (sym on) ∙ none) in
       causal_told r on command free (issued_apart _ (issuing s n (o ∷ [])) next)
   causal_ok what (Tick now) (Some r) none on next unhanded =
-      let free : refusal_to_tick t (run_shown t r) now ≡ None = ap (λ (l : Option ModelRun). refusal_by t (w.node n).last (option_map (run_shown t) l) (Tick now)) (sym on) ∙ none in
-      causal_tick what r on (note_of (joined r.log) (Tick now)) (waits_of t (note_of (joined r.log) (Tick now) ∷ r.notes)) now (opening_at t (run_shown t r) now) free next
+      let free : refusal_to_tick t (running_shown t r) now ≡ None = ap (λ (l : Option ModelRunning). refusal_by t (w.node n).last (option_map (running_shown t) l) (Tick now)) (sym on) ∙ none in
+      causal_tick what r on (note_of (joined r.log) (Tick now)) (waits_of t (note_of (joined r.log) (Tick now) ∷ r.notes)) now (opening_at t (running_shown t r) now) free next
   causal_ok what (Ship to) (Some r) none on next unhanded = causal_ship s n c _
   causal_ok what (Hear m) (Some r) none on next unhanded = causal_hear s n c what _ unhanded
   causal_ok what (HearOp o) (Some r) none on next unhanded = causal_hear s n c what _ unhanded
@@ -215,7 +215,7 @@ causal_by t w s n what h c =
       | Err fault ↦ λ _ _. c
       | Ok e ↦ elim (refusal_of t (shown t (w.node n)) e) as (λ r. refusal_of t (shown t (w.node n)) e ≡ r → let st = step_by r t n (w.node n) e in let by = answered_by w n st.node st.answer in CausalBy w s n what by.world by.answer) [
         | Some why ↦ λ _ _ _. c
-        | None ↦ λ none. causal_ok t w s n h c what e (w.node n).run none refl
+        | None ↦ λ none. causal_ok t w s n h c what e (w.node n).running none refl
       ] refl
     ]
 

@@ -7,7 +7,7 @@ use Rattle.dac_dots.specs.declared.dot.Origin.{Origin}
 use Rattle.dac_dots.specs.Dots.{IsVector}
 use Rattle.dac_wishes.specs.declared.key.Key.{Key}
 use Rattle.dac_meaning.specs.StateValue.{StateValue}
-use Rattle.dac_meaning.specs.Meaning.{In, Agree}
+use Rattle.dac_meaning.specs.Meaning.{IsOperationOf, DotsDetermine}
 use Rattle.dac_commands.specs.Written.{PermitStands, StartStands, DrainStands}
 use Rattle.dac_model_node.specs.laws.Options.{some_same}
 use Rattle.dac_model_world.specs.WorldValue.{WorldValue}
@@ -42,7 +42,7 @@ module _ (v : WorldValue) (w : ModelWorld) (sets : SetWorld) (holds : HoldsSets 
   closed_at : (m : NodeSet) (o : Option NodeSet) → o ≡ Some m → ClosedSet sets.issued (held_by o) → ClosedSet sets.issued m.operations
   closed_at m o e c = subst (λ (x : Option NodeSet). ClosedSet sets.issued (held_by x)) e c
 
-  agree : Agree (operations_of sets.issued)
+  agree : DotsDetermine (operations_of sets.issued)
   agree = DistinctDots-agree (operations_of sets.issued) (subst DistinctDots (sym sound.issued) sound.distinct)
 
   permits_so : (held : NodeSet) → ClosedSet sets.issued held.operations → (key : Key) (d : Dot) → PermitStands (state_by held) key d ↔ IsDotOfOne (IsMaximalPermit sets held.operations key) d
@@ -70,7 +70,7 @@ module _ (v : WorldValue) (w : ModelWorld) (sets : SetWorld) (holds : HoldsSets 
   pub is_causal : IsCausal v sets
   is_causal = record {
     closed = λ n held e a b here before.
-        (closed_at held (sets.node n) e (h.nodes n)).closed before.issue before.issued (subst (λ o. In o held.operations) (sym before.is) here) a before.held;
+        (closed_at held (sets.node n) e (h.nodes n)).closed before.issue before.issued (subst (λ o. IsOperationOf o held.operations) (sym before.is) here) a before.held;
     vector = λ n s runs.
         let x = held_as n s runs in
         subst (λ (u : StateValue). IsVector u.heard) x.means (heard_is_vector sets.issued h.issues x.held.operations (closed_at x.held (sets.node (numbered n)) x.holds (h.nodes (numbered n))));

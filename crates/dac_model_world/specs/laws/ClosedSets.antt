@@ -3,7 +3,7 @@
 use Rattle.std.proofs.Common.{◌≡◌, ◌⊎◌, inl, inr, List, [], ◌∷◌, ◌++◌, refl, sym, ap, subst, append_assoc, append-nil}
 use Rattle.std.proofs.lemmas.List.{map-append}
 use Rattle.dac_operations.specs.Operations.{Operation}
-use Rattle.dac_meaning.specs.Meaning.{In, Within}
+use Rattle.dac_meaning.specs.Meaning.{IsOperationOf, AreOperationsOf}
 use Rattle.dac_meaning.specs.laws.Members.{In-append_left, In-append_right, In-append_cases, Within-append}
 use Rattle.dac_model_world.specs.SetWorld.{Issue, issues_of, operations_of}
 use Rattle.dac_model_world.specs.Convergence.{DistinctDots}
@@ -23,7 +23,7 @@ IsAmong-append_cases i (x ∷ is) js (inl e) = inl (inl e)
 IsAmong-append_cases i (x ∷ is) js (inr h) = elim (IsAmong-append_cases i is js h) [ inl a ↦ inl (inr a) | inr b ↦ inr b ]
 
 -- the operation of an issue was issued, and each issued operation has an issue
-pub operation_in : (i : Issue) (is : List Issue) → IsAmong i is → In i.operation (operations_of is)
+pub operation_in : (i : Issue) (is : List Issue) → IsAmong i is → IsOperationOf i.operation (operations_of is)
 operation_in i [] h = absurd h
 operation_in i (j ∷ js) (inl e) = inl (ap (λ (x : Issue). x.operation) e)
 operation_in i (j ∷ js) (inr h) = inr (operation_in i js h)
@@ -33,15 +33,15 @@ pub record IssueOf (is : List Issue) (o : Operation) : Type 0 where
   pub there : IsAmong issue is
   pub same : issue.operation ≡ o
 
-pub issue_of : (is : List Issue) (o : Operation) → In o (operations_of is) → IssueOf is o
+pub issue_of : (is : List Issue) (o : Operation) → IsOperationOf o (operations_of is) → IssueOf is o
 issue_of [] o h = absurd h
 issue_of (j ∷ js) o (inl e) = record { issue = j; there = inl refl; same = sym e }
 issue_of (j ∷ js) o (inr h) = let r = issue_of js o h in record { issue = r.issue; there = inr r.there; same = r.same }
 
 -- ---- closed sets
 pub record ClosedSet (is : List Issue) (os : List Operation) : Type 0 where
-  pub within : Within os (operations_of is)
-  pub closed : (i : Issue) → IsAmong i is → In i.operation os → Within i.before os
+  pub within : AreOperationsOf os (operations_of is)
+  pub closed : (i : Issue) → IsAmong i is → IsOperationOf i.operation os → AreOperationsOf i.before os
 
 pub closed_none : (is : List Issue) → ClosedSet is []
 closed_none is = record { within = λ o h. absurd h; closed = λ i m h. absurd h }
@@ -63,11 +63,11 @@ differ_parts : (is more : List Issue) → Differ (is ++ more) → DistinctDots (
 differ_parts is more d = subst DistinctDots (map-append (λ (i : Issue). i.operation) is more) d
 
 -- a later issue is of an operation that wasn't issued before
-none_again : (is more : List Issue) → Differ (is ++ more) → (i : Issue) → IsAmong i more → In i.operation (operations_of is) → ⊥
+none_again : (is more : List Issue) → Differ (is ++ more) → (i : Issue) → IsAmong i more → IsOperationOf i.operation (operations_of is) → ⊥
 none_again is more d i m h = DistinctDots-apart (operations_of is) (operations_of more) (differ_parts is more d) i.operation h (operation_in i more m)
 
-in_more : (is more : List Issue) (o : Operation) → In o (operations_of is) → In o (operations_of (is ++ more))
-in_more is more o h = subst (In o) (sym (map-append (λ (i : Issue). i.operation) is more)) (In-append_left o (operations_of is) (operations_of more) h)
+in_more : (is more : List Issue) (o : Operation) → IsOperationOf o (operations_of is) → IsOperationOf o (operations_of (is ++ more))
+in_more is more o h = subst (IsOperationOf o) (sym (map-append (λ (i : Issue). i.operation) is more)) (In-append_left o (operations_of is) (operations_of more) h)
 
 -- a closed set stays so when more is issued
 pub closed_more : (is more : List Issue) (os : List Operation) → Differ (is ++ more) → ClosedSet is os → ClosedSet (is ++ more) os
@@ -88,17 +88,17 @@ pub closed_push : (is : List Issue) (os : List Operation) (o : Operation) → Di
 closed_push is os o d c =
     let j = issue_at os o in
     let all = is ++ j ∷ [] in
-    let o_in : In o (operations_of all) = subst (In o) (sym (map-append (λ (i : Issue). i.operation) is (j ∷ []))) (In-append_right o (operations_of is) (o ∷ []) (inl refl)) in
-    let old : (i : Issue) → IsAmong i is → In i.operation (os ++ o ∷ []) → Within i.before (os ++ o ∷ []) = λ i a h p b. elim (In-append_cases i.operation os (o ∷ []) h) [
+    let o_in : IsOperationOf o (operations_of all) = subst (IsOperationOf o) (sym (map-append (λ (i : Issue). i.operation) is (j ∷ []))) (In-append_right o (operations_of is) (o ∷ []) (inl refl)) in
+    let old : (i : Issue) → IsAmong i is → IsOperationOf i.operation (os ++ o ∷ []) → AreOperationsOf i.before (os ++ o ∷ []) = λ i a h p b. elim (In-append_cases i.operation os (o ∷ []) h) [
       | inl x ↦ In-append_left p os (o ∷ []) (c.closed i a x p b)
-      | inr x ↦ absurd (none_again is (j ∷ []) d j (inl refl) (subst (λ q. In q (operations_of is)) (one_in i.operation o x) (operation_in i is a)))
+      | inr x ↦ absurd (none_again is (j ∷ []) d j (inl refl) (subst (λ q. IsOperationOf q (operations_of is)) (one_in i.operation o x) (operation_in i is a)))
     ] in
     record {
-      within = Within-append os (o ∷ []) (operations_of all) (λ p h. in_more is (j ∷ []) p (c.within p h)) (λ p h. subst (λ q. In q (operations_of all)) (sym (one_in p o h)) o_in);
+      within = Within-append os (o ∷ []) (operations_of all) (λ p h. in_more is (j ∷ []) p (c.within p h)) (λ p h. subst (λ q. IsOperationOf q (operations_of all)) (sym (one_in p o h)) o_in);
       closed = λ i m h. elim (IsAmong-append_cases i is (j ∷ []) m) [
         | inl a ↦ old i a h
         | inr b ↦ elim b [
-          | inl e ↦ λ p x. In-append_left p os (o ∷ []) (subst (λ (k : Issue). In p k.before) e x)
+          | inl e ↦ λ p x. In-append_left p os (o ∷ []) (subst (λ (k : Issue). IsOperationOf p k.before) e x)
           | inr none ↦ absurd none
         ]
       ];

@@ -3,7 +3,7 @@
 use Rattle.std.proofs.Common.{◌≡◌, ℕ, ◌<◌, ◌≤◌, ◌⊎◌, true, false, inl, inr, List, [], ◌++◌, length, take, max, Option, Some, refl, sym, ap, subst, ◌∙◌, append-nil, le_trans, le_refl, arith, leb, leb-true, leb-false}
 use Rattle.std.proofs.lemmas.List.{take-append-le, length-append}
 use Rattle.dac_operations.specs.Operations.{Operation}
-use Rattle.dac_meaning.specs.Meaning.{In, Within}
+use Rattle.dac_meaning.specs.Meaning.{IsOperationOf, AreOperationsOf}
 use Rattle.dac_model_node.specs.laws.Options.{some_same}
 use Rattle.dac_model_world.specs.SetWorld.{NodeSet}
 use Rattle.dac_model_world.specs.laws.Gathered.{Entries, gathered}
@@ -17,7 +17,7 @@ pub record Seen : Type 0 where
 pub record Extends (x y : Seen) (now : NodeSet) : Type 0 where
   pub then : NodeSet
   pub was : x.on ≡ Some then
-  pub within : Within then.operations now.operations
+  pub within : AreOperationsOf then.operations now.operations
   pub more : Entries
   pub entries : y.entries ≡ x.entries ++ more
 
@@ -33,13 +33,13 @@ Later-self x = record {
 }
 
 -- a node goes on in its incarnation with more
-pub later_more : (x : Seen) (then now : NodeSet) (last : ℕ) (es more : Entries) → x.last ≡ last → x.on ≡ Some then → x.entries ≡ es → Within then.operations now.operations → Later x (record { last = last; on = Some now; entries = es ++ more })
+pub later_more : (x : Seen) (then now : NodeSet) (last : ℕ) (es more : Entries) → x.last ≡ last → x.on ≡ Some then → x.entries ≡ es → AreOperationsOf then.operations now.operations → Later x (record { last = last; on = Some now; entries = es ++ more })
 later_more x then now last es more l on e inside = record {
   last = subst (λ k. x.last ≤ k) l (le_refl x.last);
   same = λ _ k p. record {
     then = then;
     was = on;
-    within = λ o i. subst (λ (y : NodeSet). In o y.operations) (some_same now k p) (inside o i);
+    within = λ o i. subst (λ (y : NodeSet). IsOperationOf o y.operations) (some_same now k p) (inside o i);
     more = more;
     entries = ap (λ (f : Entries). f ++ more) (sym e);
   };
@@ -48,7 +48,7 @@ later_more x then now last es more l on e inside = record {
 -- the node has the operation for as long as it runs incarnation i
 pub record Has (x : Seen) (i : ℕ) (o : Operation) : Type 0 where
   pub old : i ≤ x.last
-  pub has : (now : NodeSet) → x.on ≡ Some now → x.last ≡ i → In o now.operations
+  pub has : (now : NodeSet) → x.on ≡ Some now → x.last ≡ i → IsOperationOf o now.operations
 
 between : (i a b : ℕ) → i ≤ a → a ≤ b → b ≡ i → a ≡ b
 between i a b h k e = omega arith
@@ -76,7 +76,7 @@ first_sets b es more fs short is = ap (take b) is ∙ take-append-le b es more s
 pub record Covered (x y : Seen) (j b i : ℕ) : Type 0 where
   pub old : j ≤ x.last
   pub short : (now : NodeSet) → x.on ≡ Some now → x.last ≡ j → b ≤ length x.entries
-  pub has : (now : NodeSet) → x.on ≡ Some now → x.last ≡ j → (o : Operation) → In o (gathered (take b x.entries)) → Has y i o
+  pub has : (now : NodeSet) → x.on ≡ Some now → x.last ≡ j → (o : Operation) → IsOperationOf o (gathered (take b x.entries)) → Has y i o
 
 pub Covered-later : (x x' y y' : Seen) (j b i : ℕ) → Covered x y j b i → Later x x' → Later y y' → Covered x' y' j b i
 Covered-later x x' y y' j b i c lx ly = record {
@@ -88,7 +88,7 @@ Covered-later x x' y y' j b i c lx ly = record {
       let g = lx.same (between j x.last x'.last c.old lx.last is) now on in
       let first = between_first j x.last x'.last c.old lx.last is in
       let short = c.short g.then g.was first in
-      Has-later y y' i o (c.has g.then g.was first o (subst (λ es. In o (gathered es)) (first_sets b x.entries g.more x'.entries short g.entries) at)) ly;
+      Has-later y y' i o (c.has g.then g.was first o (subst (λ es. IsOperationOf o (gathered es)) (first_sets b x.entries g.more x'.entries short g.entries) at)) ly;
 }
 
 -- the greater of two numbers
@@ -114,7 +114,7 @@ Covered-max x y j a b i c d = elim (greater_is a b) [
 pub record Sent (x : Seen) (j number : ℕ) (operations : List Operation) : Type 0 where
   pub old : j ≤ x.last
   pub short : (now : NodeSet) → x.on ≡ Some now → x.last ≡ j → number ≤ length x.entries
-  pub has : (now : NodeSet) → x.on ≡ Some now → x.last ≡ j → Within (gathered (take number x.entries)) operations
+  pub has : (now : NodeSet) → x.on ≡ Some now → x.last ≡ j → AreOperationsOf (gathered (take number x.entries)) operations
 
 pub Sent-later : (x x' : Seen) (j number : ℕ) (operations : List Operation) → Sent x j number operations → Later x x' → Sent x' j number operations
 Sent-later x x' j b os c lx = record {
@@ -126,16 +126,16 @@ Sent-later x x' j b os c lx = record {
       let g = lx.same (between j x.last x'.last c.old lx.last is) now on in
       let first = between_first j x.last x'.last c.old lx.last is in
       let short = c.short g.then g.was first in
-      c.has g.then g.was first o (subst (λ es. In o (gathered es)) (first_sets b x.entries g.more x'.entries short g.entries) at);
+      c.has g.then g.was first o (subst (λ es. IsOperationOf o (gathered es)) (first_sets b x.entries g.more x'.entries short g.entries) at);
 }
 
 -- who unites such a copy has what the sender's log had
-pub Sent-covers : (x y : Seen) (j number : ℕ) (operations : List Operation) → Sent x j number operations → (now : NodeSet) → y.on ≡ Some now → Within operations now.operations → Covered x y j number y.last
+pub Sent-covers : (x y : Seen) (j number : ℕ) (operations : List Operation) → Sent x j number operations → (now : NodeSet) → y.on ≡ Some now → AreOperationsOf operations now.operations → Covered x y j number y.last
 Sent-covers x y j b os c now on inside = record {
   old = c.old;
   short = c.short;
   has = λ k there is o at. record {
     old = le_refl y.last;
-    has = λ l here _. subst (λ (h : NodeSet). In o h.operations) (some_same now l (sym on ∙ here)) (inside o (c.has k there is o at));
+    has = λ l here _. subst (λ (h : NodeSet). IsOperationOf o h.operations) (some_same now l (sym on ∙ here)) (inside o (c.has k there is o at));
   };
 }

@@ -16,13 +16,13 @@ use Rattle.dac_decide.specs.FailoverWait.{Note, waits_of}
 use Rattle.dac_events.specs.declared.WorldEvent.{WorldEvent}
 use Rattle.dac_messages.specs.Bodies.{content_of}
 use Rattle.dac_messages.specs.declared.event.Event.{Event}
-use Rattle.dac_messages.specs.declared.event.Event.TheVariants.{Boot, Crash, Command as Told, Tick, Ship, Hear, HearOp}
+use Rattle.dac_messages.specs.declared.event.Event.TheVariants.{Boot, Crash, Command as Commanded, Tick, Ship, Hear, HearOp}
 use Rattle.dac_messages.specs.declared.reply.Reply.{Reply}
 use Rattle.dac_messages.specs.declared.reply.Reply.TheVariants.{Booted, Heard}
 use Rattle.dac_events.specs.declared.refusal.Refusal.TheVariants.{NoMemory}
 use Rattle.dac_model_node.specs.Ticks.{turn_of}
-use Rattle.dac_model_node.specs.NodeValue.{RunValue}
-use Rattle.dac_model_node.specs.ModelNode.{ModelNode, ModelRun, joined, shown, run_shown}
+use Rattle.dac_model_node.specs.NodeValue.{RunningValue}
+use Rattle.dac_model_node.specs.ModelNode.{ModelNode, ModelRunning, joined, shown, running_shown}
 use Rattle.dac_model_node.specs.EventRefusals.{refusal_of}
 use Rattle.dac_model_node.specs.Deeds.{Deed, brings, deed_of, ticks_by, opening_at, moment_of, note_of}
 use Rattle.dac_model_node.specs.Step.{step_by, up, comes_up, goes_on, deed_on, accepted}
@@ -36,7 +36,7 @@ use Rattle.dac_model_world.specs.laws.Carried.{none_some}
 
 -- no running node has more deltas than these
 abbrev pub IsFew : (NodeId → ℕ) → ModelWorld → Type 0
-IsFew deltas w = (n : NodeId) (r : ModelRun) → (w.node n).run ≡ Some r → length r.log ≤ deltas n
+IsFew deltas w = (n : NodeId) (r : ModelRunning) → (w.node n).running ≡ Some r → length r.log ≤ deltas n
 
 -- ---- what a deed adds
 abbrev AddsFew : Deed → Type 0
@@ -45,7 +45,7 @@ AddsFew deed = (before : ℕ) → before + length deed.adds ≤ deltas_after bef
 brings_few : (s body : StateValue) (before : ℕ) → before + length (brings s body) ≤ deltas_after before (Ok (Heard (not (is_below body s))))
 brings_few s body before = elim (is_below body s) as (λ b. before + length (cond b [] (body ∷ [])) ≤ cond (not b) (before + 1) before) [ true ↦ omega arith | false ↦ omega arith ]
 
-tick_adds : (opening : Opening) (t : Table) (r : RunValue) (noted : List (Option Noted)) (now : ℕ) → AddsFew (ticks_by opening t r noted now)
+tick_adds : (opening : Opening) (t : Table) (r : RunningValue) (noted : List (Option Noted)) (now : ℕ) → AddsFew (ticks_by opening t r noted now)
 tick_adds Shut t r noted now before = omega arith
 tick_adds GiveUp t r noted now before = omega arith
 tick_adds Opened t r noted now before = let ops = (turn_of t r.origin noted now r.state).ops in together before _ _ (length-map ops (λ (o : Operation). meaning_of (o ∷ [])))
@@ -53,10 +53,10 @@ tick_adds Opened t r noted now before = let ops = (turn_of t r.origin noted now 
     together : (b m k : ℕ) → m ≡ k → b + m ≤ b + k
     together b m k e = omega arith
 
-deed_adds : (t : Table) (r : RunValue) (noted : List (Option Noted)) (e : Event) → AddsFew (deed_of t r noted e)
+deed_adds : (t : Table) (r : RunningValue) (noted : List (Option Noted)) (e : Event) → AddsFew (deed_of t r noted e)
 deed_adds t r noted (Boot now) before = omega arith
 deed_adds t r noted Crash before = omega arith
-deed_adds t r noted (Told c) before = omega arith
+deed_adds t r noted (Commanded c) before = omega arith
 deed_adds t r noted (Tick now) before = tick_adds (opening_at t r now) t r noted now before
 deed_adds t r noted (Ship to) before = omega arith
 deed_adds t r noted (Hear m) before = brings_few r.state (content_of m.body) before
@@ -66,13 +66,13 @@ at_most : (q l a m k : ℕ) → q ≡ l + a → l ≤ m → m + a ≤ k → q �
 at_most q l a m k e p f = omega arith
 
 -- what runs after it
-goes_few : (r : ModelRun) (note : Note) (deed : Deed) (before : ℕ) → length r.log ≤ before → AddsFew deed → (q : ModelRun) → goes_on r note deed ≡ Some q → length q.log ≤ deltas_after before (Ok deed.reply)
+goes_few : (r : ModelRunning) (note : Note) (deed : Deed) (before : ℕ) → length r.log ≤ before → AddsFew deed → (q : ModelRunning) → goes_on r note deed ≡ Some q → length q.log ≤ deltas_after before (Ok deed.reply)
 goes_few r note deed before few adds q e = by_off deed.goes_off _ refl e
   where
-    by_off : (off : Bool) (after : ModelRun) → after.log ≡ r.log ++ deed.adds → cond off None (Some after) ≡ Some q → length q.log ≤ deltas_after before (Ok deed.reply)
+    by_off : (off : Bool) (after : ModelRunning) → after.log ≡ r.log ++ deed.adds → cond off None (Some after) ≡ Some q → length q.log ≤ deltas_after before (Ok deed.reply)
     by_off true after log p = none_some p
     by_off false after log p =
-        let is : length q.log ≡ length r.log + length deed.adds = ap (λ (x : ModelRun). length x.log) (sym (some_same after q p)) ∙ (ap length log ∙ length-append r.log deed.adds) in
+        let is : length q.log ≡ length r.log + length deed.adds = ap (λ (x : ModelRunning). length x.log) (sym (some_same after q p)) ∙ (ap length log ∙ length-append r.log deed.adds) in
         at_most (length q.log) (length r.log) (length deed.adds) before (deltas_after before (Ok deed.reply)) is few (adds before)
 
 -- ---- one event of the world
@@ -83,22 +83,22 @@ module _ (t : Table) (w : ModelWorld) (deltas : NodeId → ℕ) (h : IsFew delta
     | false ↦ λ _. h m r e
   ] refl
 
-  few_node : (n : NodeId) (d : ModelNode) (reply : Reply) → ((r : ModelRun) → d.run ≡ Some r → length r.log ≤ deltas_after (deltas n) (Ok reply)) → (m : NodeId) (r : ModelRun) → (with_node w.node n d m).run ≡ Some r → length r.log ≤ deltas_with deltas n (Ok reply) m
-  few_node n d reply here m r = elim (nat_eq m.0 n.0) as (λ b. (cond b d (w.node m)).run ≡ Some r → length r.log ≤ cond b (deltas_after (deltas n) (Ok reply)) (deltas m)) [ true ↦ here r | false ↦ h m r ]
+  few_node : (n : NodeId) (d : ModelNode) (reply : Reply) → ((r : ModelRunning) → d.running ≡ Some r → length r.log ≤ deltas_after (deltas n) (Ok reply)) → (m : NodeId) (r : ModelRunning) → (with_node w.node n d m).running ≡ Some r → length r.log ≤ deltas_with deltas n (Ok reply) m
+  few_node n d reply here m r = elim (nat_eq m.0 n.0) as (λ b. (cond b d (w.node m)).running ≡ Some r → length r.log ≤ cond b (deltas_after (deltas n) (Ok reply)) (deltas m)) [ true ↦ here r | false ↦ h m r ]
 
-  few_ok : (n : NodeId) (e : Event) (run : Option ModelRun) → (w.node n).run ≡ run →
-      let st = accepted t n (w.node n).last run e in
+  few_ok : (n : NodeId) (e : Event) (running : Option ModelRunning) → (w.node n).running ≡ running →
+      let st = accepted t n (w.node n).last running e in
       let by = answered_by w n st.node st.answer in
       IsFew (deltas_with deltas n by.answer) by.world
   few_ok n e None on =
       let own = own_origin n ((w.node n).last + 1) in
-      few_node n (runs_as ((w.node n).last + 1) (comes_up own (moment_of e))) (Booted (up own)) (λ r p. subst (λ (q : ModelRun). length q.log ≤ 1) (some_same (comes_up own (moment_of e)) r p) (le_refl 1))
-  few_ok n e (Some r) on = let deed = deed_on t r e in few_node n (record { last = (w.node n).last; run = goes_on r (note_of (joined r.log) e) deed }) deed.reply (goes_few r (note_of (joined r.log) e) deed (deltas n) (h n r on) (deed_adds t (run_shown t r) (waits_of t (note_of (joined r.log) e ∷ r.notes)) e))
+      few_node n (runs_as ((w.node n).last + 1) (comes_up own (moment_of e))) (Booted (up own)) (λ r p. subst (λ (q : ModelRunning). length q.log ≤ 1) (some_same (comes_up own (moment_of e)) r p) (le_refl 1))
+  few_ok n e (Some r) on = let deed = deed_on t r e in few_node n (record { last = (w.node n).last; running = goes_on r (note_of (joined r.log) e) deed }) deed.reply (goes_few r (note_of (joined r.log) e) deed (deltas n) (h n r on) (deed_adds t (running_shown t r) (waits_of t (note_of (joined r.log) e ∷ r.notes)) e))
 
   few_by : (n : NodeId) (what : Result Event WorldFault) → IsFew (deltas_with deltas n (happens_by t w n what).answer) (happens_by t w n what).world
   few_by n (Err fault) = still_few n fault
   few_by n (Ok e) = elim (refusal_of t (shown t (w.node n)) e) as (λ r. let st = step_by r t n (w.node n) e in let by = answered_by w n st.node st.answer in IsFew (deltas_with deltas n by.answer) by.world) [
-    | None ↦ few_ok n e (w.node n).run refl
+    | None ↦ few_ok n e (w.node n).running refl
     | Some why ↦ still_few n (Refused why)
   ]
 

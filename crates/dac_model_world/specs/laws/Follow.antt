@@ -21,8 +21,8 @@ use Rattle.dac_events.specs.declared.refusal.Refusal.{Refusal}
 use Rattle.dac_events.specs.declared.refusal.Refusal.TheVariants.{Off, NoMemory}
 use Rattle.dac_events.specs.declared.world_fault.WorldFault.{WorldFault}
 use Rattle.dac_events.specs.declared.world_fault.WorldFault.TheVariants.{NoSuchNode, Refused}
-use Rattle.dac_model_node.specs.NodeValue.{NodeValue, RunValue}
-use Rattle.dac_model_node.specs.ModelNode.{ModelNode, ModelRun, joined, shown, run_shown}
+use Rattle.dac_model_node.specs.NodeValue.{NodeValue, RunningValue}
+use Rattle.dac_model_node.specs.ModelNode.{ModelNode, ModelRunning, joined, shown, running_shown}
 use Rattle.dac_model_node.specs.EventRefusals.{refusal_of, refusal_by}
 use Rattle.dac_model_node.specs.Deeds.{ticks_by, opening_at, note_of}
 use Rattle.dac_model_node.specs.Step.{model_step, step_by, accepted, Stepped}
@@ -46,7 +46,7 @@ node_shown t w v h me old lt is =
 by_step : (t : Table) (w : ModelWorld) (me : NodeId) (e : Event) (s : Stepped) → model_step t me (w.node me) e ≡ s → happens_by t w me (Ok e) ≡ answered_by w me s.node s.answer
 by_step t w me e s is = ap (λ (x : Stepped). answered_by w me x.node x.answer) is
 
-is_ok_accepted : (t : Table) (w : ModelWorld) (me : NodeId) (last : ℕ) (run : Option ModelRun) (e : Event) → IsOk (answered_by w me (accepted t me last run e).node (accepted t me last run e).answer).answer
+is_ok_accepted : (t : Table) (w : ModelWorld) (me : NodeId) (last : ℕ) (running : Option ModelRunning) (e : Event) → IsOk (answered_by w me (accepted t me last running e).node (accepted t me last running e).answer).answer
 is_ok_accepted t w me last None e = refl
 is_ok_accepted t w me last (Some r) e = refl
 
@@ -59,15 +59,15 @@ refusal_same : (t : Table) (w : ModelWorld) (v : WorldValue) → Shows t w v →
 refusal_same t w v h me e old here = ap (λ x. refusal_of t x e) (node_shown t w v h me old here.inside here.there)
 
 -- only a crash is answered so
-tick_stays : (opening : Opening) (t : Table) (r : RunValue) (noted : List (Option Noted)) (now : ℕ) → ◌≡◌ {A = Result Reply Refusal} (Ok (ticks_by opening t r noted now).reply) (Ok Crashed) → ⊥
+tick_stays : (opening : Opening) (t : Table) (r : RunningValue) (noted : List (Option Noted)) (now : ℕ) → ◌≡◌ {A = Result Reply Refusal} (Ok (ticks_by opening t r noted now).reply) (Ok Crashed) → ⊥
 tick_stays Shut t r noted now h = cc
 tick_stays GiveUp t r noted now h = cc
 tick_stays Opened t r noted now h = cc
 
-only_crash : (t : Table) (me : NodeId) (last : ℕ) (run : Option ModelRun) (e : Event) → (accepted t me last run e).answer ≡ Ok Crashed → e ≡ Crash
+only_crash : (t : Table) (me : NodeId) (last : ℕ) (running : Option ModelRunning) (e : Event) → (accepted t me last running e).answer ≡ Ok Crashed → e ≡ Crash
 only_crash t me last None e h = cc
 only_crash t me last (Some r) Crash h = refl
-only_crash t me last (Some r) (Tick now) h = absurd (tick_stays (opening_at t (run_shown t r) now) t (run_shown t r) (waits_of t (note_of (joined r.log) (Tick now) ∷ r.notes)) now h)
+only_crash t me last (Some r) (Tick now) h = absurd (tick_stays (opening_at t (running_shown t r) now) t (running_shown t r) (waits_of t (note_of (joined r.log) (Tick now) ∷ r.notes)) now h)
 only_crash t me last (Some r) _ h = cc
 
 crash_at_node : (w : ModelWorld) (me : NodeId) (d : ModelNode) (a : Result Reply Refusal) → (answered_by w me d a).answer ≡ Ok Crashed → a ≡ Ok Crashed
@@ -75,10 +75,10 @@ crash_at_node w me d (Ok reply) h = cc
 crash_at_node w me d (Err why) h = cc
 
 -- an accepted event that is answered so leaves the node off
-pub crash_goes_off : (t : Table) (me : NodeId) (old : NodeValue) (e : Event) (new : NodeValue) (own : Reply) → AcceptedAs t me old e new own → own ≡ Crashed → new.run ≡ None
-crash_goes_off t me old e new own p is = ap (λ (x : NodeValue). x.run) p.left ∙ by_run old.last old.run e (sym p.reply ∙ is)
+pub crash_goes_off : (t : Table) (me : NodeId) (old : NodeValue) (e : Event) (new : NodeValue) (own : Reply) → AcceptedAs t me old e new own → own ≡ Crashed → new.running ≡ None
+crash_goes_off t me old e new own p is = ap (λ (x : NodeValue). x.running) p.left ∙ by_run old.last old.running e (sym p.reply ∙ is)
   where
-    by_run : (last : ℕ) (run : Option RunValue) (e : Event) → reply_by t me last run p.noted e ≡ Crashed → (left_by t me last run p.noted e).run ≡ None
+    by_run : (last : ℕ) (running : Option RunningValue) (e : Event) → reply_by t me last running p.noted e ≡ Crashed → (left_by t me last running p.noted e).running ≡ None
     by_run last None e h = cc
     by_run last (Some r) Crash h = refl
     by_run last (Some r) (Tick now) h = absurd (tick_stays (opening_at t r now) t r p.noted now (ap (λ x. Ok x) h))
@@ -93,10 +93,10 @@ lacked_follows t v me e old here none stays = record {
         (
           inr (record {
             answered = λ _. out_of_memory;
-            accepted = subst (λ (s : WorldStepped). IsOk s.answer) (sym (by_step t w me e _ st)) (is_ok_accepted t w me (w.node me).last (w.node me).run e);
+            accepted = subst (λ (s : WorldStepped). IsOk s.answer) (sym (by_step t w me e _ st)) (is_ok_accepted t w me (w.node me).last (w.node me).running e);
             wants = λ is.
-                let step = accepted t me (w.node me).last (w.node me).run e in
-                stays (only_crash t me (w.node me).last (w.node me).run e (crash_at_node w me step.node step.answer (sym (ap (λ (s : WorldStepped). s.answer) (by_step t w me e _ st)) ∙ is)));
+                let step = accepted t me (w.node me).last (w.node me).running e in
+                stays (only_crash t me (w.node me).last (w.node me).running e (crash_at_node w me step.node step.answer (sym (ap (λ (s : WorldStepped). s.answer) (by_step t w me e _ st)) ∙ is)));
             stayed = refl;
           }),
           h,
@@ -140,11 +140,11 @@ ok_follows t v u me e old become own reply here p goes = record {
       let d = w.node me in
       let same = node_shown t w v h me old here.inside here.there in
       let st = step_accepted t me d e (refusal_same t w v h me e old here ∙ p.accepted) in
-      let noting : IsNotingBy t (shown t d).run p.noted e = subst (λ (x : NodeValue). IsNotingBy t x.run p.noted e) (sym same) p.noting in
-      let newest = subst (λ (x : NodeValue). IfSome x.run (λ (r : RunValue). AreNewest r.kept)) (sym same) p.newest in
-      let answer : (accepted t me d.last d.run e).answer ≡ Ok reply = answer_accepted t me d.last d.run p.noted e newest noting ∙ ap (λ r. Ok r) (ap (λ (x : NodeValue). reply_by t me x.last x.run p.noted e) same ∙ sym p.reply ∙ sym goes.reply) in
-      let new : ModelNode = (accepted t me d.last d.run e).node in
-      let shows : shown t new ≡ become old = shown_accepted t me d.last d.run p.noted e newest noting ∙ (ap (λ (x : NodeValue). left_by t me x.last x.run p.noted e) same ∙ sym p.left) in
+      let noting : IsNotingBy t (shown t d).running p.noted e = subst (λ (x : NodeValue). IsNotingBy t x.running p.noted e) (sym same) p.noting in
+      let newest = subst (λ (x : NodeValue). IfSome x.running (λ (r : RunningValue). AreNewest r.kept)) (sym same) p.newest in
+      let answer : (accepted t me d.last d.running e).answer ≡ Ok reply = answer_accepted t me d.last d.running p.noted e newest noting ∙ ap (λ r. Ok r) (ap (λ (x : NodeValue). reply_by t me x.last x.running p.noted e) same ∙ sym p.reply ∙ sym goes.reply) in
+      let new : ModelNode = (accepted t me d.last d.running e).node in
+      let shows : shown t new ≡ become old = shown_accepted t me d.last d.running p.noted e newest noting ∙ (ap (λ (x : NodeValue). left_by t me x.last x.running p.noted e) same ∙ sym p.left) in
       let all : happens_by t w me (Ok e) ≡ answered_by w me new (Ok reply) = by_step t w me e _ st ∙ ap (answered_by w me new) answer in
       let next : ModelWorld = record { count = w.count; node = with_node w.node me new; operations = w.operations ++ issued_by reply; messages = w.messages ++ shipped_by reply } in (
         next,
@@ -201,12 +201,12 @@ gone_follows t v u me e old become own (Err fault) here p goes lacked stays same
     (subst (λ x. Follows t v (λ w. happens_by t w me (Ok e)) out_of_memory x) (sym same) (lacked_follows t v me e old here p.accepted (λ c. stays (p.reply ∙ crashes c))))
   where
     -- an accepted crash is at a running node
-    at_run : (last : ℕ) (run : Option RunValue) → refusal_by t last run Crash ≡ None → reply_by t me last run p.noted Crash ≡ Crashed
+    at_run : (last : ℕ) (running : Option RunningValue) → refusal_by t last running Crash ≡ None → reply_by t me last running p.noted Crash ≡ Crashed
     at_run last None none = cc
     at_run last (Some r) none = refl
 
-    crashes : e ≡ Crash → reply_by t me old.last old.run p.noted e ≡ Crashed
-    crashes c = ap (reply_by t me old.last old.run p.noted) c ∙ at_run old.last old.run (ap (refusal_by t old.last old.run) (sym c) ∙ p.accepted)
+    crashes : e ≡ Crash → reply_by t me old.last old.running p.noted e ≡ Crashed
+    crashes c = ap (reply_by t me old.last old.running p.noted) c ∙ at_run old.last old.running (ap (refusal_by t old.last old.running) (sym c) ∙ p.accepted)
 
 -- ---- what an event at a node does
 -- what the event brings is what the node has heard from then on, beside what it had
@@ -216,7 +216,7 @@ goes_hears t v u me e old become own reply here p goes = record {
       let before : old ≡ x = some_same old x (sym here.there ∙ was) in
       let after : become old ≡ y = some_same (become old) y (sym (goes.nodes.each me.0 ∙ (changed_at v.nodes me old become here.there (become old) refl me.0 ∙ ap (λ b. cond b (Some (become old)) (slice_get v.nodes me.0)) (eq-eqb me.0 me.0 refl))) ∙ is) in
       subst (λ (z : NodeValue × (Reply × NodeValue)). HearsExactly z.0 e z.1.0 z.1.1) (λ i. (before i, ((sym p.reply ∙ sym goes.reply) i, (sym p.left ∙ after) i)))
-      (hears_exactly t me old.last old.run p.noted e p.accepted);
+      (hears_exactly t me old.last old.running p.noted e p.accepted);
   others = λ n other. goes.nodes.each n ∙ ap (λ b. cond b (option_map become (slice_get v.nodes n)) (slice_get v.nodes n)) (false_from_ne_true (nat_eq n me.0) (λ e. other (exact_unsigned_eq n me.0 e)));
 }
 

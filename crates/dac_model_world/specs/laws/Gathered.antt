@@ -13,7 +13,7 @@ use Rattle.dac_wishes.specs.laws.PermissionsValue.{same_permissions}
 use Rattle.dac_operations.specs.Operations.{Operation}
 use Rattle.dac_meaning.specs.StateValue.{StateValue, bottom, join, permissions_of, wishes_of, drains_of}
 use Rattle.dac_meaning.specs.laws.StateLaws.{same_state}
-use Rattle.dac_meaning.specs.Meaning.{meaning_of, In, Within, Agree}
+use Rattle.dac_meaning.specs.Meaning.{meaning_of, IsOperationOf, AreOperationsOf, DotsDetermine}
 use Rattle.dac_meaning.specs.laws.Readers.{heard-meaning, known-meaning, starts-meaning, permits-meaning, lives-meaning, claims-meaning, drains-meaning}
 use Rattle.dac_meaning.specs.laws.Members.{In-append_left, In-append_right, In-append_cases}
 use Rattle.dac_meaning.specs.laws.Joins.{join-meaning, meaning-same}
@@ -62,15 +62,15 @@ meaning-none =
     (claims-meaning [])
     (same_drains (drains_of (meaning_of [])) (drains_of bottom) known (λ w. drains-meaning [] w ∙ sym (map.get-empty (keyed_write_cmp origin_cmp) w))))
 
-joined_from : (os : List Operation) (es : Entries) → Agree (os ++ gathered es) → fold join (meaning_of os) (logged es) ≡ meaning_of (os ++ gathered es)
+joined_from : (os : List Operation) (es : Entries) → DotsDetermine (os ++ gathered es) → fold join (meaning_of os) (logged es) ≡ meaning_of (os ++ gathered es)
 joined_from os [] agree = ap meaning_of (sym (append-nil os))
 joined_from os (e ∷ es) agree =
     let apart : (os ++ e) ++ gathered es ≡ os ++ (e ++ gathered es) = append_assoc os e (gathered es) in
-    let first : Agree (os ++ e) = Agree-within (os ++ e) (os ++ (e ++ gathered es)) (λ o i. subst (In o) apart (In-append_left o (os ++ e) (gathered es) i)) agree in
-    ap (λ s. fold join s (logged es)) (join-meaning os e first) ∙ (joined_from (os ++ e) es (subst Agree (sym apart) agree) ∙ ap meaning_of apart)
+    let first : DotsDetermine (os ++ e) = Agree-within (os ++ e) (os ++ (e ++ gathered es)) (λ o i. subst (IsOperationOf o) apart (In-append_left o (os ++ e) (gathered es) i)) agree in
+    ap (λ s. fold join s (logged es)) (join-meaning os e first) ∙ (joined_from (os ++ e) es (subst DotsDetermine (sym apart) agree) ∙ ap meaning_of apart)
 
 -- the join of what sets mean is what all their operations mean
-pub joined-logged : (es : Entries) → Agree (gathered es) → joined (logged es) ≡ meaning_of (gathered es)
+pub joined-logged : (es : Entries) → DotsDetermine (gathered es) → joined (logged es) ≡ meaning_of (gathered es)
 joined-logged es agree = ap (λ s. fold join s (logged es)) meaning-none ∙ joined_from [] es agree
 
 -- ---- the first sets and the rest
@@ -78,24 +78,24 @@ gathered_parts : (n : ℕ) (es : Entries) → gathered es ≡ gathered (take n e
 gathered_parts n es = sym (ap gathered (take-append-drop n es)) ∙ gathered-append (take n es) (drop n es)
 
 -- an operation of all is in the first sets or in the rest
-pub gathered_cases : (n : ℕ) (es : Entries) (o : Operation) → In o (gathered es) → In o (gathered (take n es)) ⊎ In o (gathered (drop n es))
-gathered_cases n es o h = In-append_cases o (gathered (take n es)) (gathered (drop n es)) (subst (In o) (gathered_parts n es) h)
+pub gathered_cases : (n : ℕ) (es : Entries) (o : Operation) → IsOperationOf o (gathered es) → IsOperationOf o (gathered (take n es)) ⊎ IsOperationOf o (gathered (drop n es))
+gathered_cases n es o h = In-append_cases o (gathered (take n es)) (gathered (drop n es)) (subst (IsOperationOf o) (gathered_parts n es) h)
 
-pub gathered_take : (n : ℕ) (es : Entries) → Within (gathered (take n es)) (gathered es)
-gathered_take n es o h = subst (In o) (sym (gathered_parts n es)) (In-append_left o (gathered (take n es)) (gathered (drop n es)) h)
+pub gathered_take : (n : ℕ) (es : Entries) → AreOperationsOf (gathered (take n es)) (gathered es)
+gathered_take n es o h = subst (IsOperationOf o) (sym (gathered_parts n es)) (In-append_left o (gathered (take n es)) (gathered (drop n es)) h)
 
-pub gathered_drop : (n : ℕ) (es : Entries) → Within (gathered (drop n es)) (gathered es)
-gathered_drop n es o h = subst (In o) (sym (gathered_parts n es)) (In-append_right o (gathered (take n es)) (gathered (drop n es)) h)
+pub gathered_drop : (n : ℕ) (es : Entries) → AreOperationsOf (gathered (drop n es)) (gathered es)
+gathered_drop n es o h = subst (IsOperationOf o) (sym (gathered_parts n es)) (In-append_right o (gathered (take n es)) (gathered (drop n es)) h)
 
 -- ---- a log beside a set
 -- the states of a log are what sets mean that have together the operations of this one
 pub record IsLogOf (log : List StateValue) (os : List Operation) (es : Entries) : Type 0 where
   pub states : log ≡ logged es
-  pub all : Within (gathered es) os
-  pub some : Within os (gathered es)
+  pub all : AreOperationsOf (gathered es) os
+  pub some : AreOperationsOf os (gathered es)
 
 -- the log of a set joins to what the set means
-pub log_means : (log : List StateValue) (os ops : List Operation) (es : Entries) → Within os ops → Agree ops → IsLogOf log os es → joined log ≡ meaning_of os
+pub log_means : (log : List StateValue) (os ops : List Operation) (es : Entries) → AreOperationsOf os ops → DotsDetermine ops → IsLogOf log os es → joined log ≡ meaning_of os
 log_means log os ops es inside agree h =
     ap joined h.states ∙ (joined-logged es (Agree-within (gathered es) ops (λ o i. inside o (h.all o i)) agree) ∙ meaning-same (gathered es) os h.all h.some)
 
@@ -104,19 +104,19 @@ pub log_length : (log : List StateValue) (os : List Operation) (es : Entries) �
 log_length log os es h = ap length h.states ∙ length-map es meaning_of
 
 -- the log from a number on joins to what the sets from there on mean
-pub rest_means : (log : List StateValue) (os ops : List Operation) (es : Entries) (n : ℕ) → Within os ops → Agree ops → IsLogOf log os es → joined (drop n log) ≡ meaning_of (gathered (drop n es))
+pub rest_means : (log : List StateValue) (os ops : List Operation) (es : Entries) (n : ℕ) → AreOperationsOf os ops → DotsDetermine ops → IsLogOf log os es → joined (drop n log) ≡ meaning_of (gathered (drop n es))
 rest_means log os ops es n inside agree h =
     ap (λ (l : List StateValue). joined (drop n l)) h.states
     ∙ (ap joined (drop-map meaning_of n es) ∙ joined-logged (drop n es) (Agree-within (gathered (drop n es)) ops (λ o i. inside o (h.all o (gathered_drop n es o i))) agree))
 
 -- more states, which mean more sets
-pub log_more : (log states : List StateValue) (os more : List Operation) (es fs : Entries) → IsLogOf log os es → states ≡ logged fs → Within (gathered fs) (os ++ more) → Within more (gathered (es ++ fs)) → IsLogOf (log ++ states) (os ++ more) (es ++ fs)
+pub log_more : (log states : List StateValue) (os more : List Operation) (es fs : Entries) → IsLogOf log os es → states ≡ logged fs → AreOperationsOf (gathered fs) (os ++ more) → AreOperationsOf more (gathered (es ++ fs)) → IsLogOf (log ++ states) (os ++ more) (es ++ fs)
 log_more log states os more es fs h is inside there =
     let parts = gathered-append es fs in
     record {
       states = (λ i. h.states i ++ is i) ∙ sym (map-append meaning_of es fs);
-      all = λ o i. elim (In-append_cases o (gathered es) (gathered fs) (subst (In o) parts i)) [ inl a ↦ In-append_left o os more (h.all o a) | inr b ↦ inside o b ];
-      some = λ o i. elim (In-append_cases o os more i) [ inl a ↦ subst (In o) (sym parts) (In-append_left o (gathered es) (gathered fs) (h.some o a)) | inr b ↦ there o b ];
+      all = λ o i. elim (In-append_cases o (gathered es) (gathered fs) (subst (IsOperationOf o) parts i)) [ inl a ↦ In-append_left o os more (h.all o a) | inr b ↦ inside o b ];
+      some = λ o i. elim (In-append_cases o os more i) [ inl a ↦ subst (IsOperationOf o) (sym parts) (In-append_left o (gathered es) (gathered fs) (h.some o a)) | inr b ↦ there o b ];
     }
 
 -- the log of a node that issues operations, each of which is one state more
@@ -124,5 +124,5 @@ pub log_issued : (log : List StateValue) (os more : List Operation) (es : Entrie
 log_issued log os more es h =
     let all = gathered_alone more in
     log_more log (meanings more) os more es (each_alone more) h (sym (logged_alone more))
-    (λ o i. In-append_right o os more (subst (In o) all i))
-    (λ o i. subst (In o) (sym (gathered-append es (each_alone more))) (In-append_right o (gathered es) (gathered (each_alone more)) (subst (In o) (sym all) i)))
+    (λ o i. In-append_right o os more (subst (IsOperationOf o) all i))
+    (λ o i. subst (IsOperationOf o) (sym (gathered-append es (each_alone more))) (In-append_right o (gathered es) (gathered (each_alone more)) (subst (IsOperationOf o) (sym all) i)))

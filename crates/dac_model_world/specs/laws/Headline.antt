@@ -7,15 +7,15 @@ use Rattle.dac_dots.specs.declared.dot.Origin.{Origin}
 use Rattle.dac_operations.specs.Operations.{Operation}
 use Rattle.dac_config.specs.Table.{Table}
 use Rattle.dac_meaning.specs.StateValue.{StateValue}
-use Rattle.dac_meaning.specs.Meaning.{meaning_of, In}
+use Rattle.dac_meaning.specs.Meaning.{meaning_of, IsOperationOf}
 use Rattle.dac_meaning.specs.laws.StateLaws.{state_laws}
 use Rattle.dac_events.specs.declared.WorldEvent.{WorldEvent}
 use Rattle.dac_messages.specs.StateSpelling.{spelling_of}
 use Rattle.dac_decide.specs.Placement.{holder_of, verdict_of, candidate_of}
-use Rattle.dac_model_node.specs.NodeValue.{RunValue, origin_of, state_of}
+use Rattle.dac_model_node.specs.NodeValue.{RunningValue, origin_of, state_of}
 use Rattle.dac_messages.specs.declared.message.Message.{Message}
 use Rattle.dac_model_world.specs.WorldValue.{WorldValue}
-use Rattle.dac_model_node.specs.ModelNode.{ModelNode, ModelRun, run_shown}
+use Rattle.dac_model_node.specs.ModelNode.{ModelNode, ModelRunning, running_shown}
 use Rattle.dac_model_node.specs.laws.Options.{some_same}
 use Rattle.dac_model_world.specs.ModelWorld.{ModelWorld, Shows, RanAs, start, numbered}
 use Rattle.dac_model_world.specs.SetWorld.{SetWorld, NodeSet, Copy, set_run, no_sets}
@@ -40,13 +40,13 @@ use Rattle.dac_model_world.specs.laws.CausalityInRuns.{is_causal}
 use Rattle.dac_model_world.specs.laws.Runs.{node_there}
 use Rattle.dac_model_world.specs.laws.Records.{have_histories}
 
-state_shown : (t : Table) (run : Option ModelRun) → option_map (λ (r : RunValue). r.state) (option_map (run_shown t) run) ≡ option_map state_in run
+state_shown : (t : Table) (running : Option ModelRunning) → option_map (λ (r : RunningValue). r.state) (option_map (running_shown t) running) ≡ option_map state_in running
 state_shown t None = refl
 state_shown t (Some r) = refl
 
 -- a running node's incarnation is its set's
-incarnation_held : (t : Table) (ops : List Operation) (n : NodeId) (d : ModelNode) (held : Option NodeSet) (es : Entries) → NodeOk ops n d held es → (run : Option ModelRun) → d.run ≡ run → (o : Option NodeSet) → held ≡ o → option_map state_in run ≡ option_map state_by o →
-    option_map (λ (r : RunValue). r.origin) (option_map (run_shown t) run) ≡ option_map (origin_by n) o
+incarnation_held : (t : Table) (ops : List Operation) (n : NodeId) (d : ModelNode) (held : Option NodeSet) (es : Entries) → NodeOk ops n d held es → (running : Option ModelRunning) → d.running ≡ running → (o : Option NodeSet) → held ≡ o → option_map state_in running ≡ option_map state_by o →
+    option_map (λ (r : RunningValue). r.origin) (option_map (running_shown t) running) ≡ option_map (origin_by n) o
 incarnation_held t ops n d held es h None on None is same = refl
 incarnation_held t ops n d held es h None on (Some set) is same = cc
 incarnation_held t ops n d held es h (Some r) on None is same = cc
@@ -54,11 +54,11 @@ incarnation_held t ops n d held es h (Some r) on (Some set) is same = ap (λ (q 
 
 pub holds_sets : (t : Table) (w : ModelWorld) (v : WorldValue) (s : SetWorld) → Shows t w v → Sound w s → HoldsSets v s
 holds_sets t w v s shows h = record {
-  each = λ n x e. ap state_of (node_there t w v shows n x e) ∙ (state_shown t (w.node (numbered n)).run ∙ (h.nodes (numbered n)).state);
+  each = λ n x e. ap state_of (node_there t w v shows n x e) ∙ (state_shown t (w.node (numbered n)).running ∙ (h.nodes (numbered n)).state);
   incarnation = λ n x e.
       let m = numbered n in
       let d = w.node m in
-      ap origin_of (node_there t w v shows n x e) ∙ incarnation_held t w.operations m d (s.node m) (h.entries m) (h.nodes m) d.run refl (s.node m) refl (h.nodes m).state;
+      ap origin_of (node_there t w v shows n x e) ∙ incarnation_held t w.operations m d (s.node m) (h.entries m) (h.nodes m) d.running refl (s.node m) refl (h.nodes m).state;
 }
 
 pub each_is_meaning : (t : Table) (w : ModelWorld) (v : WorldValue) (s : SetWorld) → Shows t w v → Sound w s → EachIsMeaning v
@@ -96,7 +96,7 @@ pub carry_meanings : (t : Table) (w : ModelWorld) (v : WorldValue) (s : SetWorld
 carry_meanings t w v s shows h = record {
   each = λ k m e.
       let c = CopiesOk-get w.operations (seen w.node s.node h.entries) w.messages s.copies k m h.copies (ap (λ ms. slice_get ms k) (sym shows.messages) ∙ e) in
-      (c.1.1.delta, (λ o i. subst (In o) (sym shows.operations) (c.1.1.within o (c.1.1.inside o i)), c.1.1.body));
+      (c.1.1.delta, (λ o i. subst (IsOperationOf o) (sym shows.operations) (c.1.1.within o (c.1.1.inside o i)), c.1.1.body));
 }
 
 -- there are as many copies as messages

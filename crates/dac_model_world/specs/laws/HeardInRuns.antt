@@ -26,7 +26,7 @@ use Rattle.dac_events.specs.declared.refusal.Refusal.{Refusal}
 use Rattle.dac_events.specs.declared.refusal.Refusal.TheVariants.{OnSelf, NotForMe, DotsUsedUp}
 use Rattle.dac_events.specs.declared.world_fault.WorldFault.{WorldFault}
 use Rattle.dac_events.specs.declared.world_fault.WorldFault.TheVariants.{NoSuchNode}
-use Rattle.dac_model_node.specs.ModelNode.{ModelNode, ModelRun, joined, shown, run_shown}
+use Rattle.dac_model_node.specs.ModelNode.{ModelNode, ModelRunning, joined, shown, running_shown}
 use Rattle.dac_model_node.specs.EventRefusals.{refusal_of, refusal_by, overflows, too_many_deltas}
 use Rattle.dac_model_node.specs.Step.{Stepped, model_step, step_by, accepted, deed_on}
 use Rattle.dac_model_node.specs.laws.Steps.{step_accepted}
@@ -116,33 +116,33 @@ abbrev pub Outcome : ℕ → Answer → Type 0
 Outcome count a = IsHeard a ⊎ IsFull count a
 
 module _ (t : Table) (w : ModelWorld) (s : SetWorld) (h : Sound w s) (deltas : NodeId → ℕ) (few : IsFew deltas w) (n : NodeId) where
-  run_there : RunsIn s n → (r : ModelRun) × ((w.node n).run ≡ Some r)
-  run_there runs = by_run (w.node n).run refl ((h.nodes n).state ∙ ap (option_map state_by) runs.1)
+  run_there : RunsIn s n → (r : ModelRunning) × ((w.node n).running ≡ Some r)
+  run_there runs = by_run (w.node n).running refl ((h.nodes n).state ∙ ap (option_map state_by) runs.1)
     where
-      by_run : (run : Option ModelRun) → (w.node n).run ≡ run → option_map state_in run ≡ Some (state_by runs.0) → (r : ModelRun) × ((w.node n).run ≡ Some r)
+      by_run : (running : Option ModelRunning) → (w.node n).running ≡ running → option_map state_in running ≡ Some (state_by runs.0) → (r : ModelRunning) × ((w.node n).running ≡ Some r)
       by_run None on e = none_some e
       by_run (Some r) on e = (r, on)
 
   -- what isn't refused and is answered as heard
-  heard_free : (e : Event) (r : ModelRun) (fresh : Bool) → (w.node n).run ≡ Some r → refusal_of t (shown t (w.node n)) e ≡ None → (deed_on t r e).reply ≡ Heard fresh → IsHeard (happens_by t w n (Ok e)).answer
-  heard_free e r fresh on none is = (fresh, ap (λ (st : Stepped). (answered_by w n st.node st.answer).answer) (step_accepted t n (w.node n) e none ∙ ap (λ run. accepted t n (w.node n).last run e) on) ∙ ap (λ reply. Ok reply) is)
+  heard_free : (e : Event) (r : ModelRunning) (fresh : Bool) → (w.node n).running ≡ Some r → refusal_of t (shown t (w.node n)) e ≡ None → (deed_on t r e).reply ≡ Heard fresh → IsHeard (happens_by t w n (Ok e)).answer
+  heard_free e r fresh on none is = (fresh, ap (λ (st : Stepped). (answered_by w n st.node st.answer).answer) (step_accepted t n (w.node n) e none ∙ ap (λ running. accepted t n (w.node n).last running e) on) ∙ ap (λ reply. Ok reply) is)
 
   -- a node that lacks a number has as many deltas as have numbers
-  is_full : (r : ModelRun) → (w.node n).run ≡ Some r → too_many_deltas (run_shown t r) 1 ≡ true → MAX_COUNTER ≤ deltas n
+  is_full : (r : ModelRunning) → (w.node n).running ≡ Some r → too_many_deltas (running_shown t r) 1 ≡ true → MAX_COUNTER ≤ deltas n
   is_full r on e = at_most MAX_COUNTER (length r.log) (deltas n) (ltb-true MAX_COUNTER (length r.log + 1) e) (few n r on)
     where
       at_most : (m c k : ℕ) → m < c + 1 → c ≤ k → m ≤ k
       at_most m c k a b = omega arith
 
   -- what is refused only where a number is lacking
-  heard_or_full : (e : Event) (r : ModelRun) (fresh : Bool) (full : Bool) → (w.node n).run ≡ Some r → (full ≡ true → too_many_deltas (run_shown t r) 1 ≡ true) → refusal_of t (shown t (w.node n)) e ≡ first ((full, DotsUsedUp) ∷ []) → (deed_on t r e).reply ≡ Heard fresh →
+  heard_or_full : (e : Event) (r : ModelRunning) (fresh : Bool) (full : Bool) → (w.node n).running ≡ Some r → (full ≡ true → too_many_deltas (running_shown t r) 1 ≡ true) → refusal_of t (shown t (w.node n)) e ≡ first ((full, DotsUsedUp) ∷ []) → (deed_on t r e).reply ≡ Heard fresh →
       Outcome (deltas n) (happens_by t w n (Ok e)).answer
   heard_or_full e r fresh true on lacks why is = inr (ap (λ x. let st = step_by x t n (w.node n) e in (answered_by w n st.node st.answer).answer) why, is_full r on (lacks refl))
   heard_or_full e r fresh false on lacks free is = inl (heard_free e r fresh on free is)
 
   -- a message for the node is refused only where it overflows
-  message_free : (k : ℕ) (fits : IsCopyFor s n k) (m : Message) (r : ModelRun) → (w.node n).run ≡ Some r → CopyOk w.operations (seen w.node s.node h.entries) m fits.copy →
-      refusal_of t (shown t (w.node n)) (Hear m) ≡ first ((overflows (run_shown t r) (content_of m.body), DotsUsedUp) ∷ [])
+  message_free : (k : ℕ) (fits : IsCopyFor s n k) (m : Message) (r : ModelRunning) → (w.node n).running ≡ Some r → CopyOk w.operations (seen w.node s.node h.entries) m fits.copy →
+      refusal_of t (shown t (w.node n)) (Hear m) ≡ first ((overflows (running_shown t r) (content_of m.body), DotsUsedUp) ∷ [])
   message_free k fits m r on copy =
       let last = (w.node n).last in
       let held = held_at w s n r h on in
@@ -150,20 +150,20 @@ module _ (t : Table) (w : ModelWorld) (s : SetWorld) (h : Sound w s) (deltas : N
       (λ i. nat_eq (copy.to i).0 n.0 && (not (nat_eq (copy.from i).0 n.0) && option_map_or (λ inc. nat_eq inc (sym held.inc i)) (copy.only i) true)) ∙ fits.fits held.set held.is in
       let to = and_parts (nat_eq m.to.0 n.0) (not (nat_eq m.from.node.0 n.0) && option_map_or (λ inc. nat_eq inc last) m.only true) all in
       let rest = and_parts (not (nat_eq m.from.node.0 n.0)) (option_map_or (λ inc. nat_eq inc last) m.only true) to.1 in
-      ap (λ run. refusal_by t last (option_map (run_shown t) run) (Hear m)) on
-      ∙ (ap (λ (q : Origin). first ((nat_eq m.from.node.0 q.node.0, OnSelf) ∷ (not (nat_eq m.to.0 q.node.0 && option_map_or (λ inc. nat_eq inc q.inc) m.only true), NotForMe) ∷ (overflows (run_shown t r) (content_of m.body), DotsUsedUp) ∷ [])) held.mine
-      ∙ for_it (nat_eq m.from.node.0 n.0) (nat_eq m.to.0 n.0) (option_map_or (λ inc. nat_eq inc last) m.only true) (overflows (run_shown t r) (content_of m.body)) (turned (nat_eq m.from.node.0 n.0) rest.0) to.0 rest.1)
+      ap (λ running. refusal_by t last (option_map (running_shown t) running) (Hear m)) on
+      ∙ (ap (λ (q : Origin). first ((nat_eq m.from.node.0 q.node.0, OnSelf) ∷ (not (nat_eq m.to.0 q.node.0 && option_map_or (λ inc. nat_eq inc q.inc) m.only true), NotForMe) ∷ (overflows (running_shown t r) (content_of m.body), DotsUsedUp) ∷ [])) held.mine
+      ∙ for_it (nat_eq m.from.node.0 n.0) (nat_eq m.to.0 n.0) (option_map_or (λ inc. nat_eq inc last) m.only true) (overflows (running_shown t r) (content_of m.body)) (turned (nat_eq m.from.node.0 n.0) rest.0) to.0 rest.1)
 
   heard_by_node : (what : What) → RunsIn s n → Fits s n what → Outcome (deltas n) (happens_by t w n (event_of w.operations w.messages what)).answer
   heard_by_node (Deliver k) runs fits =
-      let run = run_there runs in
+      let running = run_there runs in
       let m = copy_counted w.operations (seen w.node s.node h.entries) w.messages s.copies k fits.copy h.copies fits.there in
       subst (λ o. Outcome (deltas n) (happens_by t w n (heard_by o)).answer) (sym m.1.0)
-      (heard_or_full (Hear m.0) run.0 (not (is_below (content_of m.0.body) (joined run.0.log))) (overflows (run_shown t run.0) (content_of m.0.body)) run.1 (right (not (is_below (content_of m.0.body) (joined run.0.log))) (too_many_deltas (run_shown t run.0) 1)) (message_free k fits m.0 run.0 run.1 m.1.1) refl)
+      (heard_or_full (Hear m.0) running.0 (not (is_below (content_of m.0.body) (joined running.0.log))) (overflows (running_shown t running.0) (content_of m.0.body)) running.1 (right (not (is_below (content_of m.0.body) (joined running.0.log))) (too_many_deltas (running_shown t running.0) 1)) (message_free k fits m.0 running.0 running.1 m.1.1) refl)
   heard_by_node (Hand k) runs fits =
-      let run = run_there runs in
+      let running = run_there runs in
       subst (λ o. Outcome (deltas n) (happens_by t w n (handed_by o)).answer) (sym (ap (λ os. counted os k) (sym h.issued) ∙ fits.1))
-      (heard_or_full (HearOp fits.0) run.0 (not (is_below (meaning_of (fits.0 ∷ [])) (joined run.0.log))) (overflows (run_shown t run.0) (meaning_of (fits.0 ∷ []))) run.1 (right (not (is_below (meaning_of (fits.0 ∷ [])) (joined run.0.log))) (too_many_deltas (run_shown t run.0) 1)) (ap (λ r. refusal_by t (w.node n).last (option_map (run_shown t) r) (HearOp fits.0)) run.1) refl)
+      (heard_or_full (HearOp fits.0) running.0 (not (is_below (meaning_of (fits.0 ∷ [])) (joined running.0.log))) (overflows (running_shown t running.0) (meaning_of (fits.0 ∷ []))) running.1 (right (not (is_below (meaning_of (fits.0 ∷ [])) (joined running.0.log))) (too_many_deltas (running_shown t running.0) 1)) (ap (λ r. refusal_by t (w.node n).last (option_map (running_shown t) r) (HearOp fits.0)) running.1) refl)
   heard_by_node _ runs fits = absurd fits
 
 -- ---- one event of the world, and every run

@@ -5,7 +5,7 @@ use Rattle.dac_config.specs.Table.{Table}
 use Rattle.dac_messages.specs.declared.event.Event.{Event}
 use Rattle.dac_messages.specs.declared.reply.Reply.{Reply}
 use Rattle.dac_events.specs.declared.refusal.Refusal.{Refusal}
-use Rattle.dac_model_node.specs.ModelNode.{ModelNode, ModelRun, shown}
+use Rattle.dac_model_node.specs.ModelNode.{ModelNode, ModelRunning, shown}
 use Rattle.dac_model_node.specs.EventRefusals.{refusal_of}
 use Rattle.dac_model_node.specs.Step.{model_step, step_by, accepted}
 use Rattle.dac_model_world.specs.Histories.{Entry, IsHistory}
@@ -14,7 +14,7 @@ ok_err : {P : Type 0} (reply : Reply) (why : Refusal) → ◌≡◌ {A = Result 
 ok_err reply why e = cc
 
 -- an event that isn't refused is answered by a reply
-accepted_ok : {P : Type 0} (t : Table) (me : NodeId) (d : ModelNode) (run : Option ModelRun) (e : Event) (why : Refusal) → (accepted t me d.last run e).answer ≡ Err why → P
+accepted_ok : {P : Type 0} (t : Table) (me : NodeId) (d : ModelNode) (running : Option ModelRunning) (e : Event) (why : Refusal) → (accepted t me d.last running e).answer ≡ Err why → P
 accepted_ok t me d None e why is = ok_err _ why is
 accepted_ok t me d (Some r) e why is = ok_err _ why is
 
@@ -24,7 +24,7 @@ refused_stays t me d e why is = stays (refusal_of t (shown t d) e) is
   where
     stays : (r : Option Refusal) → (step_by r t me d e).answer ≡ Err why → (step_by r t me d e).node ≡ d
     stays (Some least) h = refl
-    stays None h = accepted_ok t me d d.run e why h
+    stays None h = accepted_ok t me d d.running e why h
 
 -- a history goes on by one event
 pub IsHistory-push : (t : Table) (me : NodeId) (d : ModelNode) (xs : List Entry) (mid : ModelNode) (x : Entry) → IsHistory t me d xs mid → (model_step t me mid x.event).answer ≡ x.answer

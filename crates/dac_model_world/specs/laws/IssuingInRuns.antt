@@ -7,7 +7,7 @@ use Rattle.dac_base.specs.declared.NodeId.{NodeId}
 use Rattle.dac_dots.specs.declared.dot.Origin.{Origin}
 use Rattle.dac_operations.specs.Operations.{Operation}
 use Rattle.dac_meaning.specs.StateValue.{StateValue, join}
-use Rattle.dac_meaning.specs.Meaning.{meaning_of, In, Within, Agree}
+use Rattle.dac_meaning.specs.Meaning.{meaning_of, IsOperationOf, AreOperationsOf, DotsDetermine}
 use Rattle.dac_meaning.specs.laws.Members.{Within-append, In-append_left, In-append_right}
 use Rattle.dac_config.specs.Table.{Table}
 use Rattle.dac_decide.specs.declared.start_gate.Opening.{Opening}
@@ -17,13 +17,13 @@ use Rattle.dac_decide.specs.FailoverWait.{Note, waits_of}
 use Rattle.dac_events.specs.declared.WorldEvent.{WorldEvent}
 use Rattle.dac_messages.specs.declared.message.Message.{Message}
 use Rattle.dac_messages.specs.declared.event.Event.{Event}
-use Rattle.dac_messages.specs.declared.event.Event.TheVariants.{Boot, Crash, Command as Told, Tick, Ship, Hear, HearOp}
+use Rattle.dac_messages.specs.declared.event.Event.TheVariants.{Boot, Crash, Command as Commanded, Tick, Ship, Hear, HearOp}
 use Rattle.dac_commands.specs.Commands.{act_of, next_operation}
 use Rattle.dac_commands.specs.Causes.{refusal_of_command}
 use Rattle.dac_events.specs.declared.world_fault.WorldFault.TheVariants.{NoSuchNode}
 use Rattle.dac_model_node.specs.Ticks.{turn_of}
 use Rattle.dac_model_node.specs.Issued.{AreIssued}
-use Rattle.dac_model_node.specs.ModelNode.{ModelNode, ModelRun, joined, shown, run_shown}
+use Rattle.dac_model_node.specs.ModelNode.{ModelNode, ModelRunning, joined, shown, running_shown}
 use Rattle.dac_model_node.specs.EventRefusals.{refusal_of, refusal_by, refusal_to_tick}
 use Rattle.dac_model_node.specs.Deeds.{ticks_by, opening_at, moment_of, note_of}
 use Rattle.dac_model_node.specs.Step.{step_by, accepted, up, comes_up, goes_on}
@@ -45,7 +45,7 @@ use Rattle.dac_model_world.specs.laws.Sound.{Answer, Sound, held_at, sound_happe
 -- what was issued is in order, and each running node came up by an operation of its incarnation
 pub record Numbered (w : ModelWorld) : Type 0 where
   pub order : InOrder w.operations (λ n. (w.node n).last)
-  pub came : (n : NodeId) (r : ModelRun) → (w.node n).run ≡ Some r → In (up (own_origin n (w.node n).last)) w.operations
+  pub came : (n : NodeId) (r : ModelRunning) → (w.node n).running ≡ Some r → IsOperationOf (up (own_origin n (w.node n).last)) w.operations
 
 pub numbered_start : (t : Table) → Numbered (start t)
 numbered_start t = record { order = order_none _; came = λ n r e. none_some e }
@@ -77,12 +77,12 @@ module _ (t : Table) (w : ModelWorld) (s : SetWorld) (e : WorldEvent) (h : Sound
   alive_at d = subst (λ b. d.last ≤ (cond b d (w.node n)).last) (sym (eq-eqb n.0 n.0 refl)) (le_refl d.last)
 
   -- node n goes on to d; it issues qs and ships ms
-  numbered_next : (d : ModelNode) (qs : List Operation) (ms : List Message) → InOrder (w.operations ++ qs) (lasts d) → ((r : ModelRun) → d.run ≡ Some r → In (up (own_origin n d.last)) (w.operations ++ qs)) →
+  numbered_next : (d : ModelNode) (qs : List Operation) (ms : List Message) → InOrder (w.operations ++ qs) (lasts d) → ((r : ModelRunning) → d.running ≡ Some r → IsOperationOf (up (own_origin n d.last)) (w.operations ++ qs)) →
       Numbered (record { count = w.count; node = with_node w.node n d; operations = w.operations ++ qs; messages = w.messages ++ ms })
   numbered_next d qs ms order here = record {
     order = order;
-    came = λ m. elim (nat_eq m.0 n.0) as (λ b. nat_eq m.0 n.0 ≡ b → (r : ModelRun) → (cond b d (w.node m)).run ≡ Some r → In (up (own_origin m (cond b d (w.node m)).last)) (w.operations ++ qs)) [
-      | true ↦ λ same r p. subst (λ (x : NodeId). In (up (own_origin x d.last)) (w.operations ++ qs)) (sym (same_node m n same)) (here r p)
+    came = λ m. elim (nat_eq m.0 n.0) as (λ b. nat_eq m.0 n.0 ≡ b → (r : ModelRunning) → (cond b d (w.node m)).running ≡ Some r → IsOperationOf (up (own_origin m (cond b d (w.node m)).last)) (w.operations ++ qs)) [
+      | true ↦ λ same r p. subst (λ (x : NodeId). IsOperationOf (up (own_origin x d.last)) (w.operations ++ qs)) (sym (same_node m n same)) (here r p)
       | false ↦ λ _ r p. In-append_left (up (own_origin m (w.node m).last)) w.operations qs (k.came m r p)
     ] refl;
   }
@@ -93,7 +93,7 @@ module _ (t : Table) (w : ModelWorld) (s : SetWorld) (e : WorldEvent) (h : Sound
     act = refl;
     inc = (w.node n).last + 1;
     first = refl;
-    later = λ p i at. one_above p.dot.origin.inc (w.node n).last ((h.nodes n).old p (subst (In p) h.issued i) at);
+    later = λ p i at. one_above p.dot.origin.inc (w.node n).last ((h.nodes n).old p (subst (IsOperationOf p) h.issued i) at);
   }
     where
       one_above : (i l : ℕ) → i ≤ l → i < l + 1
@@ -117,14 +117,14 @@ module _ (t : Table) (w : ModelWorld) (s : SetWorld) (e : WorldEvent) (h : Sound
       too_late : (l i : ℕ) → i ≤ l → i ≡ l + 1 → ⊥
       too_late l i a b = omega arith
 
-  module _ (r : ModelRun) (on : (w.node n).run ≡ Some r) where
+  module _ (r : ModelRunning) (on : (w.node n).running ≡ Some r) where
     -- a running node goes on in its incarnation
-    goes : (after : Option ModelRun) (qs : List Operation) (ms : List Message) → AreOf r.origin qs → AreNext (held_at w s n r h on).set.operations qs →
-        AreIssuedAt s n qs × Numbered (record { count = w.count; node = with_node w.node n (record { last = (w.node n).last; run = after }); operations = w.operations ++ qs; messages = w.messages ++ ms })
+    goes : (after : Option ModelRunning) (qs : List Operation) (ms : List Message) → AreOf r.origin qs → AreNext (held_at w s n r h on).set.operations qs →
+        AreIssuedAt s n qs × Numbered (record { count = w.count; node = with_node w.node n (record { last = (w.node n).last; running = after }); operations = w.operations ++ qs; messages = w.messages ++ ms })
     goes after qs ms of next =
         let last = (w.node n).last in
         let held = held_at w s n r h on in
-        let d : ModelNode = record { last = last; run = after } in
+        let d : ModelNode = record { last = last; running = after } in
         let order = order_later w.operations (λ m. (w.node m).last) (lasts d) (on_later d (le_refl last)) k.order in
         let all = order_all (own_origin n last) (lasts d) (alive_at d) w.operations held.set.operations qs order held.ok.within held.ok.own (subst (λ q. AreOf q qs) held.mine of) next in
         let issued : AreIssuedAt s n qs = record {
@@ -135,21 +135,21 @@ module _ (t : Table) (w : ModelWorld) (s : SetWorld) (e : WorldEvent) (h : Sound
         (issued, numbered_next d qs ms all.1 (λ _ _. In-append_left (up (own_origin n last)) w.operations qs (k.came n r on)))
 
     -- it issues nothing
-    stays : (after : Option ModelRun) (ms : List Message) → Numbered (record { count = w.count; node = with_node w.node n (record { last = (w.node n).last; run = after }); operations = w.operations ++ []; messages = w.messages ++ ms })
+    stays : (after : Option ModelRunning) (ms : List Message) → Numbered (record { count = w.count; node = with_node w.node n (record { last = (w.node n).last; running = after }); operations = w.operations ++ []; messages = w.messages ++ ms })
     stays after ms = (goes after [] ms tt tt).1
 
-    claims_next : (noted : List (Option Noted)) (now : ℕ) → refusal_to_tick t (run_shown t r) now ≡ None → let more = (turn_of t r.origin noted now (joined r.log)).ops in Agree (w.operations ++ more) → AreNext (held_at w s n r h on).set.operations more
+    claims_next : (noted : List (Option Noted)) (now : ℕ) → refusal_to_tick t (running_shown t r) now ≡ None → let more = (turn_of t r.origin noted now (joined r.log)).ops in DotsDetermine (w.operations ++ more) → AreNext (held_at w s n r h on).set.operations more
     claims_next noted now none agree =
         let held = held_at w s n r h on in
         let os = held.set.operations in
         let more = (turn_of t r.origin noted now (joined r.log)).ops in
         let all = w.operations ++ more in
-        let inside : Within (os ++ more) all = Within-append os more all (λ o i. In-append_left o w.operations more (held.ok.within o i)) (λ o i. In-append_right o w.operations more i) in
-        after_claims t r.origin (joined r.log) os more held.state (Agree-within (os ++ more) all inside agree) (claims_are t r.origin noted now (joined r.log) (leaves_room t (run_shown t r) now none))
+        let inside : AreOperationsOf (os ++ more) all = Within-append os more all (λ o i. In-append_left o w.operations more (held.ok.within o i)) (λ o i. In-append_right o w.operations more i) in
+        after_claims t r.origin (joined r.log) os more held.state (Agree-within (os ++ more) all inside agree) (claims_are t r.origin noted now (joined r.log) (leaves_room t (running_shown t r) now none))
 
-    ticks : (note : Note) (noted : List (Option Noted)) (now : ℕ) (opening : Opening) → refusal_to_tick t (run_shown t r) now ≡ None →
-        let deed = ticks_by opening t (run_shown t r) noted now in
-        let by = answered_by w n (record { last = (w.node n).last; run = goes_on r note deed }) (Ok deed.reply) in
+    ticks : (note : Note) (noted : List (Option Noted)) (now : ℕ) (opening : Opening) → refusal_to_tick t (running_shown t r) now ≡ None →
+        let deed = ticks_by opening t (running_shown t r) noted now in
+        let by = answered_by w n (record { last = (w.node n).last; running = goes_on r note deed }) (Ok deed.reply) in
         Sound by.world (set_step s n e.what by.answer) → TellsIssued s e by.answer × Numbered by.world
     ticks note noted now Shut none next = (tt, stays _ [])
     ticks note noted now GiveUp none next = (tt, stays _ [])
@@ -158,20 +158,20 @@ module _ (t : Table) (w : ModelWorld) (s : SetWorld) (e : WorldEvent) (h : Sound
         goes _ more [] (are_of r.origin (joined r.log) more (claims_issued t r.origin noted now (joined r.log))) (claims_next noted now none (DistinctDots-agree _ next.distinct))
 
   -- an event that isn't refused
-  numbered_ok : (at : Event) (run : Option ModelRun) → refusal_of t (shown t (w.node n)) at ≡ None → (w.node n).run ≡ run →
-      let step = accepted t n (w.node n).last run at in
+  numbered_ok : (at : Event) (running : Option ModelRunning) → refusal_of t (shown t (w.node n)) at ≡ None → (w.node n).running ≡ running →
+      let step = accepted t n (w.node n).last running at in
       let by = answered_by w n step.node step.answer in
       Sound by.world (set_step s n e.what by.answer) → TellsIssued s e by.answer × Numbered by.world
   numbered_ok at None none on next = (booted, boots (moment_of at))
   numbered_ok (Boot now) (Some r) none on next = (tt, stays r on _ [])
   numbered_ok Crash (Some r) none on next = (tt, stays r on _ [])
-  numbered_ok (Told c) (Some r) none on next =
+  numbered_ok (Commanded c) (Some r) none on next =
       let held = held_at w s n r h on in
-      let free : refusal_of_command t r.origin (joined r.log) c ≡ None = first_free (refusal_of_command t r.origin (joined r.log) c) _ (ap (λ (l : Option ModelRun). refusal_by t (w.node n).last (option_map (run_shown t) l) (Told c)) (sym on) ∙ none) in
+      let free : refusal_of_command t r.origin (joined r.log) c ≡ None = first_free (refusal_of_command t r.origin (joined r.log) c) _ (ap (λ (l : Option ModelRunning). refusal_by t (w.node n).last (option_map (running_shown t) l) (Commanded c)) (sym on) ∙ none) in
       goes r on _ (next_operation (joined r.log) r.origin (act_of t (joined r.log) c) ∷ []) [] (refl, tt) (after_command t r.origin (joined r.log) c held.set.operations held.state free, tt)
   numbered_ok (Tick now) (Some r) none on next =
-      let free : refusal_to_tick t (run_shown t r) now ≡ None = ap (λ (l : Option ModelRun). refusal_by t (w.node n).last (option_map (run_shown t) l) (Tick now)) (sym on) ∙ none in
-      ticks r on (note_of (joined r.log) (Tick now)) (waits_of t (note_of (joined r.log) (Tick now) ∷ r.notes)) now (opening_at t (run_shown t r) now) free next
+      let free : refusal_to_tick t (running_shown t r) now ≡ None = ap (λ (l : Option ModelRunning). refusal_by t (w.node n).last (option_map (running_shown t) l) (Tick now)) (sym on) ∙ none in
+      ticks r on (note_of (joined r.log) (Tick now)) (waits_of t (note_of (joined r.log) (Tick now) ∷ r.notes)) now (opening_at t (running_shown t r) now) free next
   numbered_ok (Ship to) (Some r) none on next = (tt, stays r on _ (_ ∷ []))
   numbered_ok (Hear m) (Some r) none on next = (tt, stays r on _ [])
   numbered_ok (HearOp o) (Some r) none on next = (tt, stays r on _ [])
@@ -185,7 +185,7 @@ module _ (t : Table) (w : ModelWorld) (s : SetWorld) (e : WorldEvent) (h : Sound
         | Err fault ↦ λ _. (tt, k)
         | Ok at ↦ elim (refusal_of t (shown t (w.node n)) at) as (λ r. refusal_of t (shown t (w.node n)) at ≡ r → let st = step_by r t n (w.node n) at in let by = answered_by w n st.node st.answer in Tells by.world by.answer) [
           | Some why ↦ λ _ _. (tt, k)
-          | None ↦ λ none. numbered_ok at (w.node n).run none refl
+          | None ↦ λ none. numbered_ok at (w.node n).running none refl
         ] refl
       ]
 

@@ -14,7 +14,7 @@ use Rattle.dac_wishes.specs.Writes.{same_dot}
 use Rattle.dac_wishes.specs.laws.KeyedWrites.{same_dot_is, same_dot_itself}
 use Rattle.dac_operations.specs.declared.act.Act.{Act}
 use Rattle.dac_operations.specs.Operations.{Operation}
-use Rattle.dac_meaning.specs.Meaning.{meaning_of, In, Within, Agree, has_dot, replaces, is_replaced}
+use Rattle.dac_meaning.specs.Meaning.{meaning_of, IsOperationOf, AreOperationsOf, DotsDetermine, has_dot, replaces, is_replaced}
 use Rattle.dac_meaning.specs.laws.Members.{found, finds}
 use Rattle.dac_meaning.specs.laws.Readers.{heard-meaning, known-meaning}
 use Rattle.dac_meaning.specs.laws.Joins.{names-or}
@@ -25,7 +25,7 @@ use Rattle.dac_model_world.specs.laws.ClosedSets.{ClosedSet, IssuesOk, issue_of}
 use Rattle.dac_model_world.specs.laws.Standing.{StandsAs, IsReplacedBy, replaced_there}
 
 -- ---- maximal writes
-module _ (Writes Ends : Act → Type 0) (w : SetWorld) (ok : IssuesOk w.issued) (agree : Agree (operations_of w.issued)) where
+module _ (Writes Ends : Act → Type 0) (w : SetWorld) (ok : IssuesOk w.issued) (agree : DotsDetermine (operations_of w.issued)) where
   -- an operation that ends such writes replaces each that stands before it
   abbrev pub Takes : Type 0
   Takes = (before : List Operation) (o : Operation) (d : Dot) → Replaces (meaning_of before) o.act → Ends o.act → StandsAs Writes before d → replaces d o ≡ true
@@ -35,10 +35,10 @@ module _ (Writes Ends : Act → Type 0) (w : SetWorld) (ok : IssuesOk w.issued) 
   EndsReplaced = (p o : Act) → IsReplacedBy p o → Writes p → Ends o
 
   module _ (os : List Operation) (c : ClosedSet w.issued os) where
-    stays_last : Takes → (d : Dot) (x : StandsAs Writes os d) (later : Operation) → In later os → Ends later.act → IsCausallyBefore w x.operation later → ⊥
+    stays_last : Takes → (d : Dot) (x : StandsAs Writes os d) (later : Operation) → IsOperationOf later os → Ends later.act → IsCausallyBefore w x.operation later → ⊥
     stays_last takes d x later here ends b =
         let i = b.issue in
-        let inside : Within i.before os = c.closed i b.issued (subst (λ o. In o os) (sym b.is) here) in
+        let inside : AreOperationsOf i.before os = c.closed i b.issued (subst (λ o. IsOperationOf o os) (sym b.is) here) in
         let writes : Replaces (meaning_of i.before) later.act = subst (λ (o : Operation). Replaces (meaning_of i.before) o.act) b.is (ok i b.issued).next.replaces in
         elim (is_replaced d i.before) as (λ r. is_replaced d i.before ≡ r → ⊥) [
           | true ↦ λ t. let r = found (replaces d) i.before t in true≢false (sym (finds (replaces d) os r.0 (inside r.0 r.1.0) r.1.1) ∙ x.stays)
@@ -47,14 +47,14 @@ module _ (Writes Ends : Act → Type 0) (w : SetWorld) (ok : IssuesOk w.issued) 
               true≢false (sym (finds (replaces d) os later here (takes i.before later d writes ends before)) ∙ x.stays)
         ] refl
 
-    ended_last : EndsReplaced → (d : Dot) (m : IsDotOfOne (IsMaximal Writes Ends w os) d) (r : Operation) → In r os → replaces d r ≡ true → ⊥
+    ended_last : EndsReplaced → (d : Dot) (m : IsDotOfOne (IsMaximal Writes Ends w os) d) (r : Operation) → IsOperationOf r os → replaces d r ≡ true → ⊥
     ended_last ended d m r here t =
         let j = issue_of w.issued r (c.within r here) in
         let k = ok j.issue j.there in
         let p = replaced_there j.issue.before r.act d (subst (λ (o : Operation). Replaces (meaning_of j.issue.before) o.act) j.same k.next.replaces) t in
         let same : p.operation ≡ m.0 = agree p.operation m.0 (k.set.within p.operation p.there) (c.within m.0 m.1.0.there) (p.is ∙ sym m.1.1) in
         m.1.0.last r here (ended m.0.act r.act (subst (λ (o : Operation). IsReplacedBy o.act r.act) same p.by) m.1.0.writes)
-        (record { issue = j.issue; issued = j.there; is = j.same; held = subst (λ o. In o j.issue.before) same p.there })
+        (record { issue = j.issue; issued = j.there; is = j.same; held = subst (λ o. IsOperationOf o j.issue.before) same p.there })
 
     pub standing_is_maximal : Takes → EndsReplaced → (d : Dot) → StandsAs Writes os d ↔ IsDotOfOne (IsMaximal Writes Ends w os) d
     standing_is_maximal takes ended d = (
@@ -74,11 +74,11 @@ or_absorbs true b f = f refl
 or_absorbs false b f = refl
 
 -- the dot of one of the operations
-heard_by : (os : List Operation) (d : Dot) (o : Operation) → In o os → o.dot ≡ d → list_any (has_dot d) os ≡ true
+heard_by : (os : List Operation) (d : Dot) (o : Operation) → IsOperationOf o os → o.dot ≡ d → list_any (has_dot d) os ≡ true
 heard_by os d o here e = finds (has_dot d) os o here (ap (same_dot d) e ∙ same_dot_itself d)
 
 -- what is heard in a part of the set is heard in the set
-heard_within : (before os : List Operation) (d : Dot) → Within before os → set.contains (meaning_of before).heard d ≡ true → set.contains (meaning_of os).heard d ≡ true
+heard_within : (before os : List Operation) (d : Dot) → AreOperationsOf before os → set.contains (meaning_of before).heard d ≡ true → set.contains (meaning_of os).heard d ≡ true
 heard_within before os d inside h =
     let o = found (has_dot d) before (sym (heard-meaning before d) ∙ h) in
     heard-meaning os d ∙ finds (has_dot d) os o.0 (inside o.0 o.1.0) o.1.1
@@ -114,7 +114,7 @@ module _ (issues : List Issue) (ok : IssuesOk issues) where
       let j = issue_of issues r.0 (c.within r.0 r.1.0) in
       let i = j.issue in
       let p = replaced_there i.before r.0.act d (subst (λ (o : Operation). Replaces (meaning_of i.before) o.act) j.same (ok i j.there).next.replaces) r.1.1 in
-      heard_by os d p.operation (c.closed i j.there (subst (λ o. In o os) (sym j.same) r.1.0) p.operation p.there) p.is
+      heard_by os d p.operation (c.closed i j.there (subst (λ o. IsOperationOf o os) (sym j.same) r.1.0) p.operation p.there) p.is
 
   pub known_is_heard : (os : List Operation) → ClosedSet issues os → (meaning_of os).heard ≡ (meaning_of os).known
   known_is_heard os c = set.same_set dots_total exact_dots (meaning_of os).heard (meaning_of os).known (λ d.
@@ -129,7 +129,7 @@ module _ (issues : List Issue) (ok : IssuesOk issues) where
       let k = ok i j.there in
       let known = (meaning_of i.before).known in
       let is : i.operation.dot ≡ d = ap (λ (x : Operation). x.dot) j.same ∙ sym (same_dot_is d o.0.dot o.1.1) in
-      let inside : Within i.before os = c.closed i j.there (subst (λ x. In x os) (sym j.same) o.1.0) in
+      let inside : AreOperationsOf i.before os = c.closed i j.there (subst (λ x. IsOperationOf x os) (sym j.same) o.1.0) in
       let next : IsNext known origin d = subst (λ (x : Dot). IsNext known x.origin x) is k.next.next in
       record {
         least = elim next.tight [ inl one ↦ one_least n one | inr t ↦ after_another n (next.above (n - 1) t) ];

@@ -6,7 +6,7 @@ use Rattle.dac_wishes.specs.laws.KeyedWrites.{same_dot_is, same_dot_itself}
 use Rattle.dac_operations.specs.Operations.{Operation}
 use Rattle.dac_meaning.specs.StateValue.{IsBelow, bottom, join}
 use Rattle.dac_meaning.specs.laws.StateLaws.{state_laws, bottom_value, bottom_least}
-use Rattle.dac_meaning.specs.Meaning.{meaning_of, In, Within, Agree, has_dot}
+use Rattle.dac_meaning.specs.Meaning.{meaning_of, IsOperationOf, AreOperationsOf, DotsDetermine, has_dot}
 use Rattle.dac_meaning.specs.laws.Readers.{heard-meaning}
 use Rattle.dac_meaning.specs.laws.Members.{In-append_left, Within-append, found, finds}
 use Rattle.dac_meaning.specs.laws.Joins.{meaning-same, meaning-state, join-meaning}
@@ -23,44 +23,44 @@ join-bottom os =
     (state_laws.right bottom s bottom_value u)
 
 -- an operation of a set is heard in its meaning, and what is heard is one
-pub heard_in : (os : List Operation) (o : Operation) → In o os → set.contains (meaning_of os).heard o.dot ≡ true
+pub heard_in : (os : List Operation) (o : Operation) → IsOperationOf o os → set.contains (meaning_of os).heard o.dot ≡ true
 heard_in os o h = heard-meaning os o.dot ∙ finds (has_dot o.dot) os o h (same_dot_itself o.dot)
 
-in_heard : (os ops : List Operation) → Within os ops → Agree ops → (o : Operation) → In o ops → set.contains (meaning_of os).heard o.dot ≡ true → In o os
+in_heard : (os ops : List Operation) → AreOperationsOf os ops → DotsDetermine ops → (o : Operation) → IsOperationOf o ops → set.contains (meaning_of os).heard o.dot ≡ true → IsOperationOf o os
 in_heard os ops w agree o h t =
     let f = found (has_dot o.dot) os (sym (heard-meaning os o.dot) ∙ t) in
-    subst (λ (p : Operation). In p os) (sym (agree o f.0 h (w f.0 f.1.0) (same_dot_is o.dot f.0.dot f.1.1))) f.1.0
+    subst (λ (p : Operation). IsOperationOf p os) (sym (agree o f.0 h (w f.0 f.1.0) (same_dot_is o.dot f.0.dot f.1.1))) f.1.0
 
 -- what is below a set's meaning means operations of the set
-pub below_in : (os ps ops : List Operation) → Within os ops → Within ps ops → Agree ops → IsBelow (meaning_of ps) (meaning_of os) → Within ps os
+pub below_in : (os ps ops : List Operation) → AreOperationsOf os ops → AreOperationsOf ps ops → DotsDetermine ops → IsBelow (meaning_of ps) (meaning_of os) → AreOperationsOf ps os
 below_in os ps ops w v agree below o h = in_heard os ops w agree o (v o h) (below.heard o.dot (heard_in ps o h))
 
 -- where each operation of ps is heard in a state, what ps mean is below it
-pub below_where_heard : (os ps ops : List Operation) → Within os ops → Within ps ops → Agree ops → ((o : Operation) → In o ps → set.contains (meaning_of os).heard o.dot ≡ true) → IsBelow (meaning_of ps) (meaning_of os)
+pub below_where_heard : (os ps ops : List Operation) → AreOperationsOf os ops → AreOperationsOf ps ops → DotsDetermine ops → ((o : Operation) → IsOperationOf o ps → set.contains (meaning_of os).heard o.dot ≡ true) → IsBelow (meaning_of ps) (meaning_of os)
 below_where_heard os ps ops w v agree heard =
-    let all : Within (os ++ ps) ops = Within-append os ps ops w v in
+    let all : AreOperationsOf (os ++ ps) ops = Within-append os ps ops w v in
     let same : join (meaning_of os) (meaning_of ps) ≡ meaning_of os =
     join-meaning os ps (Agree-within (os ++ ps) ops all agree)
     ∙ sym (meaning-same os (os ++ ps) (λ o h. In-append_left o os ps h) (Within-append os ps os (λ o h. h) (λ o h. in_heard os ops w agree o (v o h) (heard o h)))) in
     subst (IsBelow (meaning_of ps)) same (state_laws.right (meaning_of os) (meaning_of ps) (meaning-state os) (meaning-state ps))
 
 -- ---- the operations that were heard
-In-filter : (p : Operation → Bool) (os : List Operation) (o : Operation) → In o os → p o ≡ true → In o (filter p os)
+In-filter : (p : Operation → Bool) (os : List Operation) (o : Operation) → IsOperationOf o os → p o ≡ true → IsOperationOf o (filter p os)
 In-filter p [] o h t = absurd h
-In-filter p (x ∷ os) o (inl e) t = subst (λ b. In o (cond b (x ∷ filter p os) (filter p os))) (sym (ap p (sym e) ∙ t)) (inl e)
-In-filter p (x ∷ os) o (inr h) t = elim (p x) as (λ b. In o (cond b (x ∷ filter p os) (filter p os))) [ true ↦ inr (In-filter p os o h t) | false ↦ In-filter p os o h t ]
+In-filter p (x ∷ os) o (inl e) t = subst (λ b. IsOperationOf o (cond b (x ∷ filter p os) (filter p os))) (sym (ap p (sym e) ∙ t)) (inl e)
+In-filter p (x ∷ os) o (inr h) t = elim (p x) as (λ b. IsOperationOf o (cond b (x ∷ filter p os) (filter p os))) [ true ↦ inr (In-filter p os o h t) | false ↦ In-filter p os o h t ]
 
-In-kept : (p : Operation → Bool) (x : Operation) (os : List Operation) (o : Operation) → (In o (filter p os) → In o os × (p o ≡ true)) → (b : Bool) → p x ≡ b → In o (cond b (x ∷ filter p os) (filter p os)) → In o (x ∷ os) × (p o ≡ true)
+In-kept : (p : Operation → Bool) (x : Operation) (os : List Operation) (o : Operation) → (IsOperationOf o (filter p os) → IsOperationOf o os × (p o ≡ true)) → (b : Bool) → p x ≡ b → IsOperationOf o (cond b (x ∷ filter p os) (filter p os)) → IsOperationOf o (x ∷ os) × (p o ≡ true)
 In-kept p x os o rest true t (inl e) = (inl e, ap p e ∙ t)
 In-kept p x os o rest true t (inr i) = let r = rest i in (inr r.0, r.1)
 In-kept p x os o rest false t i = let r = rest i in (inr r.0, r.1)
 
-In-from_filter : (p : Operation → Bool) (os : List Operation) (o : Operation) → In o (filter p os) → In o os × (p o ≡ true)
+In-from_filter : (p : Operation → Bool) (os : List Operation) (o : Operation) → IsOperationOf o (filter p os) → IsOperationOf o os × (p o ≡ true)
 In-from_filter p [] o h = absurd h
 In-from_filter p (x ∷ os) o h = In-kept p x os o (In-from_filter p os o) (p x) refl h
 
 -- a set's meaning is that of the operations whose dots it has heard
-pub meaning-heard_among : (os ops : List Operation) → Within os ops → Agree ops → meaning_of os ≡ meaning_of (heard_among (meaning_of os).heard ops)
+pub meaning-heard_among : (os ops : List Operation) → AreOperationsOf os ops → DotsDetermine ops → meaning_of os ≡ meaning_of (heard_among (meaning_of os).heard ops)
 meaning-heard_among os ops w agree =
     meaning-same os (heard_among (meaning_of os).heard ops)
     (λ o h. In-filter (λ (p : Operation). set.contains (meaning_of os).heard p.dot) ops o (w o h) (heard_in os o h))

@@ -14,7 +14,7 @@ use Rattle.dac_events.specs.declared.refusal.Refusal.{Refusal}
 use Rattle.dac_events.specs.declared.refusal.Refusal.TheVariants.{NoMemory}
 use Rattle.dac_events.specs.declared.world_fault.WorldFault.{WorldFault}
 use Rattle.dac_events.specs.declared.world_fault.WorldFault.TheVariants.{NoSuchNode, NoSuchMessage, NoSuchOperation, Refused}
-use Rattle.dac_model_node.specs.ModelNode.{ModelRun, shown}
+use Rattle.dac_model_node.specs.ModelNode.{ModelRunning, shown}
 use Rattle.dac_model_node.specs.EventRefusals.{refusal_of}
 use Rattle.dac_model_node.specs.Step.{step_by, accepted}
 use Rattle.dac_model_node.specs.laws.Refused.{never_memory}
@@ -53,14 +53,14 @@ enough_refused why other = enough_fault (Refused why) (λ e. other (why_same why
     why_same v u e = ap (why_of v) e
 
 module _ (t : Table) (w : ModelWorld) (n : NodeId) where
-  enough_accepted : (e : Event) (run : Option ModelRun) → let st = accepted t n (w.node n).last run e in Enough (answered_by w n st.node st.answer).answer
+  enough_accepted : (e : Event) (running : Option ModelRunning) → let st = accepted t n (w.node n).last running e in Enough (answered_by w n st.node st.answer).answer
   enough_accepted e None = enough_ok _
   enough_accepted e (Some r) = enough_ok _
 
   enough_by : (r : Result Event WorldFault) → ((fault : WorldFault) → r ≡ Err fault → fault ≡ Refused NoMemory → ⊥) → Enough (happens_by t w n r).answer
   enough_by (Err fault) other = enough_fault fault (other fault refl)
   enough_by (Ok e) other = elim (refusal_of t (shown t (w.node n)) e) as (λ r. refusal_of t (shown t (w.node n)) e ≡ r → let st = step_by r t n (w.node n) e in Enough (answered_by w n st.node st.answer).answer) [
-    | None ↦ λ _. enough_accepted e (w.node n).run
+    | None ↦ λ _. enough_accepted e (w.node n).running
     | Some why ↦ λ is. enough_refused why (λ p. never_memory t (shown t (w.node n)) e (is ∙ ap (λ x. Some x) p))
   ] refl
 

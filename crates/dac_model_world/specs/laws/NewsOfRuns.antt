@@ -9,7 +9,7 @@ use Rattle.dac_base.specs.declared.NodeId.{NodeId}
 use Rattle.dac_wishes.specs.laws.KeyedWrites.{same_dot_is}
 use Rattle.dac_operations.specs.Operations.{Operation}
 use Rattle.dac_meaning.specs.StateValue.{StateValue}
-use Rattle.dac_meaning.specs.Meaning.{meaning_of, In, Within, Agree, has_dot}
+use Rattle.dac_meaning.specs.Meaning.{meaning_of, IsOperationOf, AreOperationsOf, DotsDetermine, has_dot}
 use Rattle.dac_meaning.specs.laws.Readers.{heard-meaning}
 use Rattle.dac_meaning.specs.laws.Members.{found, finds}
 use Rattle.dac_config.specs.Table.{Table}
@@ -26,8 +26,8 @@ use Rattle.dac_events.specs.declared.refusal.Refusal.TheVariants.{AlreadyOn}
 use Rattle.dac_events.specs.declared.world_fault.WorldFault.TheVariants.{NoSuchNode}
 use Rattle.dac_meaning.specs.Below.{is_below}
 use Rattle.dac_meaning.specs.laws.Below.{is_below-is}
-use Rattle.dac_model_node.specs.NodeValue.{RunValue}
-use Rattle.dac_model_node.specs.ModelNode.{ModelRun, joined, shown, run_shown}
+use Rattle.dac_model_node.specs.NodeValue.{RunningValue}
+use Rattle.dac_model_node.specs.ModelNode.{ModelRunning, joined, shown, running_shown}
 use Rattle.dac_model_node.specs.EventRefusals.{refusal_of, refusal_by}
 use Rattle.dac_model_node.specs.Deeds.{ticks_by, opening_at, note_of}
 use Rattle.dac_model_node.specs.Step.{step_by, accepted}
@@ -67,7 +67,7 @@ missed_else os o f = pick (set.contains (meaning_of os).heard o.dot) f
     pick false g = absurd (g refl)
 
 -- the test whether one meaning is below another tells whether there is news
-pub news-is : (os ps ops : List Operation) → Within os ops → Within ps ops → Agree ops → IsTrue (not (is_below (meaning_of ps) (meaning_of os))) ↔ HasNews os ps
+pub news-is : (os ps ops : List Operation) → AreOperationsOf os ops → AreOperationsOf ps ops → DotsDetermine ops → IsTrue (not (is_below (meaning_of ps) (meaning_of os))) ↔ HasNews os ps
 news-is os ps ops w v agree = (
   λ t. elim (list_any (is_missed os) ps) as (λ b. list_any (is_missed os) ps ≡ b → HasNews os ps) [
     | true ↦ λ e. let f = found (is_missed os) ps e in (f.0, (f.1.0, λ h. missed-not os f.0 f.1.1 (has_dot_heard os f.0 h)))
@@ -80,14 +80,14 @@ news-is os ps ops w v agree = (
 -- ---- one event of the world
 
 -- Where the node has the rest of what an event brings, the whole has news exactly where the part that comes has
-news_of_part : (os part all : List Operation) → Within part all → ((o : Operation) → In o all → In o part ⊎ In o os) → HasNews os part ↔ HasNews os all
+news_of_part : (os part all : List Operation) → AreOperationsOf part all → ((o : Operation) → IsOperationOf o all → IsOperationOf o part ⊎ IsOperationOf o os) → HasNews os part ↔ HasNews os all
 news_of_part os part all inside rest = (
   λ h. (h.0, (inside h.0 h.1.0, h.1.1)),
   λ h. elim (rest h.0 h.1.0) [ inl a ↦ (h.0, (a, h.1.1)) | inr b ↦ absurd (h.1.1 (h.0, (b, refl))) ],
 )
 
 -- what a running node hears
-told_news : (w : ModelWorld) (s : SetWorld) (n : NodeId) (what : What) (body : StateValue) (r : ModelRun) (h : Sound w s) (on : (w.node n).run ≡ Some r) → Brings w s n what body (held_at w s n r h on).set.operations →
+told_news : (w : ModelWorld) (s : SetWorld) (n : NodeId) (what : What) (body : StateValue) (r : ModelRunning) (h : Sound w s) (on : (w.node n).running ≡ Some r) → Brings w s n what body (held_at w s n r h on).set.operations →
     IsTrue (not (is_below body (joined r.log))) ↔ HasNews (held_by (s.node n)) (brought_to s n what)
 told_news w s n what body r h on b =
     let held = held_at w s n r h on in
@@ -99,20 +99,20 @@ told_news w s n what body r h on b =
     (subst (λ (x : StateValue × StateValue). IsTrue (not (is_below x.0 x.1)) ↔ HasNews os b.operations) (λ i. (sym b.means i, sym held.state i))
     (λ t. part.0 (told.0 t), λ k. told.1 (part.1 k))))
 
-no_news : (t : Table) (s : SetWorld) (e : WorldEvent) (r : RunValue) (noted : List (Option Noted)) (now : ℕ) (opening : Opening) → TellsNews s e (Ok (ticks_by opening t r noted now).reply)
+no_news : (t : Table) (s : SetWorld) (e : WorldEvent) (r : RunningValue) (noted : List (Option Noted)) (now : ℕ) (opening : Opening) → TellsNews s e (Ok (ticks_by opening t r noted now).reply)
 no_news t s e r noted now Shut = tt
 no_news t s e r noted now GiveUp = tt
 no_news t s e r noted now Opened = tt
 
-news_ok : (t : Table) (w : ModelWorld) (s : SetWorld) (e : WorldEvent) (at : Event) (run : Option ModelRun) → Sound w s → event_of w.operations w.messages e.what ≡ Ok at → refusal_of t (shown t (w.node e.node)) at ≡ None → (w.node e.node).run ≡ run →
-    let step = accepted t e.node (w.node e.node).last run at in
+news_ok : (t : Table) (w : ModelWorld) (s : SetWorld) (e : WorldEvent) (at : Event) (running : Option ModelRunning) → Sound w s → event_of w.operations w.messages e.what ≡ Ok at → refusal_of t (shown t (w.node e.node)) at ≡ None → (w.node e.node).running ≡ running →
+    let step = accepted t e.node (w.node e.node).last running at in
     TellsNews s e (answered_by w e.node step.node step.answer).answer
 news_ok t w s e at None h is none on = tt
-news_ok t w s e (Boot now) (Some r) h is none on = absurd (no (ap (λ (l : Option ModelRun). refusal_by t (w.node e.node).last (option_map (run_shown t) l) (Boot now)) (sym on) ∙ none))
+news_ok t w s e (Boot now) (Some r) h is none on = absurd (no (ap (λ (l : Option ModelRunning). refusal_by t (w.node e.node).last (option_map (running_shown t) l) (Boot now)) (sym on) ∙ none))
   where
     no : Some AlreadyOn ≡ None → ⊥
     no p = cc
-news_ok t w s e (Tick now) (Some r) h is none on = no_news t s e (run_shown t r) (waits_of t (note_of (joined r.log) (Tick now) ∷ r.notes)) now (opening_at t (run_shown t r) now)
+news_ok t w s e (Tick now) (Some r) h is none on = no_news t s e (running_shown t r) (waits_of t (note_of (joined r.log) (Tick now) ∷ r.notes)) now (opening_at t (running_shown t r) now)
 news_ok t w s e (Hear m) (Some r) h is none on =
     told_news w s e.node e.what (content_of m.body) r h on (brings_copy w s e.node e.what m r h on is (heard_accepts t w s e.node r h on m none))
 news_ok t w s e (HearOp o) (Some r) h is none on = told_news w s e.node e.what (meaning_of (o ∷ [])) r h on (brings_one w s e.node e.what o (held_at w s e.node r h on).set.operations h is)
@@ -125,7 +125,7 @@ news_by t w s e h =
       | Err fault ↦ λ _. tt
       | Ok at ↦ λ is. elim (refusal_of t (shown t (w.node n)) at) as (λ r. refusal_of t (shown t (w.node n)) at ≡ r → TellsNews s e (answered_by w n (step_by r t n (w.node n) at).node (step_by r t n (w.node n) at).answer).answer) [
         | Some why ↦ λ _. tt
-        | None ↦ λ none. news_ok t w s e at (w.node n).run h is none refl
+        | None ↦ λ none. news_ok t w s e at (w.node n).running h is none refl
       ] refl
     ] refl
 

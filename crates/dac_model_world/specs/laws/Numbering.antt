@@ -20,7 +20,7 @@ use Rattle.dac_wishes.specs.laws.KeyedWrites.{same_dot_is, same_dot_itself}
 use Rattle.dac_operations.specs.declared.act.Act.{Act}
 use Rattle.dac_operations.specs.declared.act.Act.TheVariants.{Up, Down, Permit, Start, Stop, Drain, Claim}
 use Rattle.dac_operations.specs.Operations.{Operation}
-use Rattle.dac_meaning.specs.Meaning.{meaning_of, In, Within, has_dot, replaces, names, pairs, life_said}
+use Rattle.dac_meaning.specs.Meaning.{meaning_of, IsOperationOf, AreOperationsOf, has_dot, replaces, names, pairs, life_said}
 use Rattle.dac_meaning.specs.Chained.{SaysFor}
 use Rattle.dac_meaning.specs.laws.Chained.{of_said}
 use Rattle.dac_meaning.specs.laws.Members.{Within-append, In-append_left, In-append_right, In-append_cases, found, finds}
@@ -79,13 +79,13 @@ count_grows own ops o = subst (λ k. count_of own ops ≤ k) (sym (count_more ow
 -- ---- the invariant
 -- the incarnation issued none of the operations, or one whose counter is the number of its operations
 abbrev IsLatest : Origin → List Operation → Type 0
-IsLatest own ops = (count_of own ops ≡ 0) ⊎ ((o : Operation) × (In o ops × ((o.dot.origin ≡ own) × (o.dot.n ≡ count_of own ops))))
+IsLatest own ops = (count_of own ops ≡ 0) ⊎ ((o : Operation) × (IsOperationOf o ops × ((o.dot.origin ≡ own) × (o.dot.n ≡ count_of own ops))))
 
 -- the issued operations, where each node has this last incarnation
 pub record InOrder (ops : List Operation) (last : NodeId → ℕ) : Type 0 where
-  pub lives : (o : Operation) → In o ops → (n : NodeId) (l : Life) → life_said o.dot o.act ≡ Some (n, l) → l.inc ≤ last n
-  pub replaced : (d : Dot) (o : Operation) → In o ops → replaces d o ≡ true → HasDot d ops
-  pub counted : (o : Operation) → In o ops → o.dot.n ≤ count_of o.dot.origin ops
+  pub lives : (o : Operation) → IsOperationOf o ops → (n : NodeId) (l : Life) → life_said o.dot o.act ≡ Some (n, l) → l.inc ≤ last n
+  pub replaced : (d : Dot) (o : Operation) → IsOperationOf o ops → replaces d o ≡ true → HasDot d ops
+  pub counted : (o : Operation) → IsOperationOf o ops → o.dot.n ≤ count_of o.dot.origin ops
   pub latest : (own : Origin) → IsLatest own ops
 
 pub order_none : (last : NodeId → ℕ) → InOrder [] last
@@ -95,8 +95,8 @@ pub order_later : (ops : List Operation) (last later : NodeId → ℕ) → ((n :
 order_later ops last later on h = record { lives = λ o i n l e. le_trans (h.lives o i n l e) (on n); replaced = h.replaced; counted = h.counted; latest = h.latest }
 
 -- ---- the next operation of an incarnation that holds all that it issued
-module _ (ops : List Operation) (last : NodeId → ℕ) (os : List Operation) (o : Operation) (h : InOrder ops last) (inside : Within os ops)
-    (mine : (p : Operation) → In p ops → p.dot.origin ≡ o.dot.origin → In p os) (alive : o.dot.origin.inc ≤ last o.dot.origin.node) (next : IsNextAfter os o) where
+module _ (ops : List Operation) (last : NodeId → ℕ) (os : List Operation) (o : Operation) (h : InOrder ops last) (inside : AreOperationsOf os ops)
+    (mine : (p : Operation) → IsOperationOf p ops → p.dot.origin ≡ o.dot.origin → IsOperationOf p os) (alive : o.dot.origin.inc ≤ last o.dot.origin.node) (next : IsNextAfter os o) where
   abbrev issuer : Origin
   issuer = o.dot.origin
 
@@ -112,7 +112,7 @@ module _ (ops : List Operation) (last : NodeId → ℕ) (os : List Operation) (o
   below : count_of issuer ops < o.dot.n
   below = elim (h.latest issuer) [ inl none ↦ above_none next.next.tight none | inr q ↦ above_it q.0.dot.n (count_of issuer ops) o.dot.n (next.next.above q.0.dot.n (subst (λ (x : Origin). set.contains (meaning_of os).known (dot x q.0.dot.n) ≡ true) q.1.1.0 (known q.0 (mine q.0 q.1.0 q.1.1.0)))) q.1.1.1 ]
     where
-      known : (p : Operation) → In p os → set.contains (meaning_of os).known p.dot ≡ true
+      known : (p : Operation) → IsOperationOf p os → set.contains (meaning_of os).known p.dot ≡ true
       known p i = known-meaning os p.dot ∙ finds (names p.dot) os p i (ap (λ b. b || replaces p.dot p) (same_dot_itself p.dot))
 
       above_it : (n c m : ℕ) → n < m → n ≡ c → c < m
@@ -195,12 +195,12 @@ abbrev pub AreOf : Origin → List Operation → Type 0
 AreOf own [] = Unit {0}
 AreOf own (o ∷ os) = (o.dot.origin ≡ own) × AreOf own os
 
-pub order_all : (own : Origin) (last : NodeId → ℕ) → own.inc ≤ last own.node → (ops os more : List Operation) → InOrder ops last → Within os ops → ((p : Operation) → In p ops → p.dot.origin ≡ own → In p os) → AreOf own more → AreNext os more →
+pub order_all : (own : Origin) (last : NodeId → ℕ) → own.inc ≤ last own.node → (ops os more : List Operation) → InOrder ops last → AreOperationsOf os ops → ((p : Operation) → IsOperationOf p ops → p.dot.origin ≡ own → IsOperationOf p os) → AreOf own more → AreNext os more →
     AreOwn own ops more × InOrder (ops ++ more) last
 order_all own last alive ops os [] h inside mine of next = (tt, subst (λ l. InOrder l last) (sym (append-nil ops)) h)
 order_all own last alive ops os (x ∷ more) h inside mine of next =
     let same : x.dot.origin ≡ own = of.0 in
-    let own_too : (p : Operation) → In p ops → p.dot.origin ≡ x.dot.origin → In p os = λ p i e. mine p i (e ∙ same) in
+    let own_too : (p : Operation) → IsOperationOf p ops → p.dot.origin ≡ x.dot.origin → IsOperationOf p os = λ p i e. mine p i (e ∙ same) in
     let alive_too : x.dot.origin.inc ≤ last x.dot.origin.node = subst (λ (q : Origin). q.inc ≤ last q.node) (sym same) alive in
     let counter : x.dot.n ≡ count_of own ops + 1 = subst (λ (q : Origin). x.dot.n ≡ count_of q ops + 1) same (exact ops last os x h inside own_too alive_too next.0) in
     let rest = order_all own last alive (ops ++ x ∷ []) (os ++ x ∷ []) more (order_more ops last os x h inside own_too alive_too next.0)

@@ -14,14 +14,14 @@ use Rattle.dac_wishes.specs.laws.KeyedWrites.{same_dot_is, same_dot_itself}
 use Rattle.dac_operations.specs.declared.act.Act.{Act}
 use Rattle.dac_operations.specs.Operations.{Operation}
 use Rattle.dac_meaning.specs.StateValue.{StateValue, join}
-use Rattle.dac_meaning.specs.Meaning.{meaning_of, In, Within, Agree, has_dot, replaces, names}
+use Rattle.dac_meaning.specs.Meaning.{meaning_of, IsOperationOf, AreOperationsOf, DotsDetermine, has_dot, replaces, names}
 use Rattle.dac_meaning.specs.laws.Readers.{known-meaning}
 use Rattle.dac_meaning.specs.laws.Members.{Within-append, In-append_left, In-append_right, In-append_cases, found, finds}
 use Rattle.dac_meaning.specs.laws.Joins.{join-meaning}
 use Rattle.dac_commands.specs.Commands.{next_operation, greatest_counter}
 use Rattle.dac_commands.specs.laws.Counters.{counter-greatest}
 use Rattle.dac_model_node.specs.Issued.{IsNextOf, AreIssued}
-use Rattle.dac_model_node.specs.ModelNode.{ModelNode, ModelRun, joined}
+use Rattle.dac_model_node.specs.ModelNode.{ModelNode, ModelRunning, joined}
 use Rattle.dac_model_node.specs.Deeds.{meanings}
 use Rattle.dac_model_node.specs.Step.{up}
 use Rattle.dac_model_node.specs.laws.Options.{some_same}
@@ -33,50 +33,50 @@ use Rattle.dac_model_world.specs.laws.Gathered.{Entries, IsLogOf, log_means}
 abbrev pub own_origin : NodeId → ℕ → Origin
 own_origin n inc = record { node = n; inc = inc }
 
-abbrev pub state_in : ModelRun → StateValue
+abbrev pub state_in : ModelRunning → StateValue
 state_in r = joined r.log
 
 -- a node that runs, and one that is off
-abbrev pub runs_as : ℕ → ModelRun → ModelNode
-runs_as last r = record { last = last; run = Some r }
+abbrev pub runs_as : ℕ → ModelRunning → ModelNode
+runs_as last r = record { last = last; running = Some r }
 
 abbrev pub stays_off : ℕ → ModelNode
-stays_off last = record { last = last; run = None }
+stays_off last = record { last = last; running = None }
 
 -- ---- the invariant
 -- no operation is of a later incarnation of node n than the last
 abbrev pub NoneLater : List Operation → NodeId → ℕ → Type 0
-NoneLater ops n last = (o : Operation) → In o ops → o.dot.origin.node ≡ n → o.dot.origin.inc ≤ last
+NoneLater ops n last = (o : Operation) → IsOperationOf o ops → o.dot.origin.node ≡ n → o.dot.origin.inc ≤ last
 
 -- node n with its log, beside the set that it holds and the sets that the states of its log mean
 pub record NodeOk (ops : List Operation) (n : NodeId) (d : ModelNode) (held : Option NodeSet) (es : Entries) : Type 0 where
-  pub state : option_map state_in d.run ≡ option_map state_by held
-  pub origin : (r : ModelRun) → d.run ≡ Some r → r.origin ≡ own_origin n d.last
+  pub state : option_map state_in d.running ≡ option_map state_by held
+  pub origin : (r : ModelRunning) → d.running ≡ Some r → r.origin ≡ own_origin n d.last
   pub inc : (set : NodeSet) → held ≡ Some set → set.inc ≡ d.last
-  pub log : (r : ModelRun) (set : NodeSet) → d.run ≡ Some r → held ≡ Some set → IsLogOf r.log set.operations es
-  pub within : (set : NodeSet) → held ≡ Some set → Within set.operations ops
-  pub own : (set : NodeSet) → held ≡ Some set → (o : Operation) → In o ops → o.dot.origin ≡ own_origin n d.last → In o set.operations
+  pub log : (r : ModelRunning) (set : NodeSet) → d.running ≡ Some r → held ≡ Some set → IsLogOf r.log set.operations es
+  pub within : (set : NodeSet) → held ≡ Some set → AreOperationsOf set.operations ops
+  pub own : (set : NodeSet) → held ≡ Some set → (o : Operation) → IsOperationOf o ops → o.dot.origin ≡ own_origin n d.last → IsOperationOf o set.operations
   pub old : NoneLater ops n d.last
 
 -- the set that node n holds in its last incarnation
 pub record SetOk (ops : List Operation) (n : NodeId) (last : ℕ) (os : List Operation) : Type 0 where
-  pub within : Within os ops
-  pub own : (o : Operation) → In o ops → o.dot.origin ≡ own_origin n last → In o os
+  pub within : AreOperationsOf os ops
+  pub own : (o : Operation) → IsOperationOf o ops → o.dot.origin ≡ own_origin n last → IsOperationOf o os
   pub old : NoneLater ops n last
 
 -- the two of a running node, whatever else it keeps
-pub run_ok : (ops : List Operation) (n : NodeId) (last : ℕ) (r : ModelRun) (set : NodeSet) (es : Entries) → Agree ops → r.origin ≡ own_origin n last → set.inc ≡ last → IsLogOf r.log set.operations es → SetOk ops n last set.operations → NodeOk ops n (runs_as last r) (Some set) es
+pub run_ok : (ops : List Operation) (n : NodeId) (last : ℕ) (r : ModelRunning) (set : NodeSet) (es : Entries) → DotsDetermine ops → r.origin ≡ own_origin n last → set.inc ≡ last → IsLogOf r.log set.operations es → SetOk ops n last set.operations → NodeOk ops n (runs_as last r) (Some set) es
 run_ok ops n last r set es agree mine inc log h = record {
   state = ap (λ (s : StateValue). Some s) (log_means r.log set.operations ops es h.within agree log);
-  origin = λ q e. subst (λ (x : ModelRun). x.origin ≡ own_origin n last) (some_same r q e) mine;
+  origin = λ q e. subst (λ (x : ModelRunning). x.origin ≡ own_origin n last) (some_same r q e) mine;
   inc = λ other e. subst (λ (x : NodeSet). x.inc ≡ last) (some_same set other e) inc;
-  log = λ q other e f. subst (λ (x : ModelRun × NodeSet). IsLogOf x.0.log x.1.operations es) (λ i. (some_same r q e i, some_same set other f i)) log;
-  within = λ other e. subst (λ (x : NodeSet). Within x.operations ops) (some_same set other e) h.within;
-  own = λ other e o i t. subst (λ (x : NodeSet). In o x.operations) (some_same set other e) (h.own o i t);
+  log = λ q other e f. subst (λ (x : ModelRunning × NodeSet). IsLogOf x.0.log x.1.operations es) (λ i. (some_same r q e i, some_same set other f i)) log;
+  within = λ other e. subst (λ (x : NodeSet). AreOperationsOf x.operations ops) (some_same set other e) h.within;
+  own = λ other e o i t. subst (λ (x : NodeSet). IsOperationOf o x.operations) (some_same set other e) (h.own o i t);
   old = h.old;
 }
 
-pub record HeldBy (ops : List Operation) (n : NodeId) (last : ℕ) (r : ModelRun) (held : Option NodeSet) (es : Entries) : Type 0 where
+pub record HeldBy (ops : List Operation) (n : NodeId) (last : ℕ) (r : ModelRunning) (held : Option NodeSet) (es : Entries) : Type 0 where
   pub set : NodeSet
   pub is : held ≡ Some set
   pub inc : set.inc ≡ last
@@ -85,7 +85,7 @@ pub record HeldBy (ops : List Operation) (n : NodeId) (last : ℕ) (r : ModelRun
   pub log : IsLogOf r.log set.operations es
   pub ok : SetOk ops n last set.operations
 
-pub held_of : (ops : List Operation) (n : NodeId) (last : ℕ) (r : ModelRun) (held : Option NodeSet) (es : Entries) → NodeOk ops n (runs_as last r) held es → HeldBy ops n last r held es
+pub held_of : (ops : List Operation) (n : NodeId) (last : ℕ) (r : ModelRunning) (held : Option NodeSet) (es : Entries) → NodeOk ops n (runs_as last r) held es → HeldBy ops n last r held es
 held_of ops n last r None es h = absurd (no h.state)
   where
     no : Some (joined r.log) ≡ None → ⊥
@@ -115,11 +115,11 @@ off_ok ops n last old = record {
     no : (set : NodeSet) → None ≡ Some set → ⊥
     no set e = cc
 
-    no_run : (r : ModelRun) → None ≡ Some r → ⊥
+    no_run : (r : ModelRunning) → None ≡ Some r → ⊥
     no_run r e = cc
 
 -- another node, when operations are issued elsewhere
-pub NodeOk-more : (ops more : List Operation) (n : NodeId) (d : ModelNode) (held : Option NodeSet) (es : Entries) → ((o : Operation) → In o more → o.dot.origin.node ≡ n → ⊥) → NodeOk ops n d held es → NodeOk (ops ++ more) n d held es
+pub NodeOk-more : (ops more : List Operation) (n : NodeId) (d : ModelNode) (held : Option NodeSet) (es : Entries) → ((o : Operation) → IsOperationOf o more → o.dot.origin.node ≡ n → ⊥) → NodeOk ops n d held es → NodeOk (ops ++ more) n d held es
 NodeOk-more ops more n d held es far h = record {
   state = h.state;
   origin = h.origin;
@@ -172,7 +172,7 @@ boot_fresh ops n last old = false_from_ne_true (list_any (has_dot x.dot) ops) (�
 
 -- ---- a node issues operations
 -- the dot of an operation that node n issues is new
-issue_fresh : (ops os : List Operation) (own : Origin) (act : Act) → ((o : Operation) → In o ops → o.dot.origin ≡ own → In o os) → list_any (has_dot (next_operation (meaning_of os) own act).dot) ops ≡ false
+issue_fresh : (ops os : List Operation) (own : Origin) (act : Act) → ((o : Operation) → IsOperationOf o ops → o.dot.origin ≡ own → IsOperationOf o os) → list_any (has_dot (next_operation (meaning_of os) own act).dot) ops ≡ false
 issue_fresh ops os own act mine = false_from_ne_true _ (λ t.
     let x = next_operation (meaning_of os) own act in
     let f = found (has_dot x.dot) ops t in
@@ -193,7 +193,7 @@ pub record Grown (ops : List Operation) (n : NodeId) (last : ℕ) (s : StateValu
   pub distinct : DistinctDots (ops ++ more)
   pub set : SetOk (ops ++ more) n last (os ++ more)
   pub state : fold join s (meanings more) ≡ meaning_of (os ++ more)
-  pub here : (o : Operation) → In o more → o.dot.origin.node ≡ n
+  pub here : (o : Operation) → IsOperationOf o more → o.dot.origin.node ≡ n
 
 module _ (n : NodeId) (last : ℕ) (own : Origin) (mine : own ≡ own_origin n last) where
   -- an operation of the present incarnation
@@ -213,7 +213,7 @@ module _ (n : NodeId) (last : ℕ) (own : Origin) (mine : own ≡ own_origin n l
   -- the next operation
   grow_one : (ops : List Operation) (s : StateValue) (os : List Operation) (x : Operation) → s ≡ meaning_of os → DistinctDots ops → SetOk ops n last os → IsNextOf own s x → Grown ops n last s os (x ∷ [])
   grow_one ops s os x state d h next =
-      let mine_in : (o : Operation) → In o ops → o.dot.origin ≡ own → In o os = λ o i e. h.own o i (e ∙ mine) in
+      let mine_in : (o : Operation) → IsOperationOf o ops → o.dot.origin ≡ own → IsOperationOf o os = λ o i e. h.own o i (e ∙ mine) in
       let is : next_operation (meaning_of os) own next.0 ≡ x = sym (next.1 ∙ ap (λ (v : StateValue). next_operation v own next.0) state) in
       let fresh : list_any (has_dot x.dot) ops ≡ false = subst (λ (y : Operation). list_any (has_dot y.dot) ops ≡ false) is (issue_fresh ops os own next.0 mine_in) in
       let distinct : DistinctDots (ops ++ x ∷ []) = DistinctDots-push ops x d fresh in
@@ -246,7 +246,7 @@ module _ (n : NodeId) (last : ℕ) (own : Origin) (mine : own ≡ own_origin n l
       }
 
 -- ---- a node hears operations
-pub hear_set : (ops os ps : List Operation) (n : NodeId) (last : ℕ) → Within ps ops → SetOk ops n last os → SetOk ops n last (os ++ ps)
+pub hear_set : (ops os ps : List Operation) (n : NodeId) (last : ℕ) → AreOperationsOf ps ops → SetOk ops n last os → SetOk ops n last (os ++ ps)
 hear_set ops os ps n last inside h = record {
   within = Within-append os ps ops h.within inside;
   own = λ o i t. In-append_left o os ps (h.own o i t);

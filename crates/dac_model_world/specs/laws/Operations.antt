@@ -7,25 +7,25 @@ use Rattle.dac_dots.specs.declared.dot.Dot.{Dot}
 use Rattle.dac_wishes.specs.Writes.{same_dot}
 use Rattle.dac_wishes.specs.laws.KeyedWrites.{same_dot_is, same_dot_itself}
 use Rattle.dac_operations.specs.Operations.{Operation}
-use Rattle.dac_meaning.specs.Meaning.{In, Within, Agree, has_dot}
+use Rattle.dac_meaning.specs.Meaning.{IsOperationOf, AreOperationsOf, DotsDetermine, has_dot}
 use Rattle.dac_meaning.specs.laws.Members.{finds, In-append_right}
 use Rattle.dac_model_world.specs.Convergence.{DistinctDots}
 
-pub one_in : (o x : Operation) → In o (x ∷ []) → o ≡ x
+pub one_in : (o x : Operation) → IsOperationOf o (x ∷ []) → o ≡ x
 one_in o x (inl e) = e
 one_in o x (inr h) = absurd h
 
-pub Agree-within : (os ps : List Operation) → Within os ps → Agree ps → Agree os
+pub Agree-within : (os ps : List Operation) → AreOperationsOf os ps → DotsDetermine ps → DotsDetermine os
 Agree-within os ps w agree o p a b = agree o p (w o a) (w p b)
 
-pub Agree-one : (x : Operation) → Agree (x ∷ [])
+pub Agree-one : (x : Operation) → DotsDetermine (x ∷ [])
 Agree-one x o p a b t = one_in o x a ∙ sym (one_in p x b)
 
 -- ---- dots that differ
 same_by : (d e : Dot) → d ≡ e → same_dot d e ≡ true
 same_by d e h = subst (λ f. same_dot d f ≡ true) h (same_dot_itself d)
 
-pub DistinctDots-agree : (os : List Operation) → DistinctDots os → Agree os
+pub DistinctDots-agree : (os : List Operation) → DistinctDots os → DotsDetermine os
 DistinctDots-agree [] d o p a b t = absurd a
 DistinctDots-agree (x ∷ os) d o p (inl a) (inl b) t = a ∙ sym b
 DistinctDots-agree (x ∷ os) d o p (inl a) (inr b) t = absurd (true≢false (sym (finds (has_dot x.dot) os p b (same_by x.dot p.dot (ap (λ (y : Operation). y.dot) (sym a) ∙ t))) ∙ d.0))
@@ -55,7 +55,7 @@ DistinctDots-left [] ps d = tt
 DistinctDots-left (x ∷ os) ps d = (either_false_left (list_any (has_dot x.dot) os) (list_any (has_dot x.dot) ps) (sym (list_any-append (has_dot x.dot) os ps) ∙ d.0), DistinctDots-left os ps d.1)
 
 -- none of the first is one of the others
-pub DistinctDots-apart : (os ps : List Operation) → DistinctDots (os ++ ps) → (o : Operation) → In o os → In o ps → ⊥
+pub DistinctDots-apart : (os ps : List Operation) → DistinctDots (os ++ ps) → (o : Operation) → IsOperationOf o os → IsOperationOf o ps → ⊥
 DistinctDots-apart [] ps d o a b = absurd a
 DistinctDots-apart (x ∷ os) ps d o (inl e) b = true≢false (sym (finds (has_dot x.dot) (os ++ ps) o (In-append_right o os ps b) (same_by x.dot o.dot (ap (λ (y : Operation). y.dot) (sym e)))) ∙ d.0)
 DistinctDots-apart (x ∷ os) ps d o (inr a) b = DistinctDots-apart os ps d.1 o a b

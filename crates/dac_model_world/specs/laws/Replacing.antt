@@ -16,7 +16,7 @@ use Rattle.dac_operations.specs.declared.act.Act.{Act}
 use Rattle.dac_operations.specs.declared.act.Act.TheVariants.{Down, Permit, Start, Stop, Drain}
 use Rattle.dac_operations.specs.Operations.{Operation}
 use Rattle.dac_meaning.specs.StateValue.{StateValue, join}
-use Rattle.dac_meaning.specs.Meaning.{meaning_of, Within, Agree}
+use Rattle.dac_meaning.specs.Meaning.{meaning_of, AreOperationsOf, DotsDetermine}
 use Rattle.dac_meaning.specs.laws.Members.{Within-append, In-append_left, In-append_right}
 use Rattle.dac_meaning.specs.laws.Joins.{join-meaning}
 use Rattle.dac_meaning.specs.laws.Readers.{known-meaning}
@@ -126,12 +126,12 @@ claim_ends s app (Takeover n) = tt
 claim_ends s app _ = tt
 
 -- the claims of a tick, one after another
-pub after_claims : (t : Table) (own : Origin) (s : StateValue) (os more : List Operation) → s ≡ meaning_of os → Agree (os ++ more) → AreNextClaims t own s more → AreNext os more
+pub after_claims : (t : Table) (own : Origin) (s : StateValue) (os more : List Operation) → s ≡ meaning_of os → DotsDetermine (os ++ more) → AreNextClaims t own s more → AreNext os more
 after_claims t own s os [] state agree h = tt
 after_claims t own s os (o ∷ more) state agree h =
     let claim = h.0 in
     let v = verdict_of t s claim.app in
     let one : IsNextAfter os o = subst (IsNextAfter os) (sym claim.is) (next_after s os own (claimed_by s claim.app v) state (next_of_is s.known own claim.counter) (claim_replaces s claim.app v) (claim_ends s claim.app v)) in
-    let inside : Within (os ++ o ∷ []) (os ++ o ∷ more) = Within-append os (o ∷ []) (os ++ o ∷ more) (λ x i. In-append_left x os (o ∷ more) i) (λ x i. In-append_right x os (o ∷ more) (elim i [ inl e ↦ inl e | inr none ↦ absurd none ])) in
+    let inside : AreOperationsOf (os ++ o ∷ []) (os ++ o ∷ more) = Within-append os (o ∷ []) (os ++ o ∷ more) (λ x i. In-append_left x os (o ∷ more) i) (λ x i. In-append_right x os (o ∷ more) (elim i [ inl e ↦ inl e | inr none ↦ absurd none ])) in
     let next : join s (meaning_of (o ∷ [])) ≡ meaning_of (os ++ o ∷ []) = ap (λ (x : StateValue). join x (meaning_of (o ∷ []))) state ∙ join-meaning os (o ∷ []) (Agree-within (os ++ o ∷ []) (os ++ o ∷ more) inside agree) in
-    (one, after_claims t own (join s (meaning_of (o ∷ []))) (os ++ o ∷ []) more next (subst Agree (sym (append_assoc os (o ∷ []) more)) agree) h.1)
+    (one, after_claims t own (join s (meaning_of (o ∷ []))) (os ++ o ∷ []) more next (subst DotsDetermine (sym (append_assoc os (o ∷ []) more)) agree) h.1)

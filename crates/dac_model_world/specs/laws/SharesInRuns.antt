@@ -17,12 +17,12 @@ use Rattle.dac_lattice.specs.declared.flags.Flag.TheVariants.{Up as IsUp}
 use Rattle.dac_chains.specs.declared.lives.Life.{Life}
 use Rattle.dac_chains.specs.Greatest.{IsGreatest, IsSaid}
 use Rattle.dac_chains.specs.Lives.{life_cmp}
-use Rattle.dac_meaning.specs.Meaning.{meaning_of, In, pairs, life_said}
+use Rattle.dac_meaning.specs.Meaning.{meaning_of, IsOperationOf, pairs, life_said}
 use Rattle.dac_meaning.specs.laws.Chained.{is_said}
 use Rattle.dac_meaning.specs.laws.Readers.{lives-meaning, lives_are}
 use Rattle.dac_config.specs.Table.{Table}
 use Rattle.dac_events.specs.declared.WorldEvent.{WorldEvent}
-use Rattle.dac_model_node.specs.ModelNode.{ModelRun}
+use Rattle.dac_model_node.specs.ModelNode.{ModelRunning}
 use Rattle.dac_model_node.specs.Step.{up}
 use Rattle.dac_model_node.specs.laws.Options.{some_same}
 use Rattle.dac_model_world.specs.ModelWorld.{ModelWorld, Run, start, world_after}
@@ -56,10 +56,10 @@ no_earlier a b h = by_order (nat_cmp a.inc b.inc) refl h
 
 module _ (w : ModelWorld) (s : SetWorld) (h : Sound w s) (k : Numbered w) where
   -- who has a set runs
-  runs : (n : NodeId) (held : NodeSet) → s.node n ≡ Some held → (r : ModelRun) × ((w.node n).run ≡ Some r)
-  runs n held on = by_run (w.node n).run refl ((h.nodes n).state ∙ ap (option_map state_by) on)
+  runs : (n : NodeId) (held : NodeSet) → s.node n ≡ Some held → (r : ModelRunning) × ((w.node n).running ≡ Some r)
+  runs n held on = by_run (w.node n).running refl ((h.nodes n).state ∙ ap (option_map state_by) on)
     where
-      by_run : (run : Option ModelRun) → (w.node n).run ≡ run → option_map state_in run ≡ Some (state_by held) → (r : ModelRun) × ((w.node n).run ≡ Some r)
+      by_run : (running : Option ModelRunning) → (w.node n).running ≡ running → option_map state_in running ≡ Some (state_by held) → (r : ModelRunning) × ((w.node n).running ≡ Some r)
       by_run None at e = none_some e
       by_run (Some r) at e = (r, at)
 
@@ -69,9 +69,9 @@ module _ (w : ModelWorld) (s : SetWorld) (h : Sound w s) (k : Numbered w) where
       let last = (w.node n).last in
       let os = held.operations in
       let said = life_says os n life e in
-      let run = runs n held on in
+      let running = runs n held on in
       let is : IsGreatest life_cmp (IsSaid life_said (pairs os) n) (Some life) = subst (IsGreatest life_cmp (IsSaid life_said (pairs os) n)) (ap (λ lives. map.get lives n) (sym (lives-meaning os)) ∙ e) (lives_are os n) in
-      let boot : In (up (own_origin n last)) os = (h.nodes n).own held on (up (own_origin n last)) (k.came n run.0 run.1) refl in
+      let boot : IsOperationOf (up (own_origin n last)) os = (h.nodes n).own held on (up (own_origin n last)) (k.came n running.0 running.1) refl in
       let own : Life = record { inc = last; flag = IsUp } in
       between life.inc last held.inc
       (k.order.lives said.0 ((h.nodes n).within held on said.0 said.1.0) n life said.1.1)

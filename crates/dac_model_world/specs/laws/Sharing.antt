@@ -14,7 +14,7 @@ use Rattle.dac_chains.specs.Greatest.{IsGreatest, IsSaid}
 use Rattle.dac_chains.specs.Lives.{life_cmp}
 use Rattle.dac_chains.specs.laws.Lives.{lives_total, exact_lives}
 use Rattle.dac_operations.specs.Operations.{Operation}
-use Rattle.dac_meaning.specs.Meaning.{meaning_of, In, Within, pairs, life_said, lives_of}
+use Rattle.dac_meaning.specs.Meaning.{meaning_of, IsOperationOf, AreOperationsOf, pairs, life_said, lives_of}
 use Rattle.dac_meaning.specs.laws.Chained.{of_said, is_said}
 use Rattle.dac_meaning.specs.laws.Members.{In-append_left, In-append_right, In-append_cases}
 use Rattle.dac_meaning.specs.laws.Readers.{lives-meaning, lives_are}
@@ -95,7 +95,7 @@ counted_short xs k x e = elim (nat_eq k 0) as (λ b. cond b None (slice_get xs (
 
 -- ---- lives
 -- the life that a set means of a node is that of a smaller set too, where one of the smaller set says it
-life_stays : (os ps : List Operation) (m : NodeId) (life : Life) → Within ps os → map.get (meaning_of os).lives m ≡ Some life → IsSaid life_said (pairs ps) m life → map.get (meaning_of ps).lives m ≡ Some life
+life_stays : (os ps : List Operation) (m : NodeId) (life : Life) → AreOperationsOf ps os → map.get (meaning_of os).lives m ≡ Some life → IsSaid life_said (pairs ps) m life → map.get (meaning_of ps).lives m ≡ Some life
 life_stays os ps m life inside e said = ap (λ lives. map.get lives m) (lives-meaning ps) ∙ by_life (map.get (lives_of ps) m) (lives_are ps m)
   where
     is : IsGreatest life_cmp (IsSaid life_said (pairs os) m) (Some life)
@@ -114,7 +114,7 @@ pub record Grows (held : NodeSet) (after : Option NodeSet) : Type 0 where
   pub now : NodeSet
   pub on : after ≡ Some now
   pub same : now.inc ≡ held.inc
-  pub within : Within held.operations now.operations
+  pub within : AreOperationsOf held.operations now.operations
 
 grows_same : (held : NodeSet) (after : Option NodeSet) → after ≡ Some held → Grows held after
 grows_same held after on = record { now = held; on = on; same = refl; within = λ o i. i }
@@ -152,13 +152,13 @@ module _ (first : SetWorld) (present : (n m : NodeId) (mine theirs : NodeSet) �
     pub node : NodeId
     pub held : NodeSet
     pub on : first.node node ≡ Some held
-    pub there : In o held.operations
-    pub all : Within held.operations os
+    pub there : IsOperationOf o held.operations
+    pub all : AreOperationsOf held.operations os
 
   abbrev pub AreFrom : List Operation → Type 0
-  AreFrom os = (o : Operation) → In o os → From os o
+  AreFrom os = (o : Operation) → IsOperationOf o os → From os o
 
-  from_more : (os ps : List Operation) (o : Operation) → Within os ps → From os o → From ps o
+  from_more : (os ps : List Operation) (o : Operation) → AreOperationsOf os ps → From os o → From ps o
   from_more os ps o inside f = record { node = f.node; held = f.held; on = f.on; there = f.there; all = λ q i. inside q (f.all q i) }
 
   from_both : (os ps : List Operation) → AreFrom os → AreFrom ps → AreFrom (os ++ ps)
@@ -289,9 +289,9 @@ module _ (first : SetWorld) (present : (n m : NodeId) (mine theirs : NodeSet) �
   record HasThem (os : List Operation) (after : Option NodeSet) : Type 0 where
     set : NodeSet
     on : after ≡ Some set
-    within : Within os set.operations
+    within : AreOperationsOf os set.operations
 
-  has_on : (os : List Operation) (n : NodeId) (held : NodeSet) (s next : SetWorld) → Onward s next → s.node n ≡ Some held → Within os held.operations → HasThem os (next.node n)
+  has_on : (os : List Operation) (n : NodeId) (held : NodeSet) (s next : SetWorld) → Onward s next → s.node n ≡ Some held → AreOperationsOf os held.operations → HasThem os (next.node n)
   has_on os n held s next on at inside = let g = on.sets n held at in record { set = g.now; on = g.on; within = λ o i. g.within o (inside o i) }
 
   -- a copy that is on its way and heard later
@@ -309,7 +309,7 @@ module _ (first : SetWorld) (present : (n m : NodeId) (mine theirs : NodeSet) �
             let v : IsUnited s n k (set_step s n (Deliver k) (Ok (Heard here.1.0))) = subst (λ (p : WorldEvent × Answer). Unites s p.0.node p.0.what p.1) heard u.0 in
             let same : v.copy ≡ c = some_same v.copy c (sym v.there ∙ there) in
             let on : mid.node n ≡ Some (and_more v.held v.copy.operations) = ap (λ (p : WorldEvent × Answer). (set_step s p.0.node p.0.what p.1).node n) heard ∙ v.after in
-            has_on c.operations n (and_more v.held v.copy.operations) mid (set_run mid es answers) rest.onward on (λ o i. In-append_right o v.held.operations v.copy.operations (subst (λ (x : Copy). In o x.operations) (sym same) i))
+            has_on c.operations n (and_more v.held v.copy.operations) mid (set_run mid es answers) rest.onward on (λ o i. In-append_right o v.held.operations v.copy.operations (subst (λ (x : Copy). IsOperationOf o x.operations) (sym same) i))
         | inr later ↦ heard_later mid es answers n k c one.shared fits.1 u.1 (one.onward.copies k c there) later
       ]
 
@@ -340,7 +340,7 @@ module _ (first : SetWorld) (present : (n m : NodeId) (mine theirs : NodeSet) �
         let same : own.grows.now ≡ all.mine = some_same own.grows.now all.mine (sym own.grows.on ∙ all.on) in
         let life : all.life.inc ≡ theirs.inc = knows_present all.mine.operations (from_now s h n all.mine all.on) to theirs goes all.life all.known in
         let has = all.has other.grows.now other.grows.on (other.grows.same ∙ sym life) in
-        has_on mine.operations to other.grows.now s (set_run s es answers) (next_events s es answers h fits more).onward other.grows.on (λ o i. has o (subst (λ (x : NodeSet). In o x.operations) same (own.grows.within o i)))
+        has_on mine.operations to other.grows.now s (set_run s es answers) (next_events s es answers h fits more).onward other.grows.on (λ o i. has o (subst (λ (x : NodeSet). IsOperationOf o x.operations) same (own.grows.within o i)))
     reached s (Ok reply) es answers h fit u tells fits more is =
         let mid = set_step s n (Ships to) (Ok reply) in
         let one = next_event s h n (Ships to) (Ok reply) fit u in
@@ -348,7 +348,7 @@ module _ (first : SetWorld) (present : (n m : NodeId) (mine theirs : NodeSet) �
         let own = h.runs n mine from in
         let same : own.grows.now ≡ way.held = some_same own.grows.now way.held (sym own.grows.on ∙ way.on) in
         let there = heard_later mid es answers to (length s.copies + 1) way.copy one.shared fits more way.there is in
-        record { set = there.set; on = there.on; within = λ o i. there.within o (subst (λ os. In o os) (ap (λ (x : NodeSet). x.operations) same ∙ sym way.whole) (own.grows.within o i)) }
+        record { set = there.set; on = there.on; within = λ o i. there.within o (subst (λ os. IsOperationOf o os) (ap (λ (x : NodeSet). x.operations) same ∙ sym way.whole) (own.grows.within o i)) }
 
     told : (s : SetWorld) (es : List WorldEvent) (answers : List Answer) → Shared s → AreInShare (length first.copies) es answers → AllUnite s es answers → TellUpToDate s es answers → TellsAll s n to es answers → HasThem mine.operations ((set_run s es answers).node to)
     told s [] answers h fits u tells at = absurd at
@@ -368,7 +368,7 @@ module _ (first : SetWorld) (present : (n m : NodeId) (mine theirs : NodeSet) �
   reaches_all es answers share u tells n m mine theirs from goes = elim (nat_eq n.0 m.0) as (λ b. nat_eq n.0 m.0 ≡ b → HasThem mine.operations ((set_run first es answers).node m)) [
     | true ↦ λ t.
         let same : mine ≡ theirs = some_same mine theirs (sym from ∙ ap first.node (same_node n m t) ∙ goes) in
-        has_on mine.operations m theirs first (set_run first es answers) (next_events first es answers shared_first share.fits u).onward goes (λ o i. subst (λ (x : NodeSet). In o x.operations) same i)
+        has_on mine.operations m theirs first (set_run first es answers) (next_events first es answers shared_first share.fits u).onward goes (λ o i. subst (λ (x : NodeSet). IsOperationOf o x.operations) same i)
     | false ↦ λ f. told n m mine theirs from goes first es answers shared_first share.fits u tells (share.tells n m (mine, from) (theirs, goes) (other_node n m f))
   ] refl
 
@@ -387,7 +387,7 @@ module _ (first : SetWorld) (present : (n m : NodeId) (mine theirs : NodeSet) �
                 λ i. let f = kept.from o i in record { node = f.node; held = f.held; on = f.on; there = f.there },
                 λ is.
                     let has = reaches_all es answers share u tells is.node n is.held held is.on on in
-                    subst (λ (x : NodeSet). In o x.operations) (some_same has.set set (sym has.on ∙ kept.grows.on)) (has.within o is.there),
+                    subst (λ (x : NodeSet). IsOperationOf o x.operations) (some_same has.set set (sym has.on ∙ kept.grows.on)) (has.within o is.there),
               );
             };
         off = last.off;

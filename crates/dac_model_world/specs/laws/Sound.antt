@@ -13,7 +13,7 @@ use Rattle.dac_base.specs.declared.NodeId.{NodeId}
 use Rattle.dac_dots.specs.declared.dot.Origin.{Origin}
 use Rattle.dac_operations.specs.Operations.{Operation}
 use Rattle.dac_meaning.specs.StateValue.{StateValue}
-use Rattle.dac_meaning.specs.Meaning.{meaning_of, In, Within, Agree}
+use Rattle.dac_meaning.specs.Meaning.{meaning_of, IsOperationOf, AreOperationsOf, DotsDetermine}
 use Rattle.dac_meaning.specs.laws.Members.{In-append_left, In-append_right}
 use Rattle.dac_config.specs.Table.{Table}
 use Rattle.dac_decide.specs.declared.start_gate.Opening.{Opening}
@@ -23,22 +23,22 @@ use Rattle.dac_decide.specs.FailoverWait.{Note, waits_of}
 use Rattle.dac_events.specs.declared.WorldEvent.{WorldEvent}
 use Rattle.dac_events.specs.declared.What.{What}
 use Rattle.dac_events.specs.declared.What.TheVariants.{Deliver, Hand}
-use Rattle.dac_model_node.specs.Place.{Place}
-use Rattle.dac_model_node.specs.Peers.{begins, receipt, heard_from}
+use Rattle.dac_model_node.specs.Position.{Position}
+use Rattle.dac_model_node.specs.Peers.{begins, ack_for, heard_from}
 use Rattle.dac_messages.specs.declared.message.Body.{Body}
 use Rattle.dac_messages.specs.declared.message.Body.TheVariants.{Interval, Nothing}
 use Rattle.dac_messages.specs.declared.message.Message.{Message}
 use Rattle.dac_messages.specs.Bodies.{content_of}
 use Rattle.dac_messages.specs.declared.event.Event.{Event}
-use Rattle.dac_messages.specs.declared.event.Event.TheVariants.{Boot, Crash, Command as Told, Tick, Ship, Hear, HearOp}
+use Rattle.dac_messages.specs.declared.event.Event.TheVariants.{Boot, Crash, Command as Commanded, Tick, Ship, Hear, HearOp}
 use Rattle.dac_messages.specs.declared.reply.Reply.{Reply}
 use Rattle.dac_events.specs.declared.refusal.Refusal.TheVariants.{OnSelf, NotForMe, DotsUsedUp}
 use Rattle.dac_commands.specs.Causes.{first}
 use Rattle.dac_commands.specs.Commands.{act_of, next_operation}
 use Rattle.dac_model_node.specs.Ticks.{turn_of}
 use Rattle.dac_model_node.specs.Issued.{AreIssued}
-use Rattle.dac_model_node.specs.NodeValue.{RunValue}
-use Rattle.dac_model_node.specs.ModelNode.{ModelNode, ModelRun, joined, shown, run_shown}
+use Rattle.dac_model_node.specs.NodeValue.{RunningValue}
+use Rattle.dac_model_node.specs.ModelNode.{ModelNode, ModelRunning, joined, shown, running_shown}
 use Rattle.dac_model_node.specs.EventRefusals.{refusal_of, refusal_by, refusal_to_hear, overflows}
 use Rattle.dac_model_node.specs.Deeds.{meanings, brings, body_from, message_of, ticks_by, opening_at, moment_of, note_of}
 use Rattle.dac_model_node.specs.Step.{step_by, up, comes_up, goes_on, accepted}
@@ -51,7 +51,7 @@ use Rattle.dac_model_world.specs.Convergence.{DistinctDots}
 use Rattle.dac_model_world.specs.laws.Operations.{one_in, DistinctDots-agree, DistinctDots-push}
 use Rattle.dac_model_world.specs.laws.Gathered.{Entries, gathered, gathered-append, gathered_cases, gathered_take, gathered_drop, each_alone, IsLogOf, log_means, log_length, log_more, log_issued, rest_means}
 use Rattle.dac_model_world.specs.laws.Covers.{Seen, Later, Later-self, later_more, Has, Covered, Sent, Sent-covers}
-use Rattle.dac_model_world.specs.laws.Carried.{none_some, PeersOk, PeersOk-later, no_peers_ok, shipped_ok, Acknowledges, heard_ok, receipt_ok, begins_is, Bound, CopyOk, CopyOk-later, CopiesOk, CopiesOk-later, CopiesOk-push, message_copy, brought}
+use Rattle.dac_model_world.specs.laws.Carried.{none_some, PeersOk, PeersOk-later, no_peers_ok, shipped_ok, Acknowledges, heard_ok, ack_ok, begins_is, Bound, CopyOk, CopyOk-later, CopiesOk, CopiesOk-later, CopiesOk-push, message_copy, brought}
 use Rattle.dac_model_node.specs.laws.Claims.{claims_issued}
 use Rattle.dac_model_world.specs.laws.Runs.{run_first}
 use Rattle.dac_model_world.specs.laws.OneNode.{own_origin, runs_as, stays_off, NodeOk, HeldBy, held_of, run_ok, off_ok, SetOk, NodeOk-more, boot_set, boot_log, boot_fresh, Grown, grow, hear_set}
@@ -69,7 +69,7 @@ pub record Sound (w : ModelWorld) (s : SetWorld) : Type 0 where
   pub entries : NodeId → Entries
   pub nodes : (n : NodeId) → NodeOk w.operations n (w.node n) (s.node n) (entries n)
   pub issued : operations_of s.issued ≡ w.operations
-  pub peers : (n : NodeId) (r : ModelRun) → (w.node n).run ≡ Some r → PeersOk (seen w.node s.node entries) n (w.node n).last r.peers
+  pub peers : (n : NodeId) (r : ModelRunning) → (w.node n).running ≡ Some r → PeersOk (seen w.node s.node entries) n (w.node n).last r.peers
   pub copies : CopiesOk w.operations (seen w.node s.node entries) w.messages s.copies
   pub distinct : DistinctDots w.operations
 
@@ -90,7 +90,7 @@ put_at sets n held = ap (λ b. cond b held (sets n)) (eq-eqb n.0 n.0 refl)
 pub put_elsewhere : (sets : NodeId → Option NodeSet) (n : NodeId) (held : Option NodeSet) (m : NodeId) → (m ≡ n → ⊥) → with_set sets n held m ≡ sets m
 put_elsewhere sets n held m far = ap (λ b. cond b held (sets m)) (false_from_ne_true (nat_eq m.0 n.0) (λ t. far (same_node m n t)))
 
-none_in : (o : Operation) → In o [] → ⊥
+none_in : (o : Operation) → IsOperationOf o [] → ⊥
 none_in o h = h
 
 module _ (w : ModelWorld) (s : SetWorld) (n : NodeId) (h : Sound w s) where
@@ -101,9 +101,9 @@ module _ (w : ModelWorld) (s : SetWorld) (n : NodeId) (h : Sound w s) where
   -- Node n goes on to d, with this set and these entries; it issues qs and ships ms.
   sound_next : (d : ModelNode) (held : Option NodeSet) (es : Entries) (sets : NodeId → Option NodeSet) (issued : List Issue) (qs : List Operation) (ms : List Message) (cs : List Copy) →
       let x : Seen = record { last = d.last; on = held; entries = es } in
-      sets n ≡ held → ((m : NodeId) → (m ≡ n → ⊥) → sets m ≡ s.node m) → operations_of issued ≡ w.operations ++ qs → ((o : Operation) → In o qs → o.dot.origin.node ≡ n) →
+      sets n ≡ held → ((m : NodeId) → (m ≡ n → ⊥) → sets m ≡ s.node m) → operations_of issued ≡ w.operations ++ qs → ((o : Operation) → IsOperationOf o qs → o.dot.origin.node ≡ n) →
       Later (seen w.node s.node h.entries n) x → NodeOk (w.operations ++ qs) n d held es →
-      Onward x (λ v. (r : ModelRun) → d.run ≡ Some r → PeersOk v n d.last r.peers) → Onward x (λ v. CopiesOk (w.operations ++ qs) v (w.messages ++ ms) cs) → DistinctDots (w.operations ++ qs) →
+      Onward x (λ v. (r : ModelRunning) → d.running ≡ Some r → PeersOk v n d.last r.peers) → Onward x (λ v. CopiesOk (w.operations ++ qs) v (w.messages ++ ms) cs) → DistinctDots (w.operations ++ qs) →
       Sound (record { count = w.count; node = with_node w.node n d; operations = w.operations ++ qs; messages = w.messages ++ ms }) (record { node = sets; issued = issued; copies = cs })
   sound_next d held es sets issued qs ms cs put far all mine later here peers copies distinct =
       let u : NodeId → Seen = seen w.node s.node h.entries in
@@ -125,7 +125,7 @@ module _ (w : ModelWorld) (s : SetWorld) (n : NodeId) (h : Sound w s) where
               subst (λ (o : Option NodeSet). NodeOk (w.operations ++ qs) m (w.node m) o (h.entries m)) (sym (far m ne)) (NodeOk-more w.operations qs m (w.node m) (s.node m) (h.entries m) (λ o i e. ne (sym e ∙ mine o i)) (h.nodes m))
         ] refl;
         issued = all;
-        peers = λ m. elim (nat_eq m.0 n.0) as (λ b. nat_eq m.0 n.0 ≡ b → (r : ModelRun) → (cond b d (w.node m)).run ≡ Some r → PeersOk v m (cond b d (w.node m)).last r.peers) [
+        peers = λ m. elim (nat_eq m.0 n.0) as (λ b. nat_eq m.0 n.0 ≡ b → (r : ModelRunning) → (cond b d (w.node m)).running ≡ Some r → PeersOk v m (cond b d (w.node m)).last r.peers) [
           | true ↦ λ e r p. subst (λ k. PeersOk v k d.last r.peers) (sym (same_node m n e)) (peers v now on r p)
           | false ↦ λ _ r p. PeersOk-later u v m (w.node m).last r.peers on (h.peers m r p)
         ] refl;
@@ -186,7 +186,7 @@ hears_op os ms (Hand k) o e = record { number = k; is = refl; there = yes (count
 hears_op os ms _ o e = cc
 
 -- an operation of a number is one of them
-slice_get_in : (os : List Operation) (k : ℕ) (o : Operation) → slice_get os k ≡ Some o → In o os
+slice_get_in : (os : List Operation) (k : ℕ) (o : Operation) → slice_get os k ≡ Some o → IsOperationOf o os
 slice_get_in [] k o e = absurd (none_some e)
   where
     none_some : None ≡ Some o → ⊥
@@ -194,9 +194,9 @@ slice_get_in [] k o e = absurd (none_some e)
 slice_get_in (x ∷ os) zero o e = inl (sym (some_same x o e))
 slice_get_in (x ∷ os) (suc k) o e = inr (slice_get_in os k o e)
 
-counted_in : (os : List Operation) (k : ℕ) (o : Operation) → counted os k ≡ Some o → In o os
+counted_in : (os : List Operation) (k : ℕ) (o : Operation) → counted os k ≡ Some o → IsOperationOf o os
 counted_in os k o e =
-    elim (nat_eq k 0) as (λ b. cond b None (slice_get os (k - 1)) ≡ Some o → In o os) [
+    elim (nat_eq k 0) as (λ b. cond b None (slice_get os (k - 1)) ≡ Some o → IsOperationOf o os) [
       | true ↦ λ p. absurd (no p)
       | false ↦ λ p. slice_get_in os (k - 1) o p
     ] e
@@ -205,13 +205,13 @@ counted_in os k o e =
     no p = cc
 
 -- ---- a running node beside its set
-pub held_at : (w : ModelWorld) (s : SetWorld) (n : NodeId) (r : ModelRun) (h : Sound w s) → (w.node n).run ≡ Some r → HeldBy w.operations n (w.node n).last r (s.node n) (h.entries n)
+pub held_at : (w : ModelWorld) (s : SetWorld) (n : NodeId) (r : ModelRunning) (h : Sound w s) → (w.node n).running ≡ Some r → HeldBy w.operations n (w.node n).last r (s.node n) (h.entries n)
 held_at w s n r h on =
-    let same : w.node n ≡ runs_as (w.node n).last r = λ i. record { last = (w.node n).last; run = on i } in
+    let same : w.node n ≡ runs_as (w.node n).last r = λ i. record { last = (w.node n).last; running = on i } in
     held_of w.operations n (w.node n).last r (s.node n) (h.entries n) (subst (λ d. NodeOk w.operations n d (s.node n) (h.entries n)) same (h.nodes n))
 
 -- the same incarnation with more states in its log
-record Adds (r : ModelRun) (adds : List StateValue) (after : ModelRun) : Type 0 where
+record Adds (r : ModelRunning) (adds : List StateValue) (after : ModelRunning) : Type 0 where
   origin : after.origin ≡ r.origin
   log : after.log ≡ r.log ++ adds
 
@@ -222,7 +222,7 @@ pub record Accepts (n : NodeId) (last : ℕ) (m : Message) : Type 0 where
   pub from : nat_eq m.from.node.0 n.0 ≡ false
   pub only : option_map_or (λ inc. nat_eq inc last) m.only true ≡ true
 
-pub accepts : (n : NodeId) (last : ℕ) (m : Message) (r : RunValue) → r.origin ≡ own_origin n last → refusal_to_hear r m ≡ None → Accepts n last m
+pub accepts : (n : NodeId) (last : ℕ) (m : Message) (r : RunningValue) → r.origin ≡ own_origin n last → refusal_to_hear r m ≡ None → Accepts n last m
 accepts n last m r mine none =
     let three = passes (nat_eq m.from.node.0 r.origin.node.0) (nat_eq m.to.0 r.origin.node.0) (option_map_or (λ inc. nat_eq inc r.origin.inc) m.only true) (overflows r (content_of m.body)) none in
     record {
@@ -238,21 +238,21 @@ accepts n last m r mine none =
     passes false false c d e = cc
 
 -- a message that a running node doesn't refuse
-pub heard_accepts : (t : Table) (w : ModelWorld) (s : SetWorld) (n : NodeId) (r : ModelRun) (h : Sound w s) → (w.node n).run ≡ Some r → (m : Message) → refusal_of t (shown t (w.node n)) (Hear m) ≡ None → Accepts n (w.node n).last m
+pub heard_accepts : (t : Table) (w : ModelWorld) (s : SetWorld) (n : NodeId) (r : ModelRunning) (h : Sound w s) → (w.node n).running ≡ Some r → (m : Message) → refusal_of t (shown t (w.node n)) (Hear m) ≡ None → Accepts n (w.node n).last m
 heard_accepts t w s n r h on m none =
-    accepts n (w.node n).last m (run_shown t r) (held_at w s n r h on).mine (ap (λ (l : Option ModelRun). refusal_by t (w.node n).last (option_map (run_shown t) l) (Hear m)) (sym on) ∙ none)
+    accepts n (w.node n).last m (running_shown t r) (held_at w s n r h on).mine (ap (λ (l : Option ModelRunning). refusal_by t (w.node n).last (option_map (running_shown t) l) (Hear m)) (sym on) ∙ none)
 
 -- What an event brings to a node with this set in the world of sets, and the state that it brings. The state means some of it, and the node has the rest.
 pub record Brings (w : ModelWorld) (s : SetWorld) (n : NodeId) (what : What) (body : StateValue) (os : List Operation) : Type 0 where
   pub operations : List Operation
   pub brought : brought_to s n what ≡ operations
-  pub within : Within operations w.operations
+  pub within : AreOperationsOf operations w.operations
   pub delta : List Operation
   pub means : body ≡ meaning_of delta
-  pub inside : Within delta operations
-  pub rest : (o : Operation) → In o operations → In o delta ⊎ In o os
+  pub inside : AreOperationsOf delta operations
+  pub rest : (o : Operation) → IsOperationOf o operations → IsOperationOf o delta ⊎ IsOperationOf o os
 
-module _ (w : ModelWorld) (s : SetWorld) (n : NodeId) (what : What) (m : Message) (r : ModelRun) (h : Sound w s) (on : (w.node n).run ≡ Some r) where
+module _ (w : ModelWorld) (s : SetWorld) (n : NodeId) (what : What) (m : Message) (r : ModelRunning) (h : Sound w s) (on : (w.node n).running ≡ Some r) where
   -- an accepted message's copy goes in
   pub goes_in : (c : Copy) → CopyOk w.operations (seen w.node s.node h.entries) m c → Accepts n (w.node n).last m → is_for n (held_at w s n r h on).set.inc c ≡ true
   goes_in c k ok =
@@ -261,7 +261,7 @@ module _ (w : ModelWorld) (s : SetWorld) (n : NodeId) (what : What) (m : Message
       ∙ (λ i. ok.to i && (not (ok.from i) && ok.only i))
 
   -- the incarnation that the message is bound to is the present one
-  has_bound : (v : NodeId → Seen) (o : Operation) → Accepts n (w.node n).last m → v n ≡ seen w.node s.node h.entries n → Bound v m.to m.only o → In o (held_at w s n r h on).set.operations
+  has_bound : (v : NodeId → Seen) (o : Operation) → Accepts n (w.node n).last m → v n ≡ seen w.node s.node h.entries n → Bound v m.to m.only o → IsOperationOf o (held_at w s n r h on).set.operations
   has_bound v o ok now b =
       let held = held_at w s n r h on in
       let mine : m.to ≡ n = same_node m.to n ok.to in
@@ -290,7 +290,7 @@ brings_one w s n what o os h is =
     record {
       operations = o ∷ [];
       brought = ap (brought_to s n) d.is ∙ (ap (λ os. alone (counted os d.number)) h.issued ∙ ap alone d.there);
-      within = λ x i. subst (λ (y : Operation). In y w.operations) (sym (one_in x o i)) (counted_in w.operations d.number o d.there);
+      within = λ x i. subst (λ (y : Operation). IsOperationOf y w.operations) (sym (one_in x o i)) (counted_in w.operations d.number o d.there);
       delta = o ∷ [];
       means = refl;
       inside = λ x i. i;
@@ -302,20 +302,20 @@ brings_one w s n what o os h is =
 record Part (v : NodeId → Seen) (body : Body) (only : Option ℕ) (to : NodeId) (os : List Operation) : Type 0 where
   delta : List Operation
   is : content_of body ≡ meaning_of delta
-  inside : Within delta os
-  rest : (o : Operation) → In o os → In o delta ⊎ Bound v to only o
+  inside : AreOperationsOf delta os
+  rest : (o : Operation) → IsOperationOf o os → IsOperationOf o delta ⊎ Bound v to only o
 
 -- an interval, or nothing, is the log from the number on
-interval_is : (t : Table) (r : ModelRun) (p : Place) → r.base ≤ p.number → content_of (body_from (run_shown t r) (Some p)) ≡ joined (drop p.number r.log)
+interval_is : (t : Table) (r : ModelRunning) (p : Position) → r.base ≤ p.number → content_of (body_from (running_shown t r) (Some p)) ≡ joined (drop p.number r.log)
 interval_is t r p kept =
     elim (nat_le (length r.log) p.number) as (λ b. nat_le (length r.log) p.number ≡ b → content_of (cond b Nothing (Interval (joined (drop (p.number - r.base) (drop r.base r.log))))) ≡ joined (drop p.number r.log)) [
       | true ↦ λ e. ap joined (sym (drop_of_length-le r.log (leb-true (length r.log) p.number e)))
       | false ↦ λ _. let to : r.base + (p.number - r.base) ≡ p.number = omega arith in ap joined (drop-drop (p.number - r.base) r.base r.log ∙ ap (λ k. drop k r.log) to)
     ] refl
 
-module _ (ops : List Operation) (v : NodeId → Seen) (n : NodeId) (r : ModelRun) (set : NodeSet) (agree : Agree ops) (inside : Within set.operations ops) (on : (v n).on ≡ Some set) (log : IsLogOf r.log set.operations (v n).entries) (ok : PeersOk v n (v n).last r.peers) where
+module _ (ops : List Operation) (v : NodeId → Seen) (n : NodeId) (r : ModelRunning) (set : NodeSet) (agree : DotsDetermine ops) (inside : AreOperationsOf set.operations ops) (on : (v n).on ≡ Some set) (log : IsLogOf r.log set.operations (v n).entries) (ok : PeersOk v n (v n).last r.peers) where
   -- the whole state, or the interval from an acknowledged number
-  part_of : (t : Table) (to : NodeId) (p : Option Place) → begins r.peers (joined r.log) r.base to ≡ p → Part v (body_from (run_shown t r) p) (option_map (λ (q : Place). q.inc) p) to set.operations
+  part_of : (t : Table) (to : NodeId) (p : Option Position) → begins r.peers (joined r.log) r.base to ≡ p → Part v (body_from (running_shown t r) p) (option_map (λ (q : Position). q.inc) p) to set.operations
   part_of t to None e = record { delta = set.operations; is = log_means r.log set.operations ops (v n).entries inside agree log; inside = λ o i. i; rest = λ o i. inl i }
   part_of t to (Some p) e =
       let es = (v n).entries in
@@ -331,7 +331,7 @@ module _ (ops : List Operation) (v : NodeId → Seen) (n : NodeId) (r : ModelRun
         ];
       }
 
-  ship_copy : (t : Table) (to : NodeId) → r.origin ≡ own_origin n (v n).last → let m = message_of (run_shown t r) to in CopyOk ops v m (record { from = n; to = m.to; only = m.only; operations = set.operations })
+  ship_copy : (t : Table) (to : NodeId) → r.origin ≡ own_origin n (v n).last → let m = message_of (running_shown t r) to in CopyOk ops v m (record { from = n; to = m.to; only = m.only; operations = set.operations })
   ship_copy t to mine =
       let p = part_of t to (begins r.peers (joined r.log) r.base to) refl in
       let es = (v n).entries in
@@ -351,7 +351,7 @@ module _ (ops : List Operation) (v : NodeId → Seen) (n : NodeId) (r : ModelRun
         inside = p.inside;
         rest = p.rest;
         sent = subst (λ (q : Origin). Sent (v q.node) q.inc (length r.log) set.operations) (sym mine) here;
-        ack = subst (λ (q : Origin). Acknowledges v q (receipt r.peers to)) (sym mine) (receipt_ok v n (v n).last r.peers to ok);
+        ack = subst (λ (q : Origin). Acknowledges v q (ack_for r.peers to)) (sym mine) (ack_ok v n (v n).last r.peers to ok);
       }
 
 -- ---- what the deeds do
@@ -383,7 +383,7 @@ module _ (w : ModelWorld) (s : SetWorld) (n : NodeId) (h : Sound w s) where
       (put_at s.node n (Some set)) (put_elsewhere s.node n (Some set)) (issued_more w.operations (x ∷ []) [] s.issued h.issued) (λ o i. ap (λ (y : Operation). y.dot.origin.node) (one_in o x i))
       (record { last = one_more last; same = λ e. absurd (above_it last e) })
       (run_ok (w.operations ++ x ∷ []) n (last + 1) (comes_up own now) set ((x ∷ []) ∷ []) (DistinctDots-agree (w.operations ++ x ∷ []) distinct) refl refl (boot_log x) (boot_set w.operations n last old))
-      (λ v _ _ r p. subst (λ (q : ModelRun). PeersOk v n (last + 1) q.peers) (some_same (comes_up own now) r p) (no_peers_ok v n (last + 1)))
+      (λ v _ _ r p. subst (λ (q : ModelRunning). PeersOk v n (last + 1) q.peers) (some_same (comes_up own now) r p) (no_peers_ok v n (last + 1)))
       (λ v _ on. same_copies w s n h (x ∷ []) v on)
       distinct
 
@@ -399,14 +399,14 @@ module _ (w : ModelWorld) (s : SetWorld) (n : NodeId) (h : Sound w s) where
       (λ v _ on. same_copies w s n h [] v on)
       all_distinct
 
-  module _ (r : ModelRun) (on : (w.node n).run ≡ Some r) (after : ModelRun) where
+  module _ (r : ModelRunning) (on : (w.node n).running ≡ Some r) (after : ModelRunning) where
     -- a running node goes on with more operations
     sound_grows : (set : NodeSet) (fs : Entries) (sets : NodeId → Option NodeSet) (issued : List Issue) (qs : List Operation) (ms : List Message) (cs : List Copy) →
         let last = (w.node n).last in
         let es = h.entries n ++ fs in
         let x : Seen = record { last = last; on = Some set; entries = es } in
-        after.origin ≡ r.origin → set.inc ≡ last → Within (held_at w s n r h on).set.operations set.operations →
-        sets n ≡ Some set → ((m : NodeId) → (m ≡ n → ⊥) → sets m ≡ s.node m) → operations_of issued ≡ w.operations ++ qs → ((o : Operation) → In o qs → o.dot.origin.node ≡ n) →
+        after.origin ≡ r.origin → set.inc ≡ last → AreOperationsOf (held_at w s n r h on).set.operations set.operations →
+        sets n ≡ Some set → ((m : NodeId) → (m ≡ n → ⊥) → sets m ≡ s.node m) → operations_of issued ≡ w.operations ++ qs → ((o : Operation) → IsOperationOf o qs → o.dot.origin.node ≡ n) →
         IsLogOf after.log set.operations es → SetOk (w.operations ++ qs) n last set.operations →
         Onward w s n h x (λ v. PeersOk v n last after.peers) → Onward w s n h x (λ v. CopiesOk (w.operations ++ qs) v (w.messages ++ ms) cs) → DistinctDots (w.operations ++ qs) →
         Sound (record { count = w.count; node = with_node w.node n (runs_as last after); operations = w.operations ++ qs; messages = w.messages ++ ms }) (record { node = sets; issued = issued; copies = cs })
@@ -417,7 +417,7 @@ module _ (w : ModelWorld) (s : SetWorld) (n : NodeId) (h : Sound w s) where
         sound_next w s n h (runs_as last after) (Some set) es sets issued qs ms cs put far all mine
         (later_more (seen w.node s.node h.entries n) held.set set last (h.entries n) fs refl held.is refl more)
         (run_ok (w.operations ++ qs) n last after set es (DistinctDots-agree (w.operations ++ qs) distinct) (origin ∙ held.mine) inc log ok)
-        (λ v now later q p. subst (λ (y : ModelRun). PeersOk v n last y.peers) (some_same after q p) (peers v now later))
+        (λ v now later q p. subst (λ (y : ModelRunning). PeersOk v n last y.peers) (some_same after q p) (peers v now later))
         copies distinct
 
     -- a running node adds nothing, and more may be on its way
@@ -465,9 +465,9 @@ module _ (w : ModelWorld) (s : SetWorld) (n : NodeId) (h : Sound w s) where
         let sets = with_set s.node n (united (s.node n) (brought_to s n what)) in
         let add = brought os b.delta w.operations (joined r.log) body held.state b.means held.ok.within (λ o i. b.within o (b.inside o i)) (DistinctDots-agree w.operations h.distinct) in
         let parts = gathered-append es add.entries in
-        let old : Within os (gathered (es ++ add.entries)) = λ o i. subst (In o) (sym parts) (In-append_left o (gathered es) (gathered add.entries) (held.log.some o i)) in
-        let new : Within b.operations (gathered (es ++ add.entries)) = λ o i. elim (b.rest o i) [
-          | inl d ↦ elim (add.all o d) [ inl x ↦ subst (In o) (sym parts) (In-append_right o (gathered es) (gathered add.entries) x) | inr y ↦ old o y ]
+        let old : AreOperationsOf os (gathered (es ++ add.entries)) = λ o i. subst (IsOperationOf o) (sym parts) (In-append_left o (gathered es) (gathered add.entries) (held.log.some o i)) in
+        let new : AreOperationsOf b.operations (gathered (es ++ add.entries)) = λ o i. elim (b.rest o i) [
+          | inl d ↦ elim (add.all o d) [ inl x ↦ subst (IsOperationOf o) (sym parts) (In-append_right o (gathered es) (gathered add.entries) x) | inr y ↦ old o y ]
           | inr y ↦ old o y
         ] in
         let log : IsLogOf (r.log ++ brings (joined r.log) body) (os ++ b.operations) (es ++ add.entries) =
@@ -483,20 +483,20 @@ module _ (w : ModelWorld) (s : SetWorld) (n : NodeId) (h : Sound w s) where
         all_distinct
 
   -- a running node ships to another
-  ship_copies : (t : Table) (r : ModelRun) → (w.node n).run ≡ Some r → (to : NodeId) → let m = message_of (run_shown t r) to in
+  ship_copies : (t : Table) (r : ModelRunning) → (w.node n).running ≡ Some r → (to : NodeId) → let m = message_of (running_shown t r) to in
       (v : NodeId → Seen) → ((k : NodeId) → Later (seen w.node s.node h.entries k) (v k)) → CopiesOk (w.operations ++ []) v (w.messages ++ m ∷ []) (s.copies ++ copied_by (s.node n) n m)
   ship_copies t r on to v later =
       let held = held_at w s n r h on in
       let u : NodeId → Seen = seen w.node s.node h.entries in
-      let m : Message = message_of (run_shown t r) to in
+      let m : Message = message_of (running_shown t r) to in
       let copy : Copy = record { from = n; to = m.to; only = m.only; operations = held.set.operations } in
-      let more : Within w.operations (w.operations ++ []) = λ o i. In-append_left o w.operations [] i in
+      let more : AreOperationsOf w.operations (w.operations ++ []) = λ o i. In-append_left o w.operations [] i in
       let one : CopyOk w.operations u m copy = ship_copy w.operations u n r held.set (DistinctDots-agree w.operations h.distinct) held.ok.within held.is held.log (h.peers n r on) t to held.mine in
       subst (λ (o : Option NodeSet). CopiesOk (w.operations ++ []) v (w.messages ++ m ∷ []) (s.copies ++ copied_by o n m)) (sym held.is)
       (CopiesOk-push (w.operations ++ []) v w.messages s.copies m copy (CopiesOk-later w.operations (w.operations ++ []) u v w.messages s.copies more later h.copies) (CopyOk-later w.operations (w.operations ++ []) u v m copy more later one))
 
   -- what is kept of peers after a message
-  heard_peers : (what : What) (m : Message) (r : ModelRun) (on : (w.node n).run ≡ Some r) (is : event_of w.operations w.messages what ≡ Ok (Hear m)) (ok : Accepts n (w.node n).last m) →
+  heard_peers : (what : What) (m : Message) (r : ModelRunning) (on : (w.node n).running ≡ Some r) (is : event_of w.operations w.messages what ≡ Ok (Hear m)) (ok : Accepts n (w.node n).last m) →
       let b = brings_copy w s n what m r h on is ok in
       (v : NodeId → Seen) → ((k : NodeId) → Later (seen w.node s.node h.entries k) (v k)) → (v n).last ≡ (w.node n).last → (v n).on ≡ Some (and_more (held_at w s n r h on).set b.operations) →
       PeersOk v n (w.node n).last r.peers → PeersOk v n (w.node n).last (heard_from r.origin (length r.log) r.peers m)
@@ -513,9 +513,9 @@ module _ (w : ModelWorld) (s : SetWorld) (n : NodeId) (h : Sound w s) where
       (heard_ok v n (w.node n).last (length r.log) r.peers m peers (subst (λ l. Covered (v m.from.node) (v n) m.from.inc m.up_to l) last got) k.ack)
 
   -- a running node ticks
-  sound_tick : (t : Table) (what : What) (r : ModelRun) → (w.node n).run ≡ Some r → (note : Note) (noted : List (Option Noted)) (now : ℕ) (opening : Opening) →
-      let deed = ticks_by opening t (run_shown t r) noted now in
-      let d : ModelNode = record { last = (w.node n).last; run = goes_on r note deed } in
+  sound_tick : (t : Table) (what : What) (r : ModelRunning) → (w.node n).running ≡ Some r → (note : Note) (noted : List (Option Noted)) (now : ℕ) (opening : Opening) →
+      let deed = ticks_by opening t (running_shown t r) noted now in
+      let d : ModelNode = record { last = (w.node n).last; running = goes_on r note deed } in
       Sound (answered_by w n d (Ok deed.reply)).world (set_step s n what (Ok deed.reply))
   sound_tick t what r on note noted now Shut = sound_keep r on _ [] s.copies (record { origin = refl; log = refl }) (λ v k. k) (λ v later. same_copies w s n h [] v later)
   sound_tick t what r on note noted now GiveUp = sound_off
@@ -524,18 +524,18 @@ module _ (w : ModelWorld) (s : SetWorld) (n : NodeId) (h : Sound w s) where
       sound_issue r on _ turn.ops (record { origin = refl; log = refl }) refl (claims_issued t r.origin noted now (joined r.log))
 
   -- ---- an event that isn't refused
-  sound_ok : (t : Table) (what : What) (e : Event) (run : Option ModelRun) → event_of w.operations w.messages what ≡ Ok e → refusal_of t (shown t (w.node n)) e ≡ None → (w.node n).run ≡ run →
-      let step = accepted t n (w.node n).last run e in
+  sound_ok : (t : Table) (what : What) (e : Event) (running : Option ModelRunning) → event_of w.operations w.messages what ≡ Ok e → refusal_of t (shown t (w.node n)) e ≡ None → (w.node n).running ≡ running →
+      let step = accepted t n (w.node n).last running e in
       Sound (answered_by w n step.node step.answer).world (set_step s n what (answered_by w n step.node step.answer).answer)
   sound_ok t what e None is none on = sound_boot (moment_of e)
-  sound_ok t what (Boot now) (Some r) is none on = none_some (sym (ap (λ (l : Option ModelRun). refusal_by t (w.node n).last (option_map (run_shown t) l) (Boot now)) (sym on) ∙ none))
+  sound_ok t what (Boot now) (Some r) is none on = none_some (sym (ap (λ (l : Option ModelRunning). refusal_by t (w.node n).last (option_map (running_shown t) l) (Boot now)) (sym on) ∙ none))
   sound_ok t what Crash (Some r) is none on = sound_off
-  sound_ok t what (Told c) (Some r) is none on =
+  sound_ok t what (Commanded c) (Some r) is none on =
       let act = act_of t (joined r.log) c in
       sound_issue r on _ (next_operation (joined r.log) r.origin act ∷ []) (record { origin = refl; log = refl }) refl ((act, refl), tt)
-  sound_ok t what (Tick now) (Some r) is none on = sound_tick t what r on (note_of (joined r.log) (Tick now)) (waits_of t (note_of (joined r.log) (Tick now) ∷ r.notes)) now (opening_at t (run_shown t r) now)
+  sound_ok t what (Tick now) (Some r) is none on = sound_tick t what r on (note_of (joined r.log) (Tick now)) (waits_of t (note_of (joined r.log) (Tick now) ∷ r.notes)) now (opening_at t (running_shown t r) now)
   sound_ok t what (Ship to) (Some r) is none on =
-      sound_keep r on _ (message_of (run_shown t r) to ∷ []) (s.copies ++ copied_by (s.node n) n (message_of (run_shown t r) to)) (record { origin = refl; log = refl }) (λ v k. shipped_ok v n (w.node n).last r.peers to k) (ship_copies t r on to)
+      sound_keep r on _ (message_of (running_shown t r) to ∷ []) (s.copies ++ copied_by (s.node n) n (message_of (running_shown t r) to)) (record { origin = refl; log = refl }) (λ v k. shipped_ok v n (w.node n).last r.peers to k) (ship_copies t r on to)
   sound_ok t what (Hear m) (Some r) is none on =
       let ok = heard_accepts t w s n r h on m none in
       sound_hear r on _ what (content_of m.body) (record { origin = refl; log = refl }) (brings_copy w s n what m r h on is ok) (heard_peers what m r on is ok)
@@ -547,7 +547,7 @@ sound_by t w s n what h =
       | Err fault ↦ λ _. h
       | Ok e ↦ λ is. elim (refusal_of t (shown t (w.node n)) e) as (λ r. refusal_of t (shown t (w.node n)) e ≡ r → Sound (answered_by w n (step_by r t n (w.node n) e).node (step_by r t n (w.node n) e).answer).world (set_step s n what (answered_by w n (step_by r t n (w.node n) e).node (step_by r t n (w.node n) e).answer).answer)) [
         | Some why ↦ λ _. h
-        | None ↦ λ none. sound_ok w s n h t what e (w.node n).run is none refl
+        | None ↦ λ none. sound_ok w s n h t what e (w.node n).running is none refl
       ] refl
     ] refl
 

@@ -22,7 +22,7 @@ use Rattle.dac_wishes.specs.Writes.{Write, write, same_dot}
 use Rattle.dac_operations.specs.declared.act.Act.{Act}
 use Rattle.dac_operations.specs.declared.act.Act.TheVariants.{Permit, Start, Stop, Drain}
 use Rattle.dac_operations.specs.Operations.{Operation, over_list}
-use Rattle.dac_meaning.specs.Meaning.{meaning_of, In, has_dot, is_replaced, is_same, told, is_vote, vote_said, vote_at, permit_vote, drain_vote, says, flag_said, wishes, is_start}
+use Rattle.dac_meaning.specs.Meaning.{meaning_of, IsOperationOf, has_dot, is_replaced, is_same, vote_says, is_vote, vote_said, vote_at, permit_vote, drain_vote, says, flag_said, wishes, is_start}
 use Rattle.dac_meaning.specs.laws.Members.{found, finds}
 use Rattle.dac_meaning.specs.laws.Readers.{starts-meaning, permits-meaning, drains-meaning}
 use Rattle.dac_commands.specs.Written.{PermitStands, StartStands, DrainStands}
@@ -32,7 +32,7 @@ use Rattle.dac_model_world.specs.laws.Replacing.{Replaces}
 -- one of the operations writes so and has the dot, and none replaces the dot
 pub record StandsAs (Writes : Act → Type 0) (os : List Operation) (d : Dot) : Type 0 where
   pub operation : Operation
-  pub there : In operation os
+  pub there : IsOperationOf operation os
   pub writes : Writes operation.act
   pub is : operation.dot ≡ d
   pub stays : is_replaced d os ≡ false
@@ -108,15 +108,15 @@ given true x h = absurd (false≢true h)
 given false x h = (refl, h)
 
 module _ {K : Type 0} (R : K → K → Ordering) (vote : Act → Option (K × Bool)) (down : Bool) (Writes : K → Act → Type 0)
-    (writes_is : (key : K) (v : Bool) (act : Act) → told R key v (vote act) ≡ true → Writes key act)
-    (is_told : (key : K) (act : Act) → Writes key act → (v : Bool) × (told R key v (vote act) ≡ true)) where
-  vote_found : (os : List Operation) (key : K) (d : Dot) (v : Bool) → list_any (is_vote R vote (keyed_write key d) v) os ≡ true → (o : Operation) × (In o os × (Writes key o.act × (o.dot ≡ d)))
+    (writes_is : (key : K) (v : Bool) (act : Act) → vote_says R key v (vote act) ≡ true → Writes key act)
+    (is_told : (key : K) (act : Act) → Writes key act → (v : Bool) × (vote_says R key v (vote act) ≡ true)) where
+  vote_found : (os : List Operation) (key : K) (d : Dot) (v : Bool) → list_any (is_vote R vote (keyed_write key d) v) os ≡ true → (o : Operation) × (IsOperationOf o os × (Writes key o.act × (o.dot ≡ d)))
   vote_found os key d v h =
       let o = found (is_vote R vote (keyed_write key d) v) os h in
-      let both = and_parts (told R key v (vote o.0.act)) (has_dot d o.0) o.1.1 in
+      let both = and_parts (vote_says R key v (vote o.0.act)) (has_dot d o.0) o.1.1 in
       (o.0, (o.1.0, (writes_is key v o.0.act both.0, sym (same_dot_is d o.0.dot both.1))))
 
-  said_found : (os : List Operation) (key : K) (d : Dot) → is_some (vote_said R vote down (keyed_write key d) os) ≡ true → (o : Operation) × (In o os × (Writes key o.act × (o.dot ≡ d)))
+  said_found : (os : List Operation) (key : K) (d : Dot) → is_some (vote_said R vote down (keyed_write key d) os) ≡ true → (o : Operation) × (IsOperationOf o os × (Writes key o.act × (o.dot ≡ d)))
   said_found os key d h = elim (either_said (list_any (is_vote R vote (keyed_write key d) down) os) (list_any (is_vote R vote (keyed_write key d) (not down)) os) h) [
     | inl t ↦ vote_found os key d down t
     | inr t ↦ vote_found os key d (not down) t
@@ -138,7 +138,7 @@ module _ {K : Type 0} (R : K → K → Ordering) (vote : Act → Option (K × Bo
         let o = x.operation in
         let v = is_told key o.act x.writes in
         ap (λ b. is_some (cond b None (vote_said R vote down (keyed_write key d) os))) x.stays
-        ∙ found_said os key d v.0 (finds (is_vote R vote (keyed_write key d) v.0) os o x.there (and_from (told R key v.0 (vote o.act)) (has_dot d o) v.1 (dot_tested d o x.is))),
+        ∙ found_said os key d v.0 (finds (is_vote R vote (keyed_write key d) v.0) os o x.there (and_from (vote_says R key v.0 (vote o.act)) (has_dot d o) v.1 (dot_tested d o x.is))),
   )
 
 pub permits_stand : (os : List Operation) (key : Key) (d : Dot) → PermitStands (meaning_of os) key d ↔ StandsAs (IsPermitOf key) os d
@@ -147,11 +147,11 @@ permits_stand os key d =
     (λ h. stand.0 (ap is_some (sym (permits-meaning os (write key d))) ∙ h), λ x. ap is_some (permits-meaning os (write key d)) ∙ stand.1 x)
 
 -- ---- drains
-drain_is : (at : Origin) (v : Bool) (act : Act) → told origin_cmp at v (drain_vote act) ≡ true → IsDrainOf at act
+drain_is : (at : Origin) (v : Bool) (act : Act) → vote_says origin_cmp at v (drain_vote act) ≡ true → IsDrainOf at act
 drain_is at v (Drain n i value over) h = sym (tied_is exact_origins at (origin n i) (and_parts (eq_by_cmp origin_cmp at (origin n i)) (is_same value v) h).0)
 drain_is at v _ h = false≢true h
 
-is_drain : (at : Origin) (act : Act) → IsDrainOf at act → (v : Bool) × (told origin_cmp at v (drain_vote act) ≡ true)
+is_drain : (at : Origin) (act : Act) → IsDrainOf at act → (v : Bool) × (vote_says origin_cmp at v (drain_vote act) ≡ true)
 is_drain at (Drain n i value over) e = (value, and_from (eq_by_cmp origin_cmp at (origin n i)) (is_same value value) (ap (eq_by_cmp origin_cmp at) e ∙ ap is_eq (tied_itself origins_total at)) (is_same_itself value))
 is_drain at _ e = absurd e
 
@@ -172,7 +172,7 @@ IsReplacedBy p _ = ⊥
 -- one of the operations has the dot that an act replaces
 pub record Replaced (os : List Operation) (act : Act) (d : Dot) : Type 0 where
   pub operation : Operation
-  pub there : In operation os
+  pub there : IsOperationOf operation os
   pub is : operation.dot ≡ d
   pub by : IsReplacedBy operation.act act
 

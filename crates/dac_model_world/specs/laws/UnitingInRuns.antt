@@ -13,10 +13,10 @@ use Rattle.dac_events.specs.declared.WorldEvent.{WorldEvent}
 use Rattle.dac_events.specs.declared.What.{What}
 use Rattle.dac_messages.specs.declared.message.Message.{Message}
 use Rattle.dac_messages.specs.declared.event.Event.{Event}
-use Rattle.dac_messages.specs.declared.event.Event.TheVariants.{Boot, Crash, Command as Told, Tick, Ship, Hear, HearOp}
+use Rattle.dac_messages.specs.declared.event.Event.TheVariants.{Boot, Crash, Command as Commanded, Tick, Ship, Hear, HearOp}
 use Rattle.dac_events.specs.declared.world_fault.WorldFault.TheVariants.{NoSuchNode}
-use Rattle.dac_model_node.specs.NodeValue.{RunValue}
-use Rattle.dac_model_node.specs.ModelNode.{ModelRun, joined, shown, run_shown}
+use Rattle.dac_model_node.specs.NodeValue.{RunningValue}
+use Rattle.dac_model_node.specs.ModelNode.{ModelRunning, joined, shown, running_shown}
 use Rattle.dac_model_node.specs.EventRefusals.{refusal_of, refusal_by}
 use Rattle.dac_model_node.specs.Deeds.{message_of, ticks_by, opening_at, note_of}
 use Rattle.dac_model_node.specs.Step.{step_by, accepted}
@@ -31,7 +31,7 @@ use Rattle.dac_model_world.specs.laws.Sound.{Answer, Sound, Accepts, seen, put_a
 abbrev hearing : SetWorld → NodeId → What → SetWorld
 hearing s n what = record { node = with_set s.node n (united (s.node n) (brought_to s n what)); issued = s.issued; copies = s.copies }
 
-module _ (w : ModelWorld) (s : SetWorld) (n : NodeId) (r : ModelRun) (h : Sound w s) (on : (w.node n).run ≡ Some r) where
+module _ (w : ModelWorld) (s : SetWorld) (n : NodeId) (r : ModelRunning) (h : Sound w s) (on : (w.node n).running ≡ Some r) where
   unite_ship : (m : Message) → IsPut s n m (record { node = s.node; issued = s.issued; copies = s.copies ++ copied_by (s.node n) n m })
   unite_ship m = let held = held_at w s n r h on in record { held = held.set; on = held.is; after = ap (λ (o : Option NodeSet). s.copies ++ copied_by o n m) held.is }
 
@@ -55,20 +55,20 @@ module _ (w : ModelWorld) (s : SetWorld) (n : NodeId) (r : ModelRun) (h : Sound 
       let there : counted (operations_of s.issued) d.number ≡ Some o = ap (λ os. counted os d.number) h.issued ∙ d.there in
       subst (λ (x : What). HearsSo s n x (hearing s n what)) (sym d.is) (record { held = held.set; on = held.is; operation = o; there = there; after = after_union what (o ∷ []) (ap (brought_to s n) d.is ∙ ap alone there) })
 
-tick_unites : (t : Table) (s : SetWorld) (n : NodeId) (what : What) (r : RunValue) (noted : List (Option Noted)) (now : ℕ) (opening : Opening) → Unites s n what (Ok (ticks_by opening t r noted now).reply)
+tick_unites : (t : Table) (s : SetWorld) (n : NodeId) (what : What) (r : RunningValue) (noted : List (Option Noted)) (now : ℕ) (opening : Opening) → Unites s n what (Ok (ticks_by opening t r noted now).reply)
 tick_unites t s n what r noted now Shut = tt
 tick_unites t s n what r noted now GiveUp = tt
 tick_unites t s n what r noted now Opened = tt
 
-unite_ok : (t : Table) (w : ModelWorld) (s : SetWorld) (n : NodeId) (what : What) (e : Event) (run : Option ModelRun) → Sound w s → event_of w.operations w.messages what ≡ Ok e → refusal_of t (shown t (w.node n)) e ≡ None → (w.node n).run ≡ run →
-    let step = accepted t n (w.node n).last run e in
+unite_ok : (t : Table) (w : ModelWorld) (s : SetWorld) (n : NodeId) (what : What) (e : Event) (running : Option ModelRunning) → Sound w s → event_of w.operations w.messages what ≡ Ok e → refusal_of t (shown t (w.node n)) e ≡ None → (w.node n).running ≡ running →
+    let step = accepted t n (w.node n).last running e in
     Unites s n what (answered_by w n step.node step.answer).answer
 unite_ok t w s n what e None h is none on = tt
-unite_ok t w s n what (Boot now) (Some r) h is none on = none_some (sym (ap (λ (l : Option ModelRun). refusal_by t (w.node n).last (option_map (run_shown t) l) (Boot now)) (sym on) ∙ none))
+unite_ok t w s n what (Boot now) (Some r) h is none on = none_some (sym (ap (λ (l : Option ModelRunning). refusal_by t (w.node n).last (option_map (running_shown t) l) (Boot now)) (sym on) ∙ none))
 unite_ok t w s n what Crash (Some r) h is none on = tt
-unite_ok t w s n what (Told c) (Some r) h is none on = tt
-unite_ok t w s n what (Tick now) (Some r) h is none on = tick_unites t s n what (run_shown t r) (waits_of t (note_of (joined r.log) (Tick now) ∷ r.notes)) now (opening_at t (run_shown t r) now)
-unite_ok t w s n what (Ship to) (Some r) h is none on = unite_ship w s n r h on (message_of (run_shown t r) to)
+unite_ok t w s n what (Commanded c) (Some r) h is none on = tt
+unite_ok t w s n what (Tick now) (Some r) h is none on = tick_unites t s n what (running_shown t r) (waits_of t (note_of (joined r.log) (Tick now) ∷ r.notes)) now (opening_at t (running_shown t r) now)
+unite_ok t w s n what (Ship to) (Some r) h is none on = unite_ship w s n r h on (message_of (running_shown t r) to)
 unite_ok t w s n what (Hear m) (Some r) h is none on = unite_hear w s n r h on what m is (heard_accepts t w s n r h on m none)
 unite_ok t w s n what (HearOp o) (Some r) h is none on = unite_hand w s n r h on what o is
 
@@ -78,7 +78,7 @@ unite_by t w s n what h =
       | Err fault ↦ λ _. tt
       | Ok e ↦ λ is. elim (refusal_of t (shown t (w.node n)) e) as (λ r. refusal_of t (shown t (w.node n)) e ≡ r → Unites s n what (answered_by w n (step_by r t n (w.node n) e).node (step_by r t n (w.node n) e).answer).answer) [
         | Some why ↦ λ _. tt
-        | None ↦ λ none. unite_ok t w s n what e (w.node n).run h is none refl
+        | None ↦ λ none. unite_ok t w s n what e (w.node n).running h is none refl
       ] refl
     ] refl
 

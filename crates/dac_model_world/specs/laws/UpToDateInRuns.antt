@@ -9,7 +9,7 @@ use Rattle.std.proofs.Math.ListN.{drop_of_length-le}
 use Rattle.dac_base.specs.declared.NodeId.{NodeId}
 use Rattle.dac_chains.specs.declared.lives.Life.{Life}
 use Rattle.dac_meaning.specs.StateValue.{StateValue}
-use Rattle.dac_meaning.specs.Meaning.{In}
+use Rattle.dac_meaning.specs.Meaning.{IsOperationOf}
 use Rattle.dac_config.specs.Table.{Table}
 use Rattle.dac_events.specs.declared.WorldEvent.{WorldEvent}
 use Rattle.dac_events.specs.declared.What.{What}
@@ -18,9 +18,9 @@ use Rattle.dac_messages.specs.declared.reply.Reply.{Reply}
 use Rattle.dac_events.specs.declared.refusal.Refusal.{Refusal}
 use Rattle.dac_events.specs.declared.refusal.Refusal.TheVariants.{Off, UnknownNode, OnSelf, UpToDate}
 use Rattle.dac_commands.specs.Causes.{first, no_node}
-use Rattle.dac_model_node.specs.Place.{Place}
+use Rattle.dac_model_node.specs.Position.{Position}
 use Rattle.dac_model_node.specs.Peers.{PeersValue, begins, has_all, acked_by, acked_at, kept_from, is_up_to_date}
-use Rattle.dac_model_node.specs.ModelNode.{ModelRun, joined, shown, run_shown}
+use Rattle.dac_model_node.specs.ModelNode.{ModelRunning, joined, shown, running_shown}
 use Rattle.dac_model_node.specs.EventRefusals.{refusal_of, refusal_by}
 use Rattle.dac_model_node.specs.Step.{step_by, accepted}
 use Rattle.dac_model_node.specs.laws.Options.{some_same}
@@ -36,17 +36,17 @@ use Rattle.dac_model_world.specs.laws.Sound.{Answer, Sound, seen, held_at, sound
 
 -- ---- where the sender begins
 -- the life of the node that is named by the place from which an interval begins
-record Known (s : StateValue) (to : NodeId) (p : Place) : Type 0 where
+record Known (s : StateValue) (to : NodeId) (p : Position) : Type 0 where
   life : Life
   known : map.get s.lives to ≡ Some life
   inc : p.inc ≡ life.inc
 
-begins_known : (p : PeersValue) (s : StateValue) (base : ℕ) (to : NodeId) (q : Place) → begins p s base to ≡ Some q → Known s to q
+begins_known : (p : PeersValue) (s : StateValue) (base : ℕ) (to : NodeId) (q : Position) → begins p s base to ≡ Some q → Known s to q
 begins_known p s base to q e = kept (acked_at p s to) refl e
   where
     inc_is : (life : Life) (c : Option ℕ) → option_map (λ (n : ℕ). record { inc = life.inc; number = n }) c ≡ Some q → q.inc ≡ life.inc
     inc_is life None e = none_some e
-    inc_is life (Some a) e = ap (λ (z : Place). z.inc) (sym (some_same (record { inc = life.inc; number = a }) q e))
+    inc_is life (Some a) e = ap (λ (z : Position). z.inc) (sym (some_same (record { inc = life.inc; number = a }) q e))
 
     known_is : acked_at p s to ≡ Some q → Known s to q
     known_is e =
@@ -57,7 +57,7 @@ begins_known p s base to q e = kept (acked_at p s to) refl e
         there None is e = none_some e
         there (Some life) is e = (life, (is, e))
 
-    kept : (c : Option Place) → acked_at p s to ≡ c → kept_from base c ≡ Some q → Known s to q
+    kept : (c : Option Position) → acked_at p s to ≡ c → kept_from base c ≡ Some q → Known s to q
     kept None is e = none_some e
     kept (Some r) is e = elim (nat_le base r.number) as (λ b. cond b (Some r) None ≡ Some q → Known s to q) [
       | true ↦ λ h. known_is (is ∙ h)
@@ -65,14 +65,14 @@ begins_known p s base to q e = kept (acked_at p s to) refl e
     ] e
 
 -- what is up to date has a place, with no state after it
-all_from : (p : PeersValue) (s : StateValue) (base count : ℕ) (to : NodeId) → is_up_to_date p s base count to ≡ true → (q : Place) × ((begins p s base to ≡ Some q) × (count ≤ q.number))
+all_from : (p : PeersValue) (s : StateValue) (base count : ℕ) (to : NodeId) → is_up_to_date p s base count to ≡ true → (q : Position) × ((begins p s base to ≡ Some q) × (count ≤ q.number))
 all_from p s base count to e = by_place (begins p s base to) refl (left (has_all count (begins p s base to)) (not (set.contains p.owed to)) e)
   where
     left : (a b : Bool) → (a && b) ≡ true → a ≡ true
     left true b h = refl
     left false b h = absurd (true≢false (sym h))
 
-    by_place : (o : Option Place) → begins p s base to ≡ o → has_all count o ≡ true → (q : Place) × ((begins p s base to ≡ Some q) × (count ≤ q.number))
+    by_place : (o : Option Position) → begins p s base to ≡ o → has_all count o ≡ true → (q : Position) × ((begins p s base to ≡ Some q) × (count ≤ q.number))
     by_place None is h = absurd (true≢false (sym h))
     by_place (Some q) is h = (q, (is, leb-true count q.number h))
 
@@ -84,7 +84,7 @@ ship_refused false false true e = refl
 ship_refused false false false e = cc
 
 -- where the sender runs, and nothing is to be shipped
-all_had : (w : ModelWorld) (s : SetWorld) (n to : NodeId) (r : ModelRun) → Sound w s → (w.node n).run ≡ Some r → is_up_to_date r.peers (joined r.log) r.base (length r.log) to ≡ true → HasAll s n to
+all_had : (w : ModelWorld) (s : SetWorld) (n to : NodeId) (r : ModelRunning) → Sound w s → (w.node n).running ≡ Some r → is_up_to_date r.peers (joined r.log) r.base (length r.log) to ≡ true → HasAll s n to
 all_had w s n to r h on up =
     let from = all_from r.peers (joined r.log) r.base (length r.log) to up in
     let q = from.0 in
@@ -102,7 +102,7 @@ all_had w s n to r h on up =
       known = subst (λ (x : StateValue). map.get x.lives to ≡ Some k.life) held.state k.known;
       has = λ theirs there same o i. elim (gathered_cases q.number es o (held.log.some o i)) [
         | inl a ↦ (covered.has held.set held.is refl o a).has theirs there (sym ((h.nodes to).inc theirs there) ∙ same ∙ sym k.inc)
-        | inr c ↦ absurd (subst (λ (rest : Entries). In o (gathered rest)) (drop_of_length-le es past) c)
+        | inr c ↦ absurd (subst (λ (rest : Entries). IsOperationOf o (gathered rest)) (drop_of_length-le es past) c)
       ];
     }
 
@@ -120,24 +120,24 @@ refused_so : (t : Table) (w : ModelWorld) (n to : NodeId) (b : Bool) → (cond b
 refused_so t w n to false e = absurd (no_node_so e)
 refused_so t w n to true e = by_refusal (refusal_of t (shown t (w.node n)) (Ship to)) e
   where
-    by_run : (run : Option ModelRun) → (answered_by w n (accepted t n (w.node n).last run (Ship to)).node (accepted t n (w.node n).last run (Ship to)).answer).answer ≡ Err (Refused UpToDate) → ⊥
+    by_run : (running : Option ModelRunning) → (answered_by w n (accepted t n (w.node n).last running (Ship to)).node (accepted t n (w.node n).last running (Ship to)).answer).answer ≡ Err (Refused UpToDate) → ⊥
     by_run None e = no_reply _ e
     by_run (Some r) e = no_reply _ e
 
     by_refusal : (o : Option Refusal) → (answered_by w n (step_by o t n (w.node n) (Ship to)).node (step_by o t n (w.node n) (Ship to)).answer).answer ≡ Err (Refused UpToDate) → o ≡ Some UpToDate
-    by_refusal None e = absurd (by_run (w.node n).run e)
+    by_refusal None e = absurd (by_run (w.node n).running e)
     by_refusal (Some why) e = same_why why e
 
 up_happens : (t : Table) (w : ModelWorld) (s : SetWorld) (e : WorldEvent) → Sound w s → TellsUpToDate s e (happens t w e).answer
 up_happens t w s e h is to ships =
     let n = e.node in
     let refused = refused_so t w n to (nat_lt n.0 w.count) (subst (λ (what : What). (cond (nat_lt n.0 w.count) (happens_by t w n (event_of w.operations w.messages what)) (record { world = w; answer = Err NoSuchNode })).answer ≡ Err (Refused UpToDate)) ships is) in
-    by_run (w.node n).run refl refused
+    by_run (w.node n).running refl refused
   where
     off : Some Off ≡ Some UpToDate → ⊥
     off p = cc
 
-    by_run : (run : Option ModelRun) → (w.node e.node).run ≡ run → refusal_by t (w.node e.node).last (option_map (run_shown t) run) (Ship to) ≡ Some UpToDate → HasAll s e.node to
+    by_run : (running : Option ModelRunning) → (w.node e.node).running ≡ running → refusal_by t (w.node e.node).last (option_map (running_shown t) running) (Ship to) ≡ Some UpToDate → HasAll s e.node to
     by_run None on p = absurd (off p)
     by_run (Some r) on p = all_had w s e.node to r h on (ship_refused (no_node t to) (nat_eq to.0 r.origin.node.0) (is_up_to_date r.peers (joined r.log) r.base (length r.log) to) p)
 

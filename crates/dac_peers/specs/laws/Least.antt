@@ -11,16 +11,16 @@ use Rattle.std.specs.FinMap as map
 use Rattle.dac_base.specs.declared.NodeId.{NodeId}
 use Rattle.dac_chains.specs.declared.lives.Life.{Life}
 use Rattle.dac_messages.specs.StateValue.{StateValue}
-use Rattle.dac_peers.specs.declared.places.Place.{Place}
+use Rattle.dac_peers.specs.declared.positions.Position.{Position}
 use Rattle.dac_peers.specs.Peers.{PeersValue, acked_by, number_acked, others, lesser}
 use Rattle.dac_peers.specs.InWords.{IsNumberOf, IsOther, IsLeastOfAll, AllHaveTheLeast}
 
 -- ---- the number of a node
 module _ (p : PeersValue) (s : StateValue) (node : NodeId) where
-  abbrev number_in : Option Place → ℕ
-  number_in place = unwrap_or (option_map (λ (g : Place). g.number) place) 0
+  abbrev number_in : Option Position → ℕ
+  number_in position = unwrap_or (option_map (λ (g : Position). g.number) position) 0
 
-  abbrev placed : Life → Option ℕ → Option Place
+  abbrev placed : Life → Option ℕ → Option Position
   placed life acked = option_map (λ (n : ℕ). record { inc = life.inc; number = n }) acked
 
   by_acked : (life : Life) → map.get s.lives node ≡ Some life → (acked : Option ℕ) → map.get p.acked (record { node = node; inc = life.inc }) ≡ acked → IsNumberOf p s node (number_in (placed life acked))

@@ -14,9 +14,9 @@ use Rattle.dac_dots.specs.declared.dot.Origin.{Origin}
 use Rattle.dac_messages.specs.declared.message.Body.{Body}
 use Rattle.dac_messages.specs.declared.message.Body.TheVariants.{Whole, Interval, Nothing}
 use Rattle.dac_messages.specs.declared.message.Message.{Message}
-use Rattle.dac_peers.specs.declared.places.Place.{Place}
+use Rattle.dac_peers.specs.declared.positions.Position.{Position}
 use Rattle.dac_peers.specs.Peers.{PeersValue, later, got_after, heard_from}
-use Rattle.dac_peers.specs.InWords.{IsUpTo, place_of, IsOnward, GotGoesOnward}
+use Rattle.dac_peers.specs.InWords.{IsUpTo, position_of, IsOnward, GotGoesOnward}
 
 -- two nodes are equal or not, and the test tells
 pub same_or_not : (a b : NodeId) → ((a ≡ b) × (eq_by_cmp node_cmp a b ≡ true)) ⊎ ((a ≢ b) × (eq_by_cmp node_cmp a b ≡ false))
@@ -25,11 +25,11 @@ same_or_not a b = elim (eq_by_cmp node_cmp a b) as (λ t. eq_by_cmp node_cmp a b
   | false ↦ λ e. inr ((λ is. true≢false (sym (ap is_eq (tied_itself nodes_total b)) ∙ (ap (λ o. eq_by_cmp node_cmp o b) (sym is) ∙ e))), e)
 ] refl
 
--- ---- the later of two places
-abbrev IsLater : Place → Place → Place → Type 0
+-- ---- the later of two positions
+abbrev IsLater : Position → Position → Position → Type 0
 IsLater old new l = ((l ≡ old) × IsUpTo new old) ⊎ ((l ≡ new) × IsUpTo old new)
 
-later_is : (old new : Place) → IsLater old new (later old new)
+later_is : (old new : Position) → IsLater old new (later old new)
 later_is old new = elim (nat_lt old.inc new.inc) as (λ b. nat_lt old.inc new.inc ≡ b → IsLater old new (cond b new (cond (nat_eq old.inc new.inc) (record { inc = old.inc; number = max old.number new.number }) old))) [
   | true ↦ λ e. inr (refl, inl (ltb-true old.inc new.inc e))
   | false ↦ λ e. let not_less = ltb-false old.inc new.inc e in
@@ -44,15 +44,15 @@ later_is old new = elim (nat_lt old.inc new.inc) as (λ b. nat_lt old.inc new.in
 ] refl
 
 -- what is got at last is no earlier than what was got and than what comes, and is one of them
-record IsAfter (before : Option Place) (new place : Place) : Type 0 where
-  from_old : (b : Place) → before ≡ Some b → IsUpTo b place
-  from_new : IsUpTo new place
-  one : (before ≡ Some place) ⊎ (place ≡ new)
+record IsAfter (before : Option Position) (new position : Position) : Type 0 where
+  from_old : (b : Position) → before ≡ Some b → IsUpTo b position
+  from_new : IsUpTo new position
+  one : (before ≡ Some position) ⊎ (position ≡ new)
 
-up_to_itself : (a : Place) → IsUpTo a a
+up_to_itself : (a : Position) → IsUpTo a a
 up_to_itself a = inr (refl, omega arith)
 
-after_is : (before : Option Place) (new : Place) → IsAfter before new (got_after before new)
+after_is : (before : Option Position) (new : Position) → IsAfter before new (got_after before new)
 after_is None new = record { from_old = λ b e. absurd (none-some b e); from_new = up_to_itself new; one = inr refl }
 after_is (Some b) new = elim (later_is b new) [
   | inl is ↦ record {
@@ -74,15 +74,15 @@ module _ (p : PeersValue) (m : Message) (after : PeersValue) where
   of_nothing none same = record {
     onward = λ node old e. (old, ap (λ g. map.get g node) same ∙ e, up_to_itself old);
     reached = λ some. absurd (some none);
-    only = λ node place e. inl (sym (ap (λ g. map.get g node) same) ∙ e);
+    only = λ node position e. inl (sym (ap (λ g. map.get g node) same) ∙ e);
     others = λ node apart. ap (λ g. map.get g node) same;
   }
 
   abbrev from : NodeId
   from = m.from.node
 
-  abbrev latest : Place
-  latest = got_after (map.get p.got from) (place_of m)
+  abbrev latest : Position
+  latest = got_after (map.get p.got from) (position_of m)
 
   -- one that brings something
   of_more : m.body ≢ Nothing → after.got ≡ map.insert p.got from latest → IsOnward p m after
@@ -92,8 +92,8 @@ module _ (p : PeersValue) (m : Message) (after : PeersValue) where
       | inr apart ↦ (old, elsewhere node apart.1 ∙ e, up_to_itself old)
     ];
     reached = λ _. (latest, here, is_after.from_new);
-    only = λ node place e. elim (same_or_not node from) [
-      | inl same ↦ let l = same_Some latest place (sym (at_sender node same.1) ∙ e) in elim is_after.one [
+    only = λ node position e. elim (same_or_not node from) [
+      | inl same ↦ let l = same_Some latest position (sym (at_sender node same.1) ∙ e) in elim is_after.one [
         | inl old ↦ inl (ap (map.get p.got) same.0 ∙ (old ∙ ap Some l))
         | inr new ↦ inr (same.0, some, sym l ∙ new)
       ]
@@ -102,8 +102,8 @@ module _ (p : PeersValue) (m : Message) (after : PeersValue) where
     others = λ node apart. elim (same_or_not node from) [ inl same ↦ absurd (apart same.0) | inr other ↦ elsewhere node other.1 ];
   }
     where
-      is_after : IsAfter (map.get p.got from) (place_of m) latest
-      is_after = after_is (map.get p.got from) (place_of m)
+      is_after : IsAfter (map.get p.got from) (position_of m) latest
+      is_after = after_is (map.get p.got from) (position_of m)
 
       gets : (node : NodeId) → map.get after.got node ≡ cond (eq_by_cmp node_cmp node from) (Some latest) (map.get p.got node)
       gets node = ap (λ g. map.get g node) is ∙ map.get-insert nodes_total p.got from latest node

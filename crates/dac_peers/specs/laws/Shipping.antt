@@ -12,9 +12,9 @@ use Rattle.dac_dots.specs.declared.dot.Origin.{Origin}
 use Rattle.dac_dots.specs.Dots.{origin_cmp}
 use Rattle.dac_chains.specs.declared.lives.Life.{Life}
 use Rattle.dac_messages.specs.StateValue.{StateValue}
-use Rattle.dac_peers.specs.declared.places.Place.{Place}
+use Rattle.dac_peers.specs.declared.positions.Position.{Position}
 use Rattle.dac_peers.specs.Peers.{PeersValue, acked_by, acked_at, kept_from, begins, has_all}
-use Rattle.dac_peers.specs.InWords.{HasAcked, IsBegin, NothingIsKept, BeginsWhereAcked, ReceiptsAreGot, UpToDateHaveAll}
+use Rattle.dac_peers.specs.InWords.{HasAcked, IsBegin, NothingIsKept, BeginsWhereAcked, AcksAreGot, UpToDateHaveAll}
 use Rattle.dac_peers.specs.laws.Acked.{and_parts}
 
 pub nothing_is_kept : NothingIsKept
@@ -25,64 +25,64 @@ nothing_is_kept = record {
 }
 
 -- ---- where an interval begins
-module _ (p : PeersValue) (s : StateValue) (to : NodeId) (place : Place) where
+module _ (p : PeersValue) (s : StateValue) (to : NodeId) (position : Position) where
   abbrev IsAcked : Type 0
-  IsAcked = (h : HasAcked p s to place.number) × (place.inc ≡ h.life.inc)
+  IsAcked = (h : HasAcked p s to position.number) × (position.inc ≡ h.life.inc)
 
-  abbrev placed : Life → Option ℕ → Option Place
+  abbrev placed : Life → Option ℕ → Option Position
   placed life acked = option_map (λ (n : ℕ). record { inc = life.inc; number = n }) acked
 
-  by_acked : (life : Life) → map.get s.lives to ≡ Some life → (acked : Option ℕ) → map.get p.acked (record { node = to; inc = life.inc }) ≡ acked → placed life acked ≡ Some place → IsAcked
-  by_acked life present None e is = absurd (none-some place is)
+  by_acked : (life : Life) → map.get s.lives to ≡ Some life → (acked : Option ℕ) → map.get p.acked (record { node = to; inc = life.inc }) ≡ acked → placed life acked ≡ Some position → IsAcked
+  by_acked life present None e is = absurd (none-some position is)
   by_acked life present (Some n) e is =
-      let same = same_Some (record { inc = life.inc; number = n }) place is in
-      (record { life = life; present = present; acked = e ∙ ap (λ (q : Place). Some q.number) same }, ap (λ (q : Place). q.inc) (sym same))
+      let same = same_Some (record { inc = life.inc; number = n }) position is in
+      (record { life = life; present = present; acked = e ∙ ap (λ (q : Position). Some q.number) same }, ap (λ (q : Position). q.inc) (sym same))
 
-  pub acked_at_is : acked_at p s to ≡ Some place → IsAcked
-  acked_at_is is = option_and_then_some (acked_by p to) (map.get s.lives to) place is (λ life present e. by_acked life present (map.get p.acked (record { node = to; inc = life.inc })) refl e)
+  pub acked_at_is : acked_at p s to ≡ Some position → IsAcked
+  acked_at_is is = option_and_then_some (acked_by p to) (map.get s.lives to) position is (λ life present e. by_acked life present (map.get p.acked (record { node = to; inc = life.inc })) refl e)
 
-  pub acked_at_has : IsAcked → acked_at p s to ≡ Some place
+  pub acked_at_has : IsAcked → acked_at p s to ≡ Some position
   acked_at_has h =
       let inc = sym h.1 in
-      ap (option_and_then (acked_by p to)) h.0.present ∙ (ap (placed h.0.life) h.0.acked ∙ (λ i. Some (record { inc = inc i; number = place.number })))
+      ap (option_and_then (acked_by p to)) h.0.present ∙ (ap (placed h.0.life) h.0.acked ∙ (λ i. Some (record { inc = inc i; number = position.number })))
 
-  kept_is : (base : ℕ) (o : Option Place) → kept_from base o ≡ Some place → (o ≡ Some place) × (base ≤ place.number)
-  kept_is base None is = absurd (none-some place is)
+  kept_is : (base : ℕ) (o : Option Position) → kept_from base o ≡ Some position → (o ≡ Some position) × (base ≤ position.number)
+  kept_is base None is = absurd (none-some position is)
   kept_is base (Some q) is =
-      let parts = cond_some (nat_le base q.number) q place is in
-      (ap Some parts.1, subst (λ (r : Place). base ≤ r.number) parts.1 (leb-true base q.number parts.0))
+      let parts = cond_some (nat_le base q.number) q position is in
+      (ap Some parts.1, subst (λ (r : Position). base ≤ r.number) parts.1 (leb-true base q.number parts.0))
 
-  pub begins_is : (base : ℕ) → begins p s base to ≡ Some place → IsBegin p s base to place
+  pub begins_is : (base : ℕ) → begins p s base to ≡ Some position → IsBegin p s base to position
   begins_is base is =
       let kept = kept_is base (acked_at p s to) is in
       let acked = acked_at_is kept.0 in
       record { acked = acked.0; present = acked.1; kept = kept.1 }
 
-  pub begins_has : (base : ℕ) → IsBegin p s base to place → begins p s base to ≡ Some place
-  begins_has base h = ap (kept_from base) (acked_at_has (h.acked, h.present)) ∙ ap (λ b. cond b (Some place) None) (le-leb base place.number h.kept)
+  pub begins_has : (base : ℕ) → IsBegin p s base to position → begins p s base to ≡ Some position
+  begins_has base h = ap (kept_from base) (acked_at_has (h.acked, h.present)) ∙ ap (λ b. cond b (Some position) None) (le-leb base position.number h.kept)
 
 pub begins_where_acked : BeginsWhereAcked
-begins_where_acked p s base to place = (begins_is p s to place base, begins_has p s to place base)
+begins_where_acked p s base to position = (begins_is p s to position base, begins_has p s to position base)
 
 -- ---- what was got
 module _ (node : NodeId) (origin : Origin) (n : ℕ) where
-  abbrev read : Option Place → Option (Origin × ℕ)
-  read got = option_map (λ (g : Place). (record { node = node; inc = g.inc }, g.number)) got
+  abbrev read : Option Position → Option (Origin × ℕ)
+  read got = option_map (λ (g : Position). (record { node = node; inc = g.inc }, g.number)) got
 
-  abbrev place : Place
-  place = record { inc = origin.inc; number = n }
+  abbrev position : Position
+  position = record { inc = origin.inc; number = n }
 
-  read_is : (got : Option Place) → read got ≡ Some (origin, n) → (origin.node ≡ node) × (got ≡ Some place)
+  read_is : (got : Option Position) → read got ≡ Some (origin, n) → (origin.node ≡ node) × (got ≡ Some position)
   read_is None e = absurd (none-some (origin, n) e)
   read_is (Some g) e =
       let same = same_Some (record { node = node; inc = g.inc }, g.number) (origin, n) e in
       (ap (λ (r : Origin × ℕ). r.0.node) (sym same), ap (λ (r : Origin × ℕ). Some (record { inc = r.0.inc; number = r.1 })) same)
 
-  read_has : (got : Option Place) → (origin.node ≡ node) × (got ≡ Some place) → read got ≡ Some (origin, n)
+  read_has : (got : Option Position) → (origin.node ≡ node) × (got ≡ Some position) → read got ≡ Some (origin, n)
   read_has got h = let same = sym h.0 in ap read h.1 ∙ (λ i. Some (record { node = same i; inc = origin.inc }, n))
 
-pub receipts_are_got : ReceiptsAreGot
-receipts_are_got p node origin n = (read_is node origin n (map.get p.got node), read_has node origin n (map.get p.got node))
+pub acks_are_got : AcksAreGot
+acks_are_got p node origin n = (read_is node origin n (map.get p.got node), read_has node origin n (map.get p.got node))
 
 -- ---- when nothing is shipped
 not_is : (b : Bool) → not b ≡ true → ¬ (b ≡ true)
@@ -93,7 +93,7 @@ is_not : (b : Bool) → ¬ (b ≡ true) → not b ≡ true
 is_not true none = absurd (none refl)
 is_not false none = refl
 
-has_all_is : (count : ℕ) (o : Option Place) → has_all count o ≡ true → (place : Place) × (o ≡ Some place) × (count ≤ place.number)
+has_all_is : (count : ℕ) (o : Option Position) → has_all count o ≡ true → (position : Position) × (o ≡ Some position) × (count ≤ position.number)
 has_all_is count None e = absurd (true≢false (sym e))
 has_all_is count (Some q) e = (q, refl, leb-true count q.number e)
 

@@ -7,11 +7,11 @@ use Rattle.dac_dots.specs.declared.dot.Origin.{Origin}
 use Rattle.dac_deltas.specs.Numbers.{IsGreatest}
 use Rattle.dac_messages.specs.declared.message.Message.{Message}
 use Rattle.dac_peers.specs.Peers.{PeersValue, heard_from}
-use Rattle.dac_peers.specs.InWords.{Acknowledges, IsWithin, AcksAreWithin}
+use Rattle.dac_peers.specs.InWords.{Acknowledges, AcknowledgesAtMost, AcksAreWithin}
 use Rattle.dac_peers.specs.laws.Acked.{acked_is_greatest}
 use Rattle.dac_peers.specs.laws.Shipping.{nothing_is_kept, begins_is}
 
-heard_within : (own : Origin) (count : ℕ) (p : PeersValue) (m : Message) → IsWithin count p → IsWithin count (heard_from own count p m)
+heard_within : (own : Origin) (count : ℕ) (p : PeersValue) (m : Message) → AcknowledgesAtMost count p → AcknowledgesAtMost count (heard_from own count p m)
 heard_within own count p m within origin n is =
     let greatest = subst (IsGreatest (λ k. (map.get p.acked origin ≡ Some k) ⊎ Acknowledges own count m origin k)) is ((acked_is_greatest own count p m).greatest origin) in
     elim greatest.0 [ inl old ↦ within origin n old | inr new ↦ new.within ]
@@ -21,5 +21,5 @@ acks_are_within = record {
   none = λ origin n is. absurd (none-some n (sym (nothing_is_kept.acked origin) ∙ is));
   heard = heard_within;
   shipped = λ count p to within. within;
-  begun = λ count p s base to place within is. let begin = begins_is p s to place base is in within (record { node = to; inc = begin.acked.life.inc }) place.number begin.acked.acked;
+  begun = λ count p s base to position within is. let begin = begins_is p s to position base is in within (record { node = to; inc = begin.acked.life.inc }) position.number begin.acked.acked;
 }

@@ -9,7 +9,7 @@ use Rattle.std.proofs.lemmas.Bool.{true≢false, false≢true, eqb-true, eq-eqb}
 use Rattle.dac_base.specs.declared.NodeId.{NodeId}
 use Rattle.dac_base.specs.declared.AppId.{AppId}
 use Rattle.dac_operations.specs.Operations.{Operation}
-use Rattle.dac_meaning.specs.Meaning.{In, Within}
+use Rattle.dac_meaning.specs.Meaning.{IsOperationOf, AreOperationsOf}
 use Rattle.dac_meaning.specs.laws.Members.{In-append_left, In-append_right, In-append_cases}
 use Rattle.dac_settle.specs.Rounds.{Held, IsApp, Placement, IsWellMade, IsGrown, IsPlacement, Claims, SetsEvent, Sets, InCopies, with_held, Happens, Run, Ticks, IsReady, IsRound, Rounds}
 use Rattle.dac_settle.specs.Rounds.SetsEvent.{Tick, Ship, Deliver}
@@ -61,17 +61,17 @@ module _ (p : Placement) where
 
     -- a well made claim is in the set
     abbrev pub HasNew : List Operation → Type 0
-    HasNew x = (o : Operation) × In o x × IsWellMade p s o
+    HasNew x = (o : Operation) × IsOperationOf o x × IsWellMade p s o
 
-    more_new : (x y : List Operation) → Within x y → HasNew x → HasNew y
+    more_new : (x y : List Operation) → AreOperationsOf x y → HasNew x → HasNew y
     more_new x y w h = (h.0, w h.0 h.1, h.2)
 
-    new_or_same : (x : List Operation) → ((o : Operation) → In o x → In o s ⊎ IsWellMade p s o) → HasNew x ⊎ Within x s
+    new_or_same : (x : List Operation) → ((o : Operation) → IsOperationOf o x → IsOperationOf o s ⊎ IsWellMade p s o) → HasNew x ⊎ AreOperationsOf x s
     new_or_same [] new = inr (λ o h. absurd h)
     new_or_same (o ∷ os) new = elim (new o (inl refl)) [
       | inl old ↦ elim (new_or_same os (λ q i. new q (inr i))) [
         | inl found ↦ inl (more_new os (o ∷ os) (λ q i. inr i) found)
-        | inr within ↦ inr (λ q i. elim i [ inl same ↦ subst (λ r. In r s) (sym same) old | inr rest ↦ within q rest ])
+        | inr within ↦ inr (λ q i. elim i [ inl same ↦ subst (λ r. IsOperationOf r s) (sym same) old | inr rest ↦ within q rest ])
       ]
       | inr well ↦ inl (o, inl refl, well)
     ]
@@ -100,7 +100,7 @@ module _ (p : Placement) where
     tick_new n (b ∷ apps) x made app are g c i is = elim c [
       | inl mine ↦
           let o = p.claim n x b in
-          (o, subst (λ m. In o (x ++ m)) (sym mine.2) (In-append_right o x (o ∷ mine.0) (inl refl)), (b, are b (inl refl), law.well s x b n g mine.1))
+          (o, subst (λ m. IsOperationOf o (x ++ m)) (sym mine.2) (In-append_right o x (o ∷ mine.0) (inl refl)), (b, are b (inl refl), law.well s x b n g mine.1))
       | inr other ↦ elim i [
         | inl same ↦ elim (new_or_same s x g.new) [
           | inl found ↦ more_new s x (x ++ made) (λ o h. In-append_left o x made h) found
@@ -157,13 +157,13 @@ module _ (p : Placement) where
 
     -- node n holds more there
     abbrev pub HoldsMore : List Operation → Held → NodeId → Type 0
-    HoldsMore x held n = (y : List Operation) × (held n ≡ Some y) × Within x y
+    HoldsMore x held n = (y : List Operation) × (held n ≡ Some y) × AreOperationsOf x y
 
     put_grows : (held : Held) (m n : NodeId) (z x more : List Operation) → held m ≡ Some z → held n ≡ Some x → HoldsMore x (with_held held m (z ++ more)) n
     put_grows held m n z x more of_m of_n = by_test (nat_eq n.0 m.0) refl
       where
-        by_test : (b : Bool) → nat_eq n.0 m.0 ≡ b → (y : List Operation) × (cond b (Some (z ++ more)) (held n) ≡ Some y) × Within x y
-        by_test true e = (z ++ more, refl, λ o i. In-append_left o z more (subst (In o) (one (sym of_n ∙ ap held (same_node e) ∙ of_m)) i))
+        by_test : (b : Bool) → nat_eq n.0 m.0 ≡ b → (y : List Operation) × (cond b (Some (z ++ more)) (held n) ≡ Some y) × AreOperationsOf x y
+        by_test true e = (z ++ more, refl, λ o i. In-append_left o z more (subst (IsOperationOf o) (one (sym of_n ∙ ap held (same_node e) ∙ of_m)) i))
         by_test false e = (x, of_n, λ o i. i)
 
     grows : (w next : Sets) (e : SetsEvent) (n : NodeId) (x : List Operation) → Happens p w e next → w.held n ≡ Some x → HoldsMore x next.held n

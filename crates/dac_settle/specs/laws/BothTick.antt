@@ -5,7 +5,7 @@ use Rattle.std.specs.Option.{is_some}
 use Rattle.std.proofs.lemmas.Bool.{true≢false}
 use Rattle.dac_base.specs.declared.NodeId.{NodeId}
 use Rattle.dac_operations.specs.Operations.{Operation}
-use Rattle.dac_meaning.specs.Meaning.{In, Within, Agree, meaning_of}
+use Rattle.dac_meaning.specs.Meaning.{IsOperationOf, AreOperationsOf, DotsDetermine, meaning_of}
 use Rattle.dac_meaning.specs.laws.Members.{In-append_left, In-append_right, In-append_cases}
 use Rattle.dac_decide.specs.FailoverWait.{Note, waits_of}
 use Rattle.dac_commands.specs.Causes.{terms_used_up}
@@ -37,7 +37,7 @@ module _ (held : List Operation) where
   pub runs : (m : NodeId) → IsEither m → both_hold held m ≡ Some (member_with held)
   runs m either = elim either [ inl first ↦ ap (both_hold held) first | inr second ↦ ap (both_hold held) second ]
 
-  module _ (agree : Agree held) (left : terms_used_up (meaning_of held) the_app ≡ false) where
+  module _ (agree : DotsDetermine held) (left : terms_used_up (meaning_of held) the_app ≡ false) where
     -- ---- the ticks
     ticks_well : (n : NodeId) → IsTick worked_table n (member_with held) 0
     ticks_well n = record {
@@ -108,11 +108,11 @@ module _ (held : List Operation) where
         by_tests false true e = inl (one e)
         by_tests false false e = none_some e
 
-    turned_round : (xs ys : List Operation) → Within (xs ++ ys) (ys ++ xs)
+    turned_round : (xs ys : List Operation) → AreOperationsOf (xs ++ ys) (ys ++ xs)
     turned_round xs ys o i = elim (In-append_cases o xs ys i) [ inl x ↦ In-append_right o ys xs x | inr y ↦ In-append_left o ys xs y ]
 
-    within : {a b c f : Member} → a ≡ c → b ≡ f → Within a.held b.held → Within c.held f.held
-    within p q w o = subst (λ (k : Member × Member). In o k.0.held → In o k.1.held) (λ i. (p i, q i)) (w o)
+    within : {a b c f : Member} → a ≡ c → b ≡ f → AreOperationsOf a.held b.held → AreOperationsOf c.held f.held
+    within p q w o = subst (λ (k : Member × Member). IsOperationOf o k.0.held → IsOperationOf o k.1.held) (λ i. (p i, q i)) (w o)
 
     all_same : AllSame after_all
     all_same m n d e of_m of_n = elim (is_after m d of_m) [

@@ -18,7 +18,7 @@ use Rattle.dac_placement.specs.declared.verdicts.Verdict.TheVariants.{Start, Fai
 use Rattle.dac_placement.specs.Placement.{EachEligible, IsEligible, is_eligible, IsEarlier, IsUp, IsStartedAt, is_started_at, IsAllowedAt, is_allowed_at, HeldBy, holder_of, key_of, IsVerdict, verdict_of, candidate_of}
 use Rattle.dac_placement.specs.laws.Tests.{eligible_is, started_is, allowed_is}
 use Rattle.dac_placement.specs.laws.Judged.{verdict_in_words}
-use Rattle.dac_ticks.specs.laws.Claimed.{Alike, alike_back}
+use Rattle.dac_ticks.specs.laws.Claimed.{MayRunAlike, alike_back}
 use Rattle.dac_settle.specs.Placed.{IsFit}
 
 -- at this incarnation the application is started and permitted, and no eligible node is of an earlier group
@@ -96,7 +96,7 @@ module _ (t : Table) (s : StateValue) (app : AppId) where
 abbrev places : Lives → Permits → Writes → Drains → StateValue
 places lives permits starts drains = record { heard = set.empty; known = set.empty; permits = permits; starts = starts; lives = lives; claims = map.empty; drains = drains }
 
-module _ (t : Table) (s u : StateValue) (a : Alike s u) (app : AppId) where
+module _ (t : Table) (s u : StateValue) (a : MayRunAlike s u) (app : AppId) where
   eligible_alike : (n : NodeId) → is_eligible t s app n ≡ is_eligible t u app n
   eligible_alike n = λ i. is_eligible t (places (a.lives i) (a.permits i) (a.starts i) (a.drains i)) app n
 
@@ -117,18 +117,18 @@ module _ (t : Table) (s u : StateValue) (a : Alike s u) (app : AppId) where
   to_up o up = subst (λ (l : Lives). IsLive l o.node o.inc) a.lives up
 
 -- what holds of each eligible node of one holds of each of the other
-pub each_alike : (t : Table) (s u : StateValue) → Alike s u → (app : AppId) (P : NodeId → Type 0) → EachEligible t s app P → EachEligible t u app P
+pub each_alike : (t : Table) (s u : StateValue) → MayRunAlike s u → (app : AppId) (P : NodeId → Type 0) → EachEligible t s app P → EachEligible t u app P
 each_alike t s u a app P all = λ m lt may. all m lt (to_eligible t u s (alike_back s u a) app m may)
 
 -- who may run an application stays so
-pub fit_alike : (t : Table) (s u : StateValue) → Alike s u → (app : AppId) (o : Origin) → IsFit t s app o → IsFit t u app o
+pub fit_alike : (t : Table) (s u : StateValue) → MayRunAlike s u → (app : AppId) (o : Origin) → IsFit t s app o → IsFit t u app o
 fit_alike t s u a app o fit = record {
   eligible = to_eligible t s u a app o.node fit.eligible;
   earliest = each_alike t s u a app (λ m. ¬ IsEarlier t app m o.node) fit.earliest;
   live = to_up t s u a app o fit.live;
 }
 
-left_at_alike : (t : Table) (s u : StateValue) → Alike s u → (app : AppId) (o : Origin) → IsLeftAt t s app o → IsLeftAt t u app o
+left_at_alike : (t : Table) (s u : StateValue) → MayRunAlike s u → (app : AppId) (o : Origin) → IsLeftAt t s app o → IsLeftAt t u app o
 left_at_alike t s u a app o left = (
   to_up t s u a app o left.0,
   elim left.1 [
@@ -138,7 +138,7 @@ left_at_alike t s u a app o left = (
 )
 
 -- what is left alone in one is so in the other, where the holder is the same
-pub left_alike : (t : Table) (s u : StateValue) → Alike s u → (app : AppId) → holder_of s app ≡ holder_of u app → IsLeft t s app → IsLeft t u app
+pub left_alike : (t : Table) (s u : StateValue) → MayRunAlike s u → (app : AppId) → holder_of s app ≡ holder_of u app → IsLeft t s app → IsLeft t u app
 left_alike t s u a app same left = elim left [
   | inl none ↦ inl (each_alike t s u a app (λ _. ⊥) none)
   | inr held ↦ inr (held.0, sym same ∙ held.1, left_at_alike t s u a app held.0 held.2)

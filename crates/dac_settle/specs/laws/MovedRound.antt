@@ -17,7 +17,7 @@ use Rattle.dac_wishes.specs.DrainsValue.{origin}
 use Rattle.dac_wishes.specs.Writes.{write}
 use Rattle.dac_operations.specs.Operations.{Operation}
 use Rattle.dac_meaning.specs.StateValue.{StateValue}
-use Rattle.dac_meaning.specs.Meaning.{In, Agree, meaning_of, life_said, claim_said}
+use Rattle.dac_meaning.specs.Meaning.{IsOperationOf, DotsDetermine, meaning_of, life_said, claim_said}
 use Rattle.dac_meaning.specs.Chained.{SaysFor}
 use Rattle.dac_meaning.specs.laws.Readers.{starts-meaning, permits-meaning, drains-meaning}
 use Rattle.dac_config.specs.Table.{app_count}
@@ -67,7 +67,7 @@ said_by app c says = by_place says.0 says.1.0 says.1.1
     pair_of : ◌≡◌ {A = Option (AppId × Claim)} (Some (the_app, first_claim)) (Some (app, c)) → (the_app ≡ app) × (first_claim ≡ c)
     pair_of e = let pair : ◌≡◌ {A = AppId × Claim} (the_app, first_claim) (app, c) = one e in (ap (λ (p : AppId × Claim). p.0) pair, ap (λ (p : AppId × Claim). p.1) pair)
 
-    by_place : (o : Operation) → In o drained_set → claim_said o.dot o.act ≡ Some (app, c) → (the_app ≡ app) × (first_claim ≡ c)
+    by_place : (o : Operation) → IsOperationOf o drained_set → claim_said o.dot o.act ≡ Some (app, c) → (the_app ≡ app) × (first_claim ≡ c)
     by_place o (inl a) e = none_some (sym (ap (λ (q : Operation). claim_said q.dot q.act) a) ∙ e)
     by_place o (inr (inl a)) e = none_some (sym (ap (λ (q : Operation). claim_said q.dot q.act) a) ∙ e)
     by_place o (inr (inr (inl a))) e = none_some (sym (ap (λ (q : Operation). claim_said q.dot q.act) a) ∙ e)
@@ -96,7 +96,7 @@ never_lost app claim lost = lost.down (subst (λ (c : Claim). IsUp drained_state
 -- ---- both are ready
 is_ready : IsReady (both_hold drained_set)
 is_ready = record {
-  same = λ m n d e of_m of_n o i. subst (λ (k : Member). In o k.held) ((sym (is_member drained_set m d of_m).0) ∙ (is_member drained_set n e of_n).0) i;
+  same = λ m n d e of_m of_n o i. subst (λ (k : Member). IsOperationOf o k.held) ((sym (is_member drained_set m d of_m).0) ∙ (is_member drained_set n e of_n).0) i;
   runs = λ m d of_m n inc alive.
       let only = only_live n inc (subst (λ (k : Member). IsLive (meaning_of k.held).lives n inc) (sym (is_member drained_set m d of_m).0) alive) in
       (member_with drained_set, runs drained_set n only.0, only.1);
@@ -160,7 +160,7 @@ is_move (Kept n) is = absurd (never_allowed is.0.0 is.0.1 is.0.2.3)
 is_move Nobody is = absurd (is.0 second_node (omega arith) may_run)
 
 -- ---- the round
-agree : Agree drained_set
+agree : DotsDetermine drained_set
 agree = DistinctDots-agree drained_set (refl, (refl, (refl, (refl, (refl, (refl, tt))))))
 
 terms_left : terms_used_up drained_state the_app ≡ false

@@ -18,12 +18,12 @@ use Rattle.dac_events.specs.declared.What.TheVariants.{Boot as Boots, Crash as C
 use Rattle.dac_messages.specs.declared.message.Message.{Message}
 use Rattle.dac_messages.specs.Bodies.{content_of}
 use Rattle.dac_messages.specs.declared.event.Event.{Event as NodeEvent}
-use Rattle.dac_messages.specs.declared.event.Event.TheVariants.{Boot, Crash, Command as Told, Tick as Ticks, Ship as ShipsTo, Hear, HearOp}
+use Rattle.dac_messages.specs.declared.event.Event.TheVariants.{Boot, Crash, Command as Commanded, Tick as Ticks, Ship as ShipsTo, Hear, HearOp}
 use Rattle.dac_messages.specs.declared.reply.Reply.TheVariants.{Ticked, Shipped, Heard}
 use Rattle.dac_events.specs.declared.refusal.Refusal.TheVariants.{NoMemory}
 use Rattle.dac_ticks.specs.Ticks.{Turn}
 use Rattle.dac_ticks.specs.Again.{tick_of}
-use Rattle.dac_model_world.specs.ModelNode.{ModelNode, ModelRun, joined, shown, run_shown}
+use Rattle.dac_model_world.specs.ModelNode.{ModelNode, ModelRunning, joined, shown, running_shown}
 use Rattle.dac_model_world.specs.EventRefusals.{refusal_of, refusal_by}
 use Rattle.dac_model_world.specs.Deeds.{message_of, hears, hears_message, ships, looks_after, ticks_by, opening_at, note_of}
 use Rattle.dac_model_world.specs.Step.{step_by, goes_on, accepted}
@@ -78,20 +78,20 @@ abbrev pub seen_in : ℕ → ModelWorld → SetWorld → Members
 seen_in b w s = record { node = members_of w s; copies = since b s.copies }
 
 -- a node and its set put in place put their member in place
-put_members : (w : ModelWorld) (s : SetWorld) (n : NodeId) (d : ModelNode) (held : Option NodeSet) (k : Member) → member_by d.run held ≡ Some k
-    → (m : NodeId) → member_by (with_node w.node n d m).run (with_set s.node n held m) ≡ with_member (members_of w s) n k m
+put_members : (w : ModelWorld) (s : SetWorld) (n : NodeId) (d : ModelNode) (held : Option NodeSet) (k : Member) → member_by d.running held ≡ Some k
+    → (m : NodeId) → member_by (with_node w.node n d m).running (with_set s.node n held m) ≡ with_member (members_of w s) n k m
 put_members w s n d held k is m = by_test (nat_eq m.0 n.0)
   where
-    by_test : (b : Bool) → member_by (cond b d (w.node m)).run (cond b held (s.node m)) ≡ cond b (Some k) (members_of w s m)
+    by_test : (b : Bool) → member_by (cond b d (w.node m)).running (cond b held (s.node m)) ≡ cond b (Some k) (members_of w s m)
     by_test true = is
     by_test false = refl
 
 -- a node put in place that keeps its member keeps all
-keep_members : (w : ModelWorld) (s : SetWorld) (n : NodeId) (d : ModelNode) → member_by d.run (s.node n) ≡ members_of w s n → (m : NodeId) → member_by (with_node w.node n d m).run (s.node m) ≡ members_of w s m
+keep_members : (w : ModelWorld) (s : SetWorld) (n : NodeId) (d : ModelNode) → member_by d.running (s.node n) ≡ members_of w s n → (m : NodeId) → member_by (with_node w.node n d m).running (s.node m) ≡ members_of w s m
 keep_members w s n d is m = by_test (nat_eq m.0 n.0) refl
   where
-    by_test : (b : Bool) → nat_eq m.0 n.0 ≡ b → member_by (cond b d (w.node m)).run (s.node m) ≡ members_of w s m
-    by_test true e = subst (λ k. member_by d.run (s.node k) ≡ members_of w s k) (sym (same_node e)) is
+    by_test : (b : Bool) → nat_eq m.0 n.0 ≡ b → member_by (cond b d (w.node m)).running (s.node m) ≡ members_of w s m
+    by_test true e = subst (λ k. member_by d.running (s.node k) ≡ members_of w s k) (sym (same_node e)) is
     by_test false e = refl
 
 module _ (t : Table) (b : ℕ) (w : ModelWorld) (s : SetWorld) where
@@ -106,7 +106,7 @@ module _ (t : Table) (b : ℕ) (w : ModelWorld) (s : SetWorld) where
   stays : (n : NodeId) (fault : WorldFault) → Goes n (Err fault) w s
   stays n fault = ([], refl, λ i. absurd i)
 
-  module _ (n : NodeId) (h : Sound w s) (r : ModelRun) (on : (w.node n).run ≡ Some r) where
+  module _ (n : NodeId) (h : Sound w s) (r : ModelRunning) (on : (w.node n).running ≡ Some r) where
     -- the event is a tick at this moment
     ticks_what : (now : ℕ) (what : What) → event_of w.operations w.messages what ≡ Ok (Ticks now) → what ≡ Ticking now
     ticks_what now (Boots k) e = cc
@@ -121,22 +121,22 @@ module _ (t : Table) (b : ℕ) (w : ModelWorld) (s : SetWorld) where
     turn now = tick_of t r.origin r.notes now (joined r.log)
 
     goes_tick : (what : What) (now : ℕ) → what ≡ Ticking now →
-        let d : ModelNode = record { last = (w.node n).last; run = goes_on r (note_of (joined r.log) (Ticks now)) (looks_after (run_shown t r) now (turn now)) } in
-        (turn now).passed ≡ [] → IsLateBy t (w.node n).run what → Goes n (Ok (Ticked (turn now).ops (turn now).passed)) (answered_by w n d (Ok (Ticked (turn now).ops (turn now).passed))).world (issuing s n (turn now).ops)
+        let d : ModelNode = record { last = (w.node n).last; running = goes_on r (note_of (joined r.log) (Ticks now)) (looks_after (running_shown t r) now (turn now)) } in
+        (turn now).passed ≡ [] → IsLateBy t (w.node n).running what → Goes n (Ok (Ticked (turn now).ops (turn now).passed)) (answered_by w n d (Ok (Ticked (turn now).ops (turn now).passed))).world (issuing s n (turn now).ops)
     goes_tick what now is none late =
         let held = held_at w s n r h on in
         let note = note_of (joined r.log) (Ticks now) in
-        let d : ModelNode = record { last = (w.node n).last; run = goes_on r note (looks_after (run_shown t r) now (turn now)) } in
+        let d : ModelNode = record { last = (w.node n).last; running = goes_on r note (looks_after (running_shown t r) now (turn now)) } in
         let me : Member = record { inc = r.origin.inc; held = held.set.operations; notes = r.notes } in
         let own : own_of n me ≡ r.origin = λ i. record { node = sym (ap (λ (o : Origin). o.node) held.mine) i; inc = r.origin.inc } in
         let same : turn_at t n me now ≡ turn now = λ i. tick_of t (own i) r.notes now (sym held.state i) in
         let k = ticked me now (turn_at t n me now).ops in
-        let put : member_by d.run (united (s.node n) (turn now).ops) ≡ Some k =
-        (λ i. member_by d.run (united (held.is i) (turn now).ops))
+        let put : member_by d.running (united (s.node n) (turn now).ops) ≡ Some k =
+        (λ i. member_by d.running (united (held.is i) (turn now).ops))
         ∙ (λ i. Some (record { inc = r.origin.inc; held = held.set.operations ++ (sym same i).ops; notes = record { state = held.state i; moment = now } ∷ r.notes })) in
         let tick : IsTick t n me now = record {
           agree = Agree-within held.set.operations w.operations held.ok.within (DistinctDots-agree w.operations h.distinct);
-          late = subst (λ (p : Option ModelRun × What). IsLateBy t p.0 p.1) (λ i. (on i, is i)) late;
+          late = subst (λ (p : Option ModelRunning × What). IsLateBy t p.0 p.1) (λ i. (on i, is i)) late;
           passed = ap (λ (v : Turn). v.passed) same ∙ none;
         } in
         let next : Members = record { node = with_member (members_of w s) n k; copies = since b s.copies } in (
@@ -150,13 +150,13 @@ module _ (t : Table) (b : ℕ) (w : ModelWorld) (s : SetWorld) where
         )
 
     goes_ship : (to : NodeId) → b ≤ length s.copies →
-        let m = message_of (run_shown t r) to in
-        let d : ModelNode = record { last = (w.node n).last; run = goes_on r (note_of (joined r.log) (ShipsTo to)) (ships (run_shown t r) to) } in
+        let m = message_of (running_shown t r) to in
+        let d : ModelNode = record { last = (w.node n).last; running = goes_on r (note_of (joined r.log) (ShipsTo to)) (ships (running_shown t r) to) } in
         Goes n (Ok (Shipped m)) (answered_by w n d (Ok (Shipped m))).world (record { node = s.node; issued = s.issued; copies = s.copies ++ copied_by (s.node n) n m })
     goes_ship to le =
         let held = held_at w s n r h on in
-        let m : Message = message_of (run_shown t r) to in
-        let d : ModelNode = record { last = (w.node n).last; run = goes_on r (note_of (joined r.log) (ShipsTo to)) (ships (run_shown t r) to) } in
+        let m : Message = message_of (running_shown t r) to in
+        let d : ModelNode = record { last = (w.node n).last; running = goes_on r (note_of (joined r.log) (ShipsTo to)) (ships (running_shown t r) to) } in
         let me : Member = record { inc = r.origin.inc; held = held.set.operations; notes = r.notes } in
         let here : members_of w s n ≡ Some me = λ i. member_by (on i) (held.is i) in
         let copies : since b (s.copies ++ copied_by (s.node n) n m) ≡ since b s.copies ++ held.set.operations ∷ [] =
@@ -166,15 +166,15 @@ module _ (t : Table) (b : ℕ) (w : ModelWorld) (s : SetWorld) where
           (
             next,
             (me, here, refl),
-            (λ i. record { node = λ k. keep_members w s n d ((λ j. member_by d.run (held.is j)) ∙ sym here) k i; copies = copies i }),
+            (λ i. record { node = λ k. keep_members w s n d ((λ j. member_by d.running (held.is j)) ∙ sym here) k i; copies = copies i }),
           ),
           λ i. absurd i,
         )
 
     -- a node that hears goes on as the same incarnation with the same notes
     pub record HearsAs (d : ModelNode) : Type 0 where
-      pub after : ModelRun
-      pub run : d.run ≡ Some after
+      pub after : ModelRunning
+      pub running : d.running ≡ Some after
       pub origin : after.origin ≡ r.origin
       pub notes : after.notes ≡ r.notes
 
@@ -183,8 +183,8 @@ module _ (t : Table) (b : ℕ) (w : ModelWorld) (s : SetWorld) where
         let y = u.copy.operations in
         let me : Member = record { inc = r.origin.inc; held = u.held.operations; notes = r.notes } in
         let brought : brought_to s n (Delivering k) ≡ y = (λ i. copied_to n (u.on i) (u.there i)) ∙ ap (λ z. cond z y []) u.fits in
-        let put : member_by d.run (united (s.node n) (brought_to s n (Delivering k))) ≡ Some (holding me y) =
-        (λ i. member_by (as_before.run i) (united (u.on i) (brought i)))
+        let put : member_by d.running (united (s.node n) (brought_to s n (Delivering k))) ≡ Some (holding me y) =
+        (λ i. member_by (as_before.running i) (united (u.on i) (brought i)))
         ∙ (λ i. Some (record { inc = (as_before.origin i).inc; held = u.held.operations ++ y; notes = as_before.notes i })) in
         let next : Members = record { node = with_member (members_of w s) n (holding me y); copies = since b s.copies } in (
           Deliver n ∷ [],
@@ -199,29 +199,29 @@ module _ (t : Table) (b : ℕ) (w : ModelWorld) (s : SetWorld) where
 
     goes_opened : (what : What) (now : ℕ) (opening : Opening) → what ≡ Ticking now →
         let note = note_of (joined r.log) (Ticks now) in
-        let deed = ticks_by opening t (run_shown t r) (waits_of t (note ∷ r.notes)) now in
-        GoesBy n what (answered_by w n (record { last = (w.node n).last; run = goes_on r note deed }) (Ok deed.reply))
+        let deed = ticks_by opening t (running_shown t r) (waits_of t (note ∷ r.notes)) now in
+        GoesBy n what (answered_by w n (record { last = (w.node n).last; running = goes_on r note deed }) (Ok deed.reply))
     goes_opened what now Shut is fits u = absurd fits
     goes_opened what now GiveUp is fits u = absurd fits
     goes_opened what now Opened is fits u = goes_tick what now is fits.0 fits.1
 
   -- ---- an event that isn't refused
 
-  goes_ok : (n : NodeId) (what : What) (e : NodeEvent) (run : Option ModelRun) → Sound w s → b ≤ length s.copies → event_of w.operations w.messages what ≡ Ok e → refusal_of t (shown t (w.node n)) e ≡ None → (w.node n).run ≡ run →
-      let step = accepted t n (w.node n).last run e in
+  goes_ok : (n : NodeId) (what : What) (e : NodeEvent) (running : Option ModelRunning) → Sound w s → b ≤ length s.copies → event_of w.operations w.messages what ≡ Ok e → refusal_of t (shown t (w.node n)) e ≡ None → (w.node n).running ≡ running →
+      let step = accepted t n (w.node n).last running e in
       GoesBy n what (answered_by w n step.node step.answer)
   goes_ok n what e None h le is none on fits u = absurd fits
-  goes_ok n what (Boot now) (Some r) h le is none on fits u = none_some (sym (ap (λ (l : Option ModelRun). refusal_by t (w.node n).last (option_map (run_shown t) l) (Boot now)) (sym on) ∙ none))
+  goes_ok n what (Boot now) (Some r) h le is none on fits u = none_some (sym (ap (λ (l : Option ModelRunning). refusal_by t (w.node n).last (option_map (running_shown t) l) (Boot now)) (sym on) ∙ none))
   goes_ok n what Crash (Some r) h le is none on fits u = absurd fits
-  goes_ok n what (Told c) (Some r) h le is none on fits u = absurd fits
-  goes_ok n what (Ticks now) (Some r) h le is none on fits u = goes_opened n h r on what now (opening_at t (run_shown t r) now) (ticks_what n h r on now what is) fits u
+  goes_ok n what (Commanded c) (Some r) h le is none on fits u = absurd fits
+  goes_ok n what (Ticks now) (Some r) h le is none on fits u = goes_opened n h r on what now (opening_at t (running_shown t r) now) (ticks_what n h r on now what is) fits u
   goes_ok n what (ShipsTo to) (Some r) h le is none on fits u = goes_ship n h r on to le
   goes_ok n what (Hear m) (Some r) h le is none on fits u =
-      let d : ModelNode = record { last = (w.node n).last; run = goes_on r (note_of (joined r.log) (Hear m)) (hears_message t (run_shown t r) m) } in
-      goes_hear n h r on what (not (is_below (content_of m.body) (joined r.log))) d (record { after = _; run = refl; origin = refl; notes = refl }) fits u
+      let d : ModelNode = record { last = (w.node n).last; running = goes_on r (note_of (joined r.log) (Hear m)) (hears_message t (running_shown t r) m) } in
+      goes_hear n h r on what (not (is_below (content_of m.body) (joined r.log))) d (record { after = _; running = refl; origin = refl; notes = refl }) fits u
   goes_ok n what (HearOp o) (Some r) h le is none on fits u =
-      let d : ModelNode = record { last = (w.node n).last; run = goes_on r (note_of (joined r.log) (HearOp o)) (hears (run_shown t r) (meaning_of (o ∷ []))) } in
-      goes_hear n h r on what (not (is_below (meaning_of (o ∷ [])) (joined r.log))) d (record { after = _; run = refl; origin = refl; notes = refl }) fits u
+      let d : ModelNode = record { last = (w.node n).last; running = goes_on r (note_of (joined r.log) (HearOp o)) (hears (running_shown t r) (meaning_of (o ∷ []))) } in
+      goes_hear n h r on what (not (is_below (meaning_of (o ∷ [])) (joined r.log))) d (record { after = _; running = refl; origin = refl; notes = refl }) fits u
 
   goes_by : (n : NodeId) (what : What) → Sound w s → b ≤ length s.copies → GoesBy n what (happens_by t w n (event_of w.operations w.messages what))
   goes_by n what h le =
@@ -229,7 +229,7 @@ module _ (t : Table) (b : ℕ) (w : ModelWorld) (s : SetWorld) where
         | Err fault ↦ λ _ fits u. stays n fault
         | Ok e ↦ λ is. elim (refusal_of t (shown t (w.node n)) e) as (λ r. refusal_of t (shown t (w.node n)) e ≡ r → GoesBy n what (answered_by w n (step_by r t n (w.node n) e).node (step_by r t n (w.node n) e).answer)) [
           | Some why ↦ λ _ fits u. stays n (Refused why)
-          | None ↦ λ none. goes_ok n what e (w.node n).run h le is none refl
+          | None ↦ λ none. goes_ok n what e (w.node n).running h le is none refl
         ] refl
       ] refl
 

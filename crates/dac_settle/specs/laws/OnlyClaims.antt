@@ -30,12 +30,12 @@ use Rattle.dac_wishes.specs.laws.Writes.{writes_total, exact_writes}
 use Rattle.dac_operations.specs.declared.act.Act.{Act}
 use Rattle.dac_operations.specs.declared.act.Act.TheVariants.{Up, Down, Permit, Start, Stop, Drain, Claim}
 use Rattle.dac_operations.specs.Operations.{Operation, operation}
-use Rattle.dac_meaning.specs.Meaning.{In, Within, meaning_of, has_dot, replaces, is_start, told, is_vote, vote_at, permit_vote, drain_vote, flag_said, pairs, life_said, claim_said}
+use Rattle.dac_meaning.specs.Meaning.{IsOperationOf, AreOperationsOf, meaning_of, has_dot, replaces, is_start, vote_says, is_vote, vote_at, permit_vote, drain_vote, flag_said, pairs, life_said, claim_said}
 use Rattle.dac_meaning.specs.laws.Members.{found, finds}
 use Rattle.dac_meaning.specs.laws.Readers.{starts-meaning, permits-meaning, drains-meaning, lives-meaning, lives_are, claims-meaning, claims_are}
 use Rattle.dac_meaning.specs.Chained.{SaysFor}
 use Rattle.dac_meaning.specs.laws.Chained.{of_said, is_said}
-use Rattle.dac_ticks.specs.laws.Claimed.{Alike}
+use Rattle.dac_ticks.specs.laws.Claimed.{MayRunAlike}
 
 -- the act is a claim
 abbrev pub is_claim : Act → Bool
@@ -44,8 +44,8 @@ is_claim _ = false
 
 -- x is s and claims
 pub record AddsClaims (s x : List Operation) : Type 0 where
-  pub keeps : Within s x
-  pub new : (o : Operation) → In o x → In o s ⊎ (is_claim o.act ≡ true)
+  pub keeps : AreOperationsOf s x
+  pub new : (o : Operation) → IsOperationOf o x → IsOperationOf o s ⊎ (is_claim o.act ≡ true)
 
 -- ---- what a claim isn't
 
@@ -116,7 +116,7 @@ module _ (s x : List Operation) (adds : AddsClaims s x) where
 
   vote_alike : {K : Type 0} (R : K → K → Ordering) (vote : Act → Option (K × Bool)) (down : Bool) → ((a : Act) → is_claim a ≡ true → vote a ≡ None) → (w : KeyedWrite K) → vote_at R vote down x w ≡ vote_at R vote down s w
   vote_alike R vote down none w =
-      let no_vote = λ (v : Bool) (o : Operation) (c : is_claim o.act ≡ true). ap (λ u. told R w.key v u && has_dot w.dot o) (none o.act c) in
+      let no_vote = λ (v : Bool) (o : Operation) (c : is_claim o.act ≡ true). ap (λ u. vote_says R w.key v u && has_dot w.dot o) (none o.act c) in
       λ i. cond (replaced_alike w.dot i) None (flag_said (any_alike (is_vote R vote w down) (no_vote down) i) (any_alike (is_vote R vote w (not down)) (no_vote (not down)) i))
 
   permits_alike : (meaning_of x).permits ≡ (meaning_of s).permits
@@ -139,7 +139,7 @@ module _ (s x : List Operation) (adds : AddsClaims s x) where
       (lives_are x n) (lives_are s n)) ∙ sym (lives-meaning s)
 
   -- both mean the same lives, permits, starts and drains
-  pub alike : Alike (meaning_of x) (meaning_of s)
+  pub alike : MayRunAlike (meaning_of x) (meaning_of s)
   alike = record { lives = lives_alike; permits = permits_alike; starts = starts_alike; drains = drains_alike }
 
 -- the claim of an application is the greatest of its claims

@@ -20,14 +20,14 @@ use Rattle.dac_chains.specs.laws.Claims.{claims_total, exact_hows, exact_claims}
 use Rattle.dac_chains.specs.Lives.{Lives, IsLive, live_at}
 use Rattle.dac_chains.specs.laws.Live.{live_is}
 use Rattle.dac_operations.specs.Operations.{Operation}
-use Rattle.dac_meaning.specs.Meaning.{In, meaning_of, claim_said}
+use Rattle.dac_meaning.specs.Meaning.{IsOperationOf, meaning_of, claim_said}
 use Rattle.dac_meaning.specs.laws.Joins.{meaning-same}
 use Rattle.dac_meaning.specs.Chained.{SaysFor}
 use Rattle.dac_config.specs.Table.{Table}
 use Rattle.dac_placement.specs.Placement.{IsStartedAt, IsAllowedAt, key_at, verdict_of, candidate_of}
 use Rattle.dac_placement.specs.laws.Rests.{candidate_is}
 use Rattle.dac_commands.specs.Commands.{next_term}
-use Rattle.dac_ticks.specs.laws.Claimed.{Alike, alike_back, claimed_as}
+use Rattle.dac_ticks.specs.laws.Claimed.{MayRunAlike, alike_back, claimed_as}
 use Rattle.dac_settle.specs.Rounds.{IsGrown, IsPlacement}
 use Rattle.dac_settle.specs.Placed.{IsGood, here, placed}
 use Rattle.dac_settle.specs.laws.AnyPlacement.{one}
@@ -79,17 +79,17 @@ module _ (t : Table) where
       ];
     }
 
-    pub grown_alike : Alike (meaning_of x) (meaning_of s)
+    pub grown_alike : MayRunAlike (meaning_of x) (meaning_of s)
     grown_alike = alike s x adds
 
-    pub alike_grown : Alike (meaning_of s) (meaning_of x)
+    pub alike_grown : MayRunAlike (meaning_of s) (meaning_of x)
     alike_grown = alike_back (meaning_of x) (meaning_of s) grown_alike
 
     module _ (app : AppId) where
       -- a good claim of the application is the greatest
       pub record IsTaken : Type 0 where
         pub by : Operation
-        pub there : In by x
+        pub there : IsOperationOf by x
         pub good : IsGood t s app by
         pub greatest : map.get (meaning_of x).claims app ≡ Some good.claim
 
@@ -99,7 +99,7 @@ module _ (t : Table) where
       kept : (c : Claim) → SaysFor claim_said s app c → SaysFor claim_said x app c
       kept c says = (says.0, (g.keeps says.0 says.1.0, says.1.1))
 
-      taken : (c : Claim) (o : Operation) → map.get (meaning_of x).claims app ≡ Some c → In o x → IsGood t s app o → claim_said o.dot o.act ≡ Some (app, c) → IsTaken
+      taken : (c : Claim) (o : Operation) → map.get (meaning_of x).claims app ≡ Some c → IsOperationOf o x → IsGood t s app o → claim_said o.dot o.act ≡ Some (app, c) → IsTaken
       taken c o is there good says = record { by = o; there = there; good = good; greatest = is ∙ ap (λ d. Some d) (same_said (sym says ∙ good.says)).1 }
 
       old_greatest : (c : Claim) (d : Option Claim) → IsGreatest claim_cmp (SaysFor claim_said x app) (Some c) → IsGreatest claim_cmp (SaysFor claim_said s app) d → SaysFor claim_said s app c → Some c ≡ d
@@ -141,7 +141,7 @@ module _ (t : Table) where
       ]
 
       -- where a good claim is in the set, one is the greatest: its term is above that of each claim of s
-      pub taken_if : (o : Operation) → In o x → IsGood t s app o → IsTaken
+      pub taken_if : (o : Operation) → IsOperationOf o x → IsGood t s app o → IsTaken
       taken_if o there good = elim claims_cases [
         | inl same ↦ absurd (above (map.get (meaning_of x).claims app) (claim_greatest x app) (good.next ∙ ap term_after (sym same)))
         | inr taken ↦ taken

@@ -9,7 +9,7 @@ use Rattle.dac_base.specs.declared.AppId.{AppId}
 use Rattle.dac_chains.specs.declared.claims.Claim.{Claim}
 use Rattle.dac_chains.specs.Lives.{Lives, IsLive}
 use Rattle.dac_operations.specs.Operations.{Operation}
-use Rattle.dac_meaning.specs.Meaning.{Within, meaning_of}
+use Rattle.dac_meaning.specs.Meaning.{AreOperationsOf, meaning_of}
 use Rattle.dac_meaning.specs.laws.Members.{In-append_left}
 use Rattle.dac_config.specs.Table.{Table, app_count}
 use Rattle.dac_placement.specs.declared.verdicts.Verdict.{Verdict}
@@ -173,12 +173,12 @@ module _ (t : Table) where
   -- ---- a round
 
   -- sets of members are within each other as their members' are
-  same_sets : (node : NodeId → Option Member) → ((m n : NodeId) (d e : Member) → node m ≡ Some d → node n ≡ Some e → Within d.held e.held)
-      → (m n : NodeId) (x y : List Operation) → held_of node m ≡ Some x → held_of node n ≡ Some y → Within x y
+  same_sets : (node : NodeId → Option Member) → ((m n : NodeId) (d e : Member) → node m ≡ Some d → node n ≡ Some e → AreOperationsOf d.held e.held)
+      → (m n : NodeId) (x y : List Operation) → held_of node m ≡ Some x → held_of node n ≡ Some y → AreOperationsOf x y
   same_sets node same m n x y of_m of_n =
       let d = held_is (node m) x of_m in
       let e = held_is (node n) y of_n in
-      subst (λ z. Within x z) e.2 (subst (λ z. Within z e.0.held) d.2 (same m n d.0 e.0 d.1 e.1))
+      subst (λ z. AreOperationsOf x z) e.2 (subst (λ z. AreOperationsOf z e.0.held) d.2 (same m n d.0 e.0 d.1 e.1))
 
   sets_ready : (node : NodeId → Option Member) → IsReady node → AreReady (placed t) (held_of node)
   sets_ready node ready = record {

@@ -14,7 +14,7 @@ use Rattle.dac_chains.specs.Claims.{claim_cmp}
 use Rattle.dac_wishes.specs.declared.key.Key.{Key}
 use Rattle.dac_operations.specs.declared.act.Act.TheVariants.{Start}
 use Rattle.dac_operations.specs.Operations.{Operation}
-use Rattle.dac_meaning.specs.Meaning.{In, meaning_of, pairs, life_said, claim_said, lives_of, claims_of}
+use Rattle.dac_meaning.specs.Meaning.{IsOperationOf, meaning_of, pairs, life_said, claim_said, lives_of, claims_of}
 use Rattle.dac_meaning.specs.Chained.{SaysFor}
 use Rattle.dac_meaning.specs.laws.Chained.{of_said, is_said}
 use Rattle.dac_meaning.specs.laws.Readers.{lives-meaning, lives_are, claims-meaning, claims_are}
@@ -27,7 +27,7 @@ abbrev pub IsStart : Operation → Type 0
 IsStart o = (key : Key) × (over : List Dot) × (o.act ≡ Start key over)
 
 abbrev pub AreStarts : List Operation → Type 0
-AreStarts os = (o : Operation) → In o os → IsStart o
+AreStarts os = (o : Operation) → IsOperationOf o os → IsStart o
 
 none_some : {X : Type 0} {v : X} {Y : Type 0} → ◌≡◌ {A = Option X} None (Some v) → Y
 none_some e = cc
@@ -44,7 +44,7 @@ up_life = record { inc = 1; flag = IsUp }
 
 -- the operations say nothing of lives
 abbrev pub SayNoLives : List Operation → Type 0
-SayNoLives os = (o : Operation) → In o os → life_said o.dot o.act ≡ None
+SayNoLives os = (o : Operation) → IsOperationOf o os → life_said o.dot o.act ≡ None
 
 pub starts_say_none : (starts : List Operation) → AreStarts starts → SayNoLives starts
 starts_say_none starts are o i = ap (life_said o.dot) (are o i).2

@@ -13,7 +13,7 @@ use Rattle.dac_chains.specs.Lives.{Lives, IsLive, live_at}
 use Rattle.dac_chains.specs.laws.Live.{live_is}
 use Rattle.dac_wishes.specs.laws.KeyedWrites.{same_dot_itself}
 use Rattle.dac_operations.specs.Operations.{Operation}
-use Rattle.dac_meaning.specs.Meaning.{In, Within, Agree, names, meaning_of}
+use Rattle.dac_meaning.specs.Meaning.{IsOperationOf, AreOperationsOf, DotsDetermine, names, meaning_of}
 use Rattle.dac_meaning.specs.laws.Members.{In-append_left, In-append_cases, finds}
 use Rattle.dac_meaning.specs.laws.Readers.{known-meaning}
 use Rattle.dac_meaning.specs.laws.Joins.{join-meaning}
@@ -38,7 +38,7 @@ use Rattle.dac_settle.specs.laws.Due.{candidate_due}
 -- ---- dots
 
 -- no operation has the next dot
-fresh : (x : List Operation) (own : Origin) (p : Operation) → In p x → p.dot ≡ dot own (greatest_counter own (meaning_of x).known + 1) → ⊥
+fresh : (x : List Operation) (own : Origin) (p : Operation) → IsOperationOf p x → p.dot ≡ dot own (greatest_counter own (meaning_of x).known + 1) → ⊥
 fresh x own p i e =
     let known : set.contains (meaning_of x).known p.dot ≡ true = known-meaning x p.dot ∙ finds (names p.dot) x p i (or_left _ _ (same_dot_itself p.dot)) in
     let of : p.dot.origin ≡ own = ap (λ (d : Dot). d.origin) e in
@@ -48,7 +48,7 @@ fresh x own p i e =
     past a b le at = omega arith
 
 -- so no two of them and the next claim have one dot
-agree_more : (t : Table) (own : Origin) (x : List Operation) (app : AppId) → Agree x → Agree (x ++ claim_of t own (meaning_of x) app ∷ [])
+agree_more : (t : Table) (own : Origin) (x : List Operation) (app : AppId) → DotsDetermine x → DotsDetermine (x ++ claim_of t own (meaning_of x) app ∷ [])
 agree_more t own x app agree p q i j same = elim (In-append_cases p x (o ∷ []) i) [
   | inl l ↦ elim (In-append_cases q x (o ∷ []) j) [
     | inl m ↦ agree p q l m same
@@ -69,7 +69,7 @@ agree_more t own x app agree p q i j same = elim (In-append_cases p x (o ∷ [])
 -- ---- what is lost was lost
 
 module _ (t : Table) (s : List Operation) where
-  module _ (x y : List Operation) (g : IsGrown (placed t) s x) (h : IsGrown (placed t) s y) (w : Within x y) (app : AppId) (claim : Claim) (lost : IsLost (meaning_of y) app claim) where
+  module _ (x y : List Operation) (g : IsGrown (placed t) s x) (h : IsGrown (placed t) s y) (w : AreOperationsOf x y) (app : AppId) (claim : Claim) (lost : IsLost (meaning_of y) app claim) where
     -- who claims well is live, so its claim isn't lost
     not_taken : IsTaken t s y h app → ⊥
     not_taken taken =
@@ -110,8 +110,8 @@ module _ (t : Table) (s : List Operation) where
     -- a set on which the tick comes to an application
     pub record IsReached (x : List Operation) : Type 0 where
       pub grown : IsGrown (placed t) s x
-      pub keeps : Within d.held x
-      pub agree : Agree x
+      pub keeps : AreOperationsOf d.held x
+      pub agree : DotsDetermine x
 
     -- the tick finds the application its own exactly if its node is the candidate
     mine_if : (x : List Operation) (app : AppId) → app.0 < app_count t → IsReached x → (placed t).candidate x app ≡ Some n → is_mine t own waits now (meaning_of x) app ≡ true

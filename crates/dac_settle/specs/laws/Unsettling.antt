@@ -34,7 +34,7 @@ use Rattle.dac_placement.specs.laws.Tests.{runs_is}
 use Rattle.dac_placement.specs.laws.Loads.{preferred_is}
 use Rattle.dac_placement.specs.laws.FirstChoice.{first_is}
 use Rattle.dac_placement.specs.laws.Judged.{IsChoice, verdict_in_words}
-use Rattle.dac_ticks.specs.laws.Claimed.{Alike}
+use Rattle.dac_ticks.specs.laws.Claimed.{MayRunAlike}
 use Rattle.dac_settle.specs.Rounds.{IsGrown}
 use Rattle.dac_settle.specs.Rules.{is_one_group, is_lighter, restless_by, restless_of}
 use Rattle.dac_settle.specs.Staying.{Stays}
@@ -98,7 +98,7 @@ adds = record {
   ];
 }
 
-begun_alike : Alike known (meaning_of (begun the_starts))
+begun_alike : MayRunAlike known (meaning_of (begun the_starts))
 begun_alike = alike (begun the_starts) s adds
 
 is_live : (n : NodeId) → IsEither n → IsLive known.lives n 1
@@ -231,7 +231,7 @@ module _ (n : NodeId) (is : candidate_of (verdict_of two known other_app) ≡ So
   grown : IsGrown (placed two) s x
   grown = grown_by (placed two) s s claim (grown_itself (placed two) s) (other_app, inr (inl refl), good)
 
-  like : Alike known known_then
+  like : MayRunAlike known known_then
   like = alike_grown two s x grown
 
   a_still : map.get known_then.claims the_app ≡ Some the_claim

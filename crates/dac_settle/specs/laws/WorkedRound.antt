@@ -12,7 +12,7 @@ use Rattle.dac_wishes.specs.KeyedWrites.{keyed_write}
 use Rattle.dac_wishes.specs.DrainsValue.{origin}
 use Rattle.dac_wishes.specs.Writes.{write}
 use Rattle.dac_operations.specs.Operations.{Operation}
-use Rattle.dac_meaning.specs.Meaning.{In, Agree, meaning_of}
+use Rattle.dac_meaning.specs.Meaning.{IsOperationOf, DotsDetermine, meaning_of}
 use Rattle.dac_meaning.specs.laws.Readers.{starts-meaning, permits-meaning, drains-meaning}
 use Rattle.dac_placement.specs.declared.verdicts.Verdict.{Verdict}
 use Rattle.dac_placement.specs.declared.verdicts.Verdict.TheVariants.{Start as ToStart, Failover, Halted, Move, Takeover, Kept, Nobody}
@@ -44,7 +44,7 @@ never_lost app claim lost = none_some (sym (none_claimed the_starts are_starts a
 
 is_ready : IsReady worked_nodes
 is_ready = record {
-  same = λ m n d e of_m of_n o i. subst (λ (k : Member). In o k.held) ((sym (is_member worked_set m d of_m).0) ∙ (is_member worked_set n e of_n).0) i;
+  same = λ m n d e of_m of_n o i. subst (λ (k : Member). IsOperationOf o k.held) ((sym (is_member worked_set m d of_m).0) ∙ (is_member worked_set n e of_n).0) i;
   runs = λ m d of_m n inc alive.
       let only = live_only the_starts are_starts n inc (subst (λ (k : Member). IsLive (meaning_of k.held).lives n inc) (sym (is_member worked_set m d of_m).0) alive) in
       (member_with worked_set, runs worked_set n only.0, only.1);
@@ -86,7 +86,7 @@ unsettled settled = elim (left_if worked_table (meaning_of worked_set) the_app (
 terms_left : terms_used_up (meaning_of worked_set) the_app ≡ false
 terms_left = ap (λ c. nat_lt MAX_COUNTER (option_map_or (λ (claim : Claim). claim.term) c 0 + 1)) (none_claimed the_starts are_starts the_app)
 
-agree : Agree worked_set
+agree : DotsDetermine worked_set
 agree = DistinctDots-agree worked_set (refl, (refl, (refl, (refl, tt))))
 
 the_rounds : Rounds worked_table (app_count worked_table) worked_nodes (after_all worked_set agree terms_left)

@@ -10,7 +10,7 @@ use Rattle.dac_placement.specs.Placement.{verdict_of}
 use Rattle.dac_events.specs.declared.WorldEvent.{WorldEvent}
 use Rattle.dac_events.specs.declared.What.{What}
 use Rattle.dac_messages.specs.declared.reply.Reply.TheVariants.{Shipped}
-use Rattle.dac_model_world.specs.ModelNode.{ModelRun}
+use Rattle.dac_model_world.specs.ModelNode.{ModelRunning}
 use Rattle.dac_model_world.specs.WorldValue.{WorldValue}
 use Rattle.dac_model_world.specs.ModelWorld.{ModelWorld, AnsweredAs, InEachRun, Shows, numbered, start, went, world_after}
 use Rattle.dac_model_world.specs.SetWorld.{SetWorld, NodeSet, no_sets, copied_by, set_step, set_run}
@@ -79,7 +79,7 @@ module _ (t : Table) where
 
   -- ---- rounds
 
-  runs_if : (r : Option ModelRun) (o : Option NodeSet) → is_some (member_by r o) ≡ true → is_some r ≡ true
+  runs_if : (r : Option ModelRunning) (o : Option NodeSet) → is_some (member_by r o) ≡ true → is_some r ≡ true
   runs_if None o e = e
   runs_if (Some r) None e = refl
   runs_if (Some r) (Some x) e = refl
@@ -93,7 +93,7 @@ module _ (t : Table) where
       events = ran.1.0;
       copies = since (length s.copies) (set_run s events answers).copies;
       run = subst (λ cs. Run t (record { node = members_of w s; copies = cs }) ran.1.0 (seen_in (length s.copies) (world_after t w events answers) (set_run s events answers))) (since_all s.copies) ran.1.1;
-      ticks = λ n is. ran.1.2 n (round.ticks n (runs_if (w.node n).run (s.node n) is));
+      ticks = λ n is. ran.1.2 n (round.ticks n (runs_if (w.node n).running (s.node n) is));
       same = round.same;
     }
 
@@ -135,7 +135,7 @@ set_there (Some set) state e = (set, refl, one e)
     one : {a b : StateValue} → ◌≡◌ {A = Option StateValue} (Some a) (Some b) → a ≡ b
     one e = cc
 
-run_there : (o : Option ModelRun) (state : StateValue) → option_map state_in o ≡ Some state → (r : ModelRun) × (o ≡ Some r)
+run_there : (o : Option ModelRunning) (state : StateValue) → option_map state_in o ≡ Some state → (r : ModelRunning) × (o ≡ Some r)
 run_there None state e = cc
 run_there (Some r) state e = (r, refl)
 
@@ -146,7 +146,7 @@ settled_there t w final s last v ready rounds h shows n state runs app lt =
     let m = numbered n in
     let held : option_map state_by (last.node m) ≡ Some state = sym ((holds_sets t final v last shows h).each n runs.node runs.there) ∙ runs.state in
     let set = set_there (last.node m) state held in
-    let r = run_there (final.node m).run state ((h.nodes m).state ∙ held) in
+    let r = run_there (final.node m).running state ((h.nodes m).state ∙ held) in
     let d : Member = record { inc = r.0.origin.inc; held = set.0.operations; notes = r.0.notes } in
     subst (λ u. IsSettled (verdict_of t u app)) set.2 (all_settle t (members_of w s) (members_of final last) ready rounds m d (λ i. member_by (r.1 i) (set.1 i)) app lt)
 

@@ -3,7 +3,7 @@ use Rattle.std.proofs.Common.{◌≡◌, ℕ, ◌<◌, ◌≤◌, Bool, true, fa
 use Rattle.std.proofs.lemmas.Bool.{le-ltb, lt-ltb, lt-leb, eq-eqb}
 use Rattle.dac_tokens.specs.declared.fault.ConfigFault.{ConfigFault}
 use Rattle.dac_tokens.specs.declared.token.Symbol.TheVariants.{OpenList, CloseList, OpenTuple, CloseTuple, Comma}
-use Rattle.dac_tokens.specs.Words.{Word, Mark, Name, Number, Located}
+use Rattle.dac_tokens.specs.Words.{Word, Punctuation, Name, Number, Located}
 use Rattle.dac_shapes.specs.declared.draft.SyncWait.{SyncWait}
 use Rattle.dac_shapes.specs.declared.draft.SyncWait.TheVariants.{NoSync, Forever, Ms}
 use Rattle.dac_shapes.specs.declared.param.ParamName.{ParamName}
@@ -11,7 +11,7 @@ use Rattle.dac_shapes.specs.declared.param.ParamName.TheVariants as named
 use Rattle.dac_shapes.specs.Written.{App, Permission, Param, Distributed, Permissions, Mandatory, Optional, Timeout, Section, Kernel, name_of, spelled}
 use Rattle.dac_shapes.specs.Limits.{Seen, AllMay, steps, is_among, has_param, with_node, MayNode, with_nodes, MayNodes, with_groups, MayGroups, listing, with_app, MayApp, with_permission, MayPermission, with_param, MayValue, MayParam, has_kernel, with_section, MaySection}
 use Rattle.dac_tokens.specs.Digits.{value_from}
-use Rattle.dac_shapes.specs.Shape.{State, is_mark, token, atom_of, short_name_of, node_of, names_at, item_at, items_at, groups_at, milliseconds_of, timeout_at, wait_of, app_name_of, app_value_at, app_at, flag_of, permission_value_at, permission_at, param_named, param_name_of, param_value_at, param_rest_at, param_at, names_kernel, kernel_at, section_rest_at, section_at, passed_at, pair_at, closed, list_of}
+use Rattle.dac_shapes.specs.Shape.{State, is_symbol, token, atom_of, short_name_of, node_of, names_at, item_at, items_at, groups_at, milliseconds_of, timeout_at, wait_of, app_name_of, app_value_at, app_at, flag_of, permission_value_at, permission_at, param_named, param_name_of, param_value_at, param_rest_at, param_at, names_kernel, kernel_at, section_rest_at, section_at, passed_at, pair_at, closed, list_of}
 use Rattle.std.specs.Str.{bytes_eq}
 use Rattle.dac_base.specs.declared.limits.TheConstants.{MAX_NODES}
 use Rattle.dac_shapes.specs.Grammar.{Parted, IsListOf, IsPair, IsNode, IsItem, IsNodeList, IsAppValue, IsApp, IsFlag, IsPermission, IsTerm, IsWait, IsParam, IsSection}
@@ -21,9 +21,9 @@ use Rattle.dac_shapes.specs.laws.AgainTerms.{passed_again}
 
 -- ---- single tokens
 
-atom_again : (w : Word) (place : ℕ) (name : List ℕ) → w ≡ Name name → atom_of (record { word = w; at = place }) ≡ Ok name
+atom_again : (w : Word) (offset : ℕ) (name : List ℕ) → w ≡ Name name → atom_of (record { word = w; at = offset }) ≡ Ok name
 unfolding atom_of
-atom_again w place name e = rw e refl
+atom_again w offset name e = rw e refl
 
 short_name_again : (t : Located) (name : List ℕ) → t.word ≡ Name name → length name ≤ 255 → short_name_of t ≡ Ok name
 unfolding short_name_of
@@ -34,8 +34,8 @@ both_false : (a b : Bool) → (a ≡ false → b ≡ false) → (not a && b) ≡
 both_false true b f = refl
 both_false false b f = f refl
 
-ms_again : (place : ℕ) (negative : Bool) (v n : ℕ) → n ≡ v → n < 4294967296 → (negative ≡ true → n ≡ 0) → milliseconds_of place negative v ≡ Ok n
-ms_again place negative v n e few zero_if =
+ms_again : (offset : ℕ) (negative : Bool) (v n : ℕ) → n ≡ v → n < 4294967296 → (negative ≡ true → n ≡ 0) → milliseconds_of offset negative v ≡ Ok n
+ms_again offset negative v n e few zero_if =
     let small : ltb v 4294967296 ≡ true = lt-ltb v 4294967296 (omega arith) in
     rw (negative_zero negative v (λ f. sym e ∙ zero_if f), small) (ap (λ (m : ℕ). Ok m) (sym e))
   where
@@ -64,18 +64,18 @@ module _ (last : Result Located ConfigFault) where
   item_begins : (ws : List Word) (group : List (List ℕ)) → IsItem ws group → Begins ws
   item_begins ws group is = elim is [
     | inl h ↦ record { head = Name h.0; tail = []; whole = h.1; no_list = refl; no_tuple = refl }
-    | inr h ↦ record { head = Mark OpenTuple; tail = h.0 ++ Mark CloseTuple ∷ []; whole = h.1; no_list = refl; no_tuple = refl }
+    | inr h ↦ record { head = Punctuation OpenTuple; tail = h.0 ++ Punctuation CloseTuple ∷ []; whole = h.1; no_list = refl; no_tuple = refl }
   ]
 
   alone_again : (t : Located) (us : List Located) (seen : Seen) (name : List ℕ) → t.word ≡ Name name → MayNode false seen name → item_at t (at last us seen) ≡ Ok (name ∷ [], at last us (with_node seen name))
   unfolding item_at
   alone_again t us seen name w may = rw (node_again false t us seen name w may, w) refl
 
-  tuple_again : (t f : Located) (ts : List Located) (seen : Seen) → t.word ≡ Mark OpenTuple → is_mark CloseTuple f.word ≡ false → item_at t (at last (f ∷ ts) seen) ≡ names_at false CloseTuple f (at last ts seen)
+  tuple_again : (t f : Located) (ts : List Located) (seen : Seen) → t.word ≡ Punctuation OpenTuple → is_symbol CloseTuple f.word ≡ false → item_at t (at last (f ∷ ts) seen) ≡ names_at false CloseTuple f (at last ts seen)
   unfolding item_at
   tuple_again t f ts seen w e = rw (w, e) refl
 
-  -- tokens from a mark on, up to the mark that closes it: things parted by commas are between
+  -- tokens from a symbol on, up to the symbol that closes it: things parted by commas are between
   record Within (ts : List Located) (inner : List Word) (right : Word) : Type 0 where
     pub first : Located
     pub mid : List Located
@@ -83,8 +83,8 @@ module _ (last : Result Located ConfigFault) where
     pub whole : ts ≡ first ∷ (mid ++ close_at ∷ [])
     pub is : inner ≡ words_of (first ∷ mid)
     pub closes : close_at.word ≡ right
-    pub no_list : is_mark CloseList first.word ≡ false
-    pub no_tuple : is_mark CloseTuple first.word ≡ false
+    pub no_list : is_symbol CloseList first.word ≡ false
+    pub no_tuple : is_symbol CloseTuple first.word ≡ false
 
   within : (t : Located) (ts : List Located) (left : Word) (inner : List Word) (right : Word) → words_of (t ∷ ts) ≡ left ∷ inner ++ right ∷ [] → Begins inner → Within ts inner right
   within t ts left inner right e b =
@@ -99,8 +99,8 @@ module _ (last : Result Located ConfigFault) where
         whole = s.whole ∙ ap (λ (l : List Located). l ++ s.rest) f.whole ∙ ap (λ (l : List Located). f.head ∷ (f.tail ++ l)) (d.whole ∙ ap (λ (l : List Located). d.head ∷ l) (none d.tail d.rest));
         is = sym s.first ∙ ap words_of f.whole;
         closes = d.is;
-        no_list = ap (is_mark CloseList) f.is ∙ b.no_list;
-        no_tuple = ap (is_mark CloseTuple) f.is ∙ b.no_tuple;
+        no_list = ap (is_symbol CloseList) f.is ∙ b.no_list;
+        no_tuple = ap (is_symbol CloseTuple) f.is ∙ b.no_tuple;
       }
 
   filled : {A : Type 0} (Is : List Word → A → Type 0) → ((ws : List Word) (x : A) → Is ws x → Begins ws) → (ws : List Word) (xs : List A) → Parted Is ws xs → Begins ws
@@ -108,7 +108,7 @@ module _ (last : Result Located ConfigFault) where
   filled Is begins ws (x ∷ []) p = begins ws x p
   filled Is begins ws (x ∷ y ∷ ys) p =
       let f = begins p.0 x p.3 in
-      record { head = f.head; tail = f.tail ++ Mark Comma ∷ p.1; whole = p.2 ∙ ap (λ (l : List Word). l ++ Mark Comma ∷ p.1) f.whole; no_list = f.no_list; no_tuple = f.no_tuple }
+      record { head = f.head; tail = f.tail ++ Punctuation Comma ∷ p.1; whole = p.2 ∙ ap (λ (l : List Word). l ++ Punctuation Comma ∷ p.1) f.whole; no_list = f.no_list; no_tuple = f.no_tuple }
 
   item_again : (before : List (List (List ℕ))) (t : Located) (ts us : List Located) (seen : Seen) (group : List (List ℕ)) → IsItem (words_of (t ∷ ts)) group → MayNodes false seen group → item_at t (at last (ts ++ us) seen) ≡ Ok (group, at last us (with_nodes seen group))
   item_again before t ts us seen group is may = elim is [
@@ -118,22 +118,22 @@ module _ (last : Result Located ConfigFault) where
         subst (λ (g : List (List ℕ)). item_at t (at last (ts ++ us) seen) ≡ Ok (g, at last us (with_nodes seen g))) (sym h.2)
         (ap (λ (l : List Located). item_at t (at last (l ++ us) seen)) (none ts c.1) ∙ alone_again t us seen h.0 c.0 one.0)
     | inr h ↦
-        let w = within t ts (Mark OpenTuple) h.0 (Mark CloseTuple) h.1 (filled IsNode node_begins h.0 group h.2) in
-        let begun = cons_is t.word (Mark OpenTuple) (words_of ts) (h.0 ++ Mark CloseTuple ∷ []) h.1 in
+        let w = within t ts (Punctuation OpenTuple) h.0 (Punctuation CloseTuple) h.1 (filled IsNode node_begins h.0 group h.2) in
+        let begun = cons_is t.word (Punctuation OpenTuple) (words_of ts) (h.0 ++ Punctuation CloseTuple ∷ []) h.1 in
         let apart : ts ++ us ≡ w.first ∷ (w.mid ++ w.close_at ∷ us) = ap (λ (l : List Located). l ++ us) w.whole ∙ ap (λ (l : List Located). w.first ∷ l) (append_assoc w.mid (w.close_at ∷ []) us) in
         ap (λ (l : List Located). item_at t (at last l seen)) apart
         ∙ tuple_again t w.first (w.mid ++ w.close_at ∷ us) seen begun.0 w.no_tuple
         ∙ whole_again last IsNode (λ _. node_of false) CloseTuple with_node (λ _. MayNode false) refl refl node_begins (nodes_again false) w.first w.mid w.close_at us seen group (subst (λ (l : List Word). Parted IsNode l group) w.is h.2) may w.closes
   ]
 
-  list_opened : (t f : Located) (ts : List Located) (seen : Seen) → t.word ≡ Mark OpenList → is_mark CloseList f.word ≡ false → groups_at t (at last (f ∷ ts) seen) ≡ items_at f (at last ts (listing seen))
+  list_opened : (t f : Located) (ts : List Located) (seen : Seen) → t.word ≡ Punctuation OpenList → is_symbol CloseList f.word ≡ false → groups_at t (at last (f ∷ ts) seen) ≡ items_at f (at last ts (listing seen))
   unfolding groups_at
   list_opened t f ts seen w e = rw (w, e) refl
 
   groups_again : (t : Located) (ts us : List Located) (seen : Seen) (groups : List (List (List ℕ))) → IsNodeList (words_of (t ∷ ts)) groups → MayGroups (listing seen) groups → groups_at t (at last (ts ++ us) seen) ≡ Ok (groups, at last us (with_groups (listing seen) groups))
   groups_again t ts us seen groups is may =
-      let w = within t ts (Mark OpenList) is.0 (Mark CloseList) is.1 (filled IsItem item_begins is.0 groups is.2) in
-      let begun = cons_is t.word (Mark OpenList) (words_of ts) (is.0 ++ Mark CloseList ∷ []) is.1 in
+      let w = within t ts (Punctuation OpenList) is.0 (Punctuation CloseList) is.1 (filled IsItem item_begins is.0 groups is.2) in
+      let begun = cons_is t.word (Punctuation OpenList) (words_of ts) (is.0 ++ Punctuation CloseList ∷ []) is.1 in
       let apart : ts ++ us ≡ w.first ∷ (w.mid ++ w.close_at ∷ us) = ap (λ (l : List Located). l ++ us) w.whole ∙ ap (λ (l : List Located). w.first ∷ l) (append_assoc w.mid (w.close_at ∷ []) us) in
       ap (λ (l : List Located). groups_at t (at last l seen)) apart
       ∙ list_opened t w.first (w.mid ++ w.close_at ∷ us) seen begun.0 w.no_list
@@ -141,14 +141,14 @@ module _ (last : Result Located ConfigFault) where
 
   -- ---- applications
 
-  untimed_again : (w : Word) (place : ℕ) (s : State) → w ≡ Mark OpenList → timeout_at (record { word = w; at = place }) s ≡ Ok (0, record { word = w; at = place }, s)
+  untimed_again : (w : Word) (offset : ℕ) (s : State) → w ≡ Punctuation OpenList → timeout_at (record { word = w; at = offset }) s ≡ Ok (0, record { word = w; at = offset }, s)
   unfolding timeout_at
-  untimed_again w place s e = rw e refl
+  untimed_again w offset s e = rw e refl
 
-  timed_again : (place : ℕ) (c f : Located) (ts : List Located) (seen : Seen) (negative : Bool) (digits : List ℕ) (n : ℕ) → milliseconds_of place negative (value_from 0 digits) ≡ Ok n → c.word ≡ Mark Comma
-      → timeout_at (record { word = Number negative digits; at = place }) (at last (c ∷ f ∷ ts) seen) ≡ Ok (n, f, at last ts seen)
+  timed_again : (offset : ℕ) (c f : Located) (ts : List Located) (seen : Seen) (negative : Bool) (digits : List ℕ) (n : ℕ) → milliseconds_of offset negative (value_from 0 digits) ≡ Ok n → c.word ≡ Punctuation Comma
+      → timeout_at (record { word = Number negative digits; at = offset }) (at last (c ∷ f ∷ ts) seen) ≡ Ok (n, f, at last ts seen)
   unfolding timeout_at
-  timed_again place c f ts seen negative digits n e w = rw (e, symbol_again last Comma c (f ∷ ts) seen refl w) refl
+  timed_again offset c f ts seen negative digits n e w = rw (e, symbol_again last Comma c (f ∷ ts) seen refl w) refl
 
   app_value_by : (name : List ℕ) (n : ℕ) (groups : List (List (List ℕ))) (first f : Located) (ts us : List Located) (s : State) (seen : Seen) → timeout_at first s ≡ Ok (n, f, at last ts seen) → groups_at f (at last ts seen) ≡ Ok (groups, at last us (with_groups (listing seen) groups))
       → (t : State) → token t ≡ Ok (first, s) → app_value_at name t ≡ Ok (record { name = name; timeout = n; groups = groups }, at last us (with_groups (listing seen) groups))
@@ -159,17 +159,17 @@ module _ (last : Result Located ConfigFault) where
   app_value_again vs us seen app is may = elim is.3 [
     | inl h ↦
         let whole : words_of vs ≡ is.1 = is.2 ∙ ap (λ (l : List Word). l ++ is.1) h.0 in
-        let c = cut vs (Mark OpenList) (is.4.0 ++ Mark CloseList ∷ []) (whole ∙ is.4.1) in
+        let c = cut vs (Punctuation OpenList) (is.4.0 ++ Punctuation CloseList ∷ []) (whole ∙ is.4.1) in
         let list : IsNodeList (words_of (c.head ∷ c.tail)) app.groups = subst (λ (l : List Word). IsNodeList l app.groups) (sym whole ∙ ap words_of c.whole) is.4 in
         ap (λ (l : List Located). app_value_at app.name (at last (l ++ us) seen)) c.whole
         ∙ app_value_by app.name 0 app.groups c.head c.head (c.tail ++ us) us (at last (c.tail ++ us) seen) seen (untimed_again c.head.word c.head.at (at last (c.tail ++ us) seen) c.is) (groups_again c.head c.tail us seen app.groups list may) (at last (c.head ∷ c.tail ++ us) seen) refl
         ∙ ap (λ (n : ℕ). Ok (record { name = app.name; timeout = n; groups = app.groups }, at last us (with_groups (listing seen) app.groups))) (sym h.1)
     | inr h ↦
         let ms = h.2 in
-        let whole : words_of vs ≡ h.0 ∷ Mark Comma ∷ is.1 = is.2 ∙ ap (λ (l : List Word). l ++ is.1) h.1 in
-        let c = cut vs h.0 (Mark Comma ∷ is.1) whole in
-        let d = cut c.tail (Mark Comma) is.1 c.rest in
-        let f = cut d.tail (Mark OpenList) (is.4.0 ++ Mark CloseList ∷ []) (d.rest ∙ is.4.1) in
+        let whole : words_of vs ≡ h.0 ∷ Punctuation Comma ∷ is.1 = is.2 ∙ ap (λ (l : List Word). l ++ is.1) h.1 in
+        let c = cut vs h.0 (Punctuation Comma ∷ is.1) whole in
+        let d = cut c.tail (Punctuation Comma) is.1 c.rest in
+        let f = cut d.tail (Punctuation OpenList) (is.4.0 ++ Punctuation CloseList ∷ []) (d.rest ∙ is.4.1) in
         let list : IsNodeList (words_of (f.head ∷ f.tail)) app.groups = subst (λ (l : List Word). IsNodeList l app.groups) (sym d.rest ∙ ap words_of f.whole) is.4 in
         let apart : vs ≡ c.head ∷ d.head ∷ f.head ∷ f.tail = c.whole ∙ ap (λ (l : List Located). c.head ∷ l) (d.whole ∙ ap (λ (l : List Located). d.head ∷ l) f.whole) in
         let number : c.head.word ≡ Number ms.0 ms.1 = c.is ∙ ms.2 in
@@ -180,7 +180,7 @@ module _ (last : Result Located ConfigFault) where
   ]
 
   app_begins : (ws : List Word) (app : App) → IsApp ws app → Begins ws
-  app_begins ws app is = record { head = Mark OpenTuple; tail = Name app.name ∷ Mark Comma ∷ is.0 ++ Mark CloseTuple ∷ []; whole = is.1; no_list = refl; no_tuple = refl }
+  app_begins ws app is = record { head = Punctuation OpenTuple; tail = Name app.name ∷ Punctuation Comma ∷ is.0 ++ Punctuation CloseTuple ∷ []; whole = is.1; no_list = refl; no_tuple = refl }
 
   app_named_again : (before : List App) (t : Located) (name : List ℕ) → t.word ≡ Name name → length name ≤ 255 → is_among name (map (λ a. a.name) before) ≡ false → length before < 64 → app_name_of before t ≡ Ok name
   unfolding app_name_of
@@ -194,7 +194,7 @@ module _ (last : Result Located ConfigFault) where
   -- ---- permissions
 
   permission_begins : (ws : List Word) (x : Permission) → IsPermission ws x → Begins ws
-  permission_begins ws x is = record { head = Mark OpenTuple; tail = Name x.name ∷ Mark Comma ∷ is.0 ++ Mark CloseTuple ∷ []; whole = is.1; no_list = refl; no_tuple = refl }
+  permission_begins ws x is = record { head = Punctuation OpenTuple; tail = Name x.name ∷ Punctuation Comma ∷ is.0 ++ Punctuation CloseTuple ∷ []; whole = is.1; no_list = refl; no_tuple = refl }
 
   flag_again : (t : Located) (b : Bool) → IsFlag (t.word ∷ []) b → flag_of t ≡ Ok b
   unfolding flag_of
@@ -226,7 +226,7 @@ module _ (last : Result Located ConfigFault) where
   -- ---- parameters and sections
 
   pair_begins : (name : List ℕ) (IsValue : List Word → Type 0) (ws : List Word) → IsPair name IsValue ws → Begins ws
-  pair_begins name IsValue ws is = record { head = Mark OpenTuple; tail = Name name ∷ Mark Comma ∷ is.0 ++ Mark CloseTuple ∷ []; whole = is.1; no_list = refl; no_tuple = refl }
+  pair_begins name IsValue ws is = record { head = Punctuation OpenTuple; tail = Name name ∷ Punctuation Comma ∷ is.0 ++ Punctuation CloseTuple ∷ []; whole = is.1; no_list = refl; no_tuple = refl }
 
   param_begins : (ws : List Word) (p : Param) → IsParam ws p → Begins ws
   param_begins ws (Distributed apps) is = pair_begins (spelled named.Distributed) (λ value. IsListOf IsApp value apps) ws is
@@ -259,15 +259,15 @@ module _ (last : Result Located ConfigFault) where
   unfolding param_name_of
   other_named_again before t name w other = rw (atom_again t.word t.at name w, other) refl
 
-  wait_again : (w : Word) (place : ℕ) (wait : SyncWait) → IsWait (w ∷ []) wait → wait_of (record { word = w; at = place }) ≡ Ok wait
+  wait_again : (w : Word) (offset : ℕ) (wait : SyncWait) → IsWait (w ∷ []) wait → wait_of (record { word = w; at = offset }) ≡ Ok wait
   unfolding wait_of
-  wait_again w place NoSync is = absurd is
-  wait_again w place Forever is = let c = cons_is w (Name (codes "infinity")) [] [] is in rw c.0 refl
-  wait_again w place (Ms n) is =
+  wait_again w offset NoSync is = absurd is
+  wait_again w offset Forever is = let c = cons_is w (Name (codes "infinity")) [] [] is in rw c.0 refl
+  wait_again w offset (Ms n) is =
       let c = cons_is w is.0 [] [] is.1 in
       let ms = is.2 in
       let number : w ≡ Number ms.0 ms.1 = c.0 ∙ ms.2 in
-      rw (number, ms_again place ms.0 (value_from 0 ms.1) n ms.3 ms.4 ms.5) refl
+      rw (number, ms_again offset ms.0 (value_from 0 ms.1) n ms.3 ms.4 ms.5) refl
 
   timeout_again : (t : Located) (us : List Located) (seen : Seen) (wait : SyncWait) → IsWait (t.word ∷ []) wait → param_value_at named.Timeout (at last (t ∷ us) seen) ≡ Ok (Timeout wait, at last us seen)
   unfolding param_value_at
@@ -332,7 +332,7 @@ module _ (last : Result Located ConfigFault) where
       known_again named.Timeout before (Timeout wait) seen (λ value. IsWait value wait) refl may (λ vs us' value. timeout_value_again vs us' seen wait value) t ts us is
   param_again before t ts us seen Param.Other is may =
       rest_again last (param_name_of before) param_rest_at is.0 None Param.Other seen seen (λ n w. other_named_again before n is.0 w (unknown_so is.0 is.1))
-      (is.2.0 ++ Mark CloseTuple ∷ []) t ts us is.2.1 (λ vs e. rest_of_other (at last (vs ++ us) seen) (at last us seen) (passed_again last is.2.0 vs us seen is.2.2 e))
+      (is.2.0 ++ Punctuation CloseTuple ∷ []) t ts us is.2.1 (λ vs e. rest_of_other (at last (vs ++ us) seen) (at last us seen) (passed_again last is.2.0 vs us seen is.2.2 e))
 
   section_begins : (ws : List Word) (x : Section) → IsSection ws x → Begins ws
   section_begins ws (Kernel params) is = pair_begins (codes "kernel") (λ value. IsListOf IsParam value params) ws is
@@ -372,14 +372,14 @@ module _ (last : Result Located ConfigFault) where
       kernel_at (λ value. IsListOf IsParam value params) rest_of_kernel (λ vs us' value. kernel_value_again vs us' seen params value may.params) t ts us is
   section_pair_again before t ts us seen Section.Other is may =
       rest_again last (names_kernel before) section_rest_at is.0 false Section.Other seen seen (λ n w. other_section_again before n is.0 w (no_kernel is.0 is.1))
-      (is.2.0 ++ Mark CloseTuple ∷ []) t ts us is.2.1 (λ vs e. rest_of_section (at last (vs ++ us) seen) (at last us seen) (passed_again last is.2.0 vs us seen is.2.2 e))
+      (is.2.0 ++ Punctuation CloseTuple ∷ []) t ts us is.2.1 (λ vs e. rest_of_section (at last (vs ++ us) seen) (at last us seen) (passed_again last is.2.0 vs us seen is.2.2 e))
 
   -- a section begins with a brace
-  braced : (t : Located) (ts : List Located) (x : Section) → IsSection (words_of (t ∷ ts)) x → t.word ≡ Mark OpenTuple
-  braced t ts (Kernel params) is = (cons_is t.word (Mark OpenTuple) (words_of ts) (Name (codes "kernel") ∷ Mark Comma ∷ is.0 ++ Mark CloseTuple ∷ []) is.1).0
-  braced t ts Section.Other is = (cons_is t.word (Mark OpenTuple) (words_of ts) (Name is.0 ∷ Mark Comma ∷ is.2.0 ++ Mark CloseTuple ∷ []) is.2.1).0
+  braced : (t : Located) (ts : List Located) (x : Section) → IsSection (words_of (t ∷ ts)) x → t.word ≡ Punctuation OpenTuple
+  braced t ts (Kernel params) is = (cons_is t.word (Punctuation OpenTuple) (words_of ts) (Name (codes "kernel") ∷ Punctuation Comma ∷ is.0 ++ Punctuation CloseTuple ∷ []) is.1).0
+  braced t ts Section.Other is = (cons_is t.word (Punctuation OpenTuple) (words_of ts) (Name is.0 ∷ Punctuation Comma ∷ is.2.0 ++ Punctuation CloseTuple ∷ []) is.2.1).0
 
-  no_text : (before : List Section) (t : Located) (s : State) → t.word ≡ Mark OpenTuple → section_at before t s ≡ pair_at (names_kernel before) section_rest_at t s
+  no_text : (before : List Section) (t : Located) (s : State) → t.word ≡ Punctuation OpenTuple → section_at before t s ≡ pair_at (names_kernel before) section_rest_at t s
   unfolding section_at
   no_text before t s w = rw w refl
 

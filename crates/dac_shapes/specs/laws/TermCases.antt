@@ -3,7 +3,7 @@ use Rattle.std.proofs.Common.{◌≡◌, ℕ, Bool, List, None, Some, Result, re
 use Rattle.dac_tokens.specs.declared.fault.ConfigFault.{ConfigFault}
 use Rattle.dac_tokens.specs.declared.fault.FaultKind.TheVariants.{BadShape}
 use Rattle.dac_tokens.specs.declared.token.Symbol.{Symbol}
-use Rattle.dac_tokens.specs.Words.{Mark, Name, Number, Text, End, Located}
+use Rattle.dac_tokens.specs.Words.{Punctuation, Name, Number, Text, End, Located}
 use Rattle.dac_shapes.specs.Shape.{State, fails, token, closing_of, terms_in, texts_at, term_by}
 
 module _ (pass : Located → State → Result (Located × State) ConfigFault) (n : ℕ) (t : Located) (s : State) where
@@ -19,11 +19,11 @@ module _ (pass : Located → State → Result (Located × State) ConfigFault) (n
   unfolding term_by
   by_text e = rw e refl
 
-  pub by_mark : (symbol close : Symbol) → t.word ≡ Mark symbol → closing_of symbol ≡ Some close → term_by pass n t s ≡ terms_in pass close n s
+  pub by_mark : (symbol close : Symbol) → t.word ≡ Punctuation symbol → closing_of symbol ≡ Some close → term_by pass n t s ≡ terms_in pass close n s
   unfolding term_by
   by_mark symbol close e is = rw (e, is) refl
 
-  pub by_other_mark : (symbol : Symbol) → t.word ≡ Mark symbol → closing_of symbol ≡ None → term_by pass n t s ≡ fails BadShape t.at
+  pub by_other_mark : (symbol : Symbol) → t.word ≡ Punctuation symbol → closing_of symbol ≡ None → term_by pass n t s ≡ fails BadShape t.at
   unfolding term_by
   by_other_mark symbol e is = rw (e, is) refl
 

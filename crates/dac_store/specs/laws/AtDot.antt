@@ -2,7 +2,7 @@
 use Rattle.std.specs.Prelude.{◌≡◌, Bool, true, false, ◌||◌, Option, None, Some, is_some, refl}
 use Rattle.std.proofs.Common.{sym, ap, ◌∙◌}
 use Rattle.std.proofs.lemmas.Bool.{false≢true}
-use Rattle.dac_lattice.specs.Lattices.{IsLattice, IsIn}
+use Rattle.dac_lattice.specs.Lattices.{IsLattice, IsOptionOf}
 use Rattle.dac_store.specs.AtDot.{StandsBelow, Under, join_at}
 
 -- beside nothing a value stays where the other side hasn't heard of its dot
@@ -24,11 +24,11 @@ at_unheard below c v (Some w) h e = absurd (false≢true (sym (h refl) ∙ e))
 -- ---- the laws of a store, at one dot
 
 module _ {V : Type 0} {is_value : V → Type 0} {below : V → V → Type 0} {join : V → V → V} (laws : IsLattice is_value below join) where
-  pub at_refl : (v : Option V) → IsIn is_value v → StandsBelow below v v
+  pub at_refl : (v : Option V) → IsOptionOf is_value v → StandsBelow below v v
   at_refl None u = tt
   at_refl (Some v) u = laws.refl v u
 
-  pub at_trans : (v w x : Option V) → IsIn is_value v → IsIn is_value w → IsIn is_value x → StandsBelow below v w → StandsBelow below w x → StandsBelow below v x
+  pub at_trans : (v w x : Option V) → IsOptionOf is_value v → IsOptionOf is_value w → IsOptionOf is_value x → StandsBelow below v w → StandsBelow below w x → StandsBelow below v x
   at_trans v w None a b c p q = tt
   at_trans None None (Some x) a b c p q = q
   at_trans None (Some w) (Some x) a b c p q = absurd p
@@ -41,7 +41,7 @@ module _ {V : Type 0} {is_value : V → Type 0} {below : V → V → Type 0} {jo
   at_antisymm c (Some v) None a b p q = absurd (q (a.1 refl))
   at_antisymm c (Some v) (Some w) a b p q = let here = a.1 refl in ap (λ x. Some x) (laws.antisymm v w a.0 b.0 (p here) (q here))
 
-  pub at_closed : (c d : Bool) (v w : Option V) → IsIn is_value v → IsIn is_value w → IsIn is_value (join_at join c d v w)
+  pub at_closed : (c d : Bool) (v w : Option V) → IsOptionOf is_value v → IsOptionOf is_value w → IsOptionOf is_value (join_at join c d v w)
   at_closed c d None None a b = tt
   at_closed c true (Some v) None a b = tt
   at_closed c false (Some v) None a b = a
@@ -70,7 +70,7 @@ module _ {V : Type 0} {is_value : V → Type 0} {below : V → V → Type 0} {jo
   at_right false d None (Some w) a b h = laws.refl w b.0
   at_right c d (Some v) (Some w) a b h = laws.right v w a.0 b.0
 
-  pub at_least : (c d : Bool) (v w x : Option V) → Under is_value c v → Under is_value d w → IsIn is_value x → (c ≡ true → StandsBelow below v x) → (d ≡ true → StandsBelow below w x) → (c || d) ≡ true → StandsBelow below (join_at join c d v w) x
+  pub at_least : (c d : Bool) (v w x : Option V) → Under is_value c v → Under is_value d w → IsOptionOf is_value x → (c ≡ true → StandsBelow below v x) → (d ≡ true → StandsBelow below w x) → (c || d) ≡ true → StandsBelow below (join_at join c d v w) x
   at_least c d v w None a b u p q h = tt
   at_least true d None w (Some x) a b u p q h = absurd (p refl)
   at_least c true v None (Some x) a b u p q h = absurd (q refl)

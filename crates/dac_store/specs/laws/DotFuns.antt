@@ -10,10 +10,10 @@ use Rattle.std.specs.FinMap.Entries.{same_entries}
 use Rattle.dac_dots.specs.Dots.{Dots, dot_cmp}
 use Rattle.dac_dots.specs.laws.Dots.{dots_total, exact_dots}
 use Rattle.dac_dots.specs.declared.dot.Dot.{Dot}
-use Rattle.dac_lattice.specs.Lattices.{IsLattice, IsIn}
+use Rattle.dac_lattice.specs.Lattices.{IsLattice, IsOptionOf}
 use Rattle.dac_lattice.specs.Maps.{IsMap}
 use Rattle.dac_lattice.specs.laws.Entries.{sorted_merge, find_merge}
-use Rattle.dac_store.specs.Stores.{IsWithin, IsDotStore}
+use Rattle.dac_store.specs.Stores.{IsStoreWithin, IsDotStore}
 use Rattle.dac_store.specs.AtDot.{StandsBelow, join_at, Under}
 use Rattle.dac_store.specs.laws.AtDot.{at_alone, at_alone_right, at_unheard, at_refl, at_trans, at_antisymm, at_closed, at_comes, at_left, at_right, at_least}
 use Rattle.dac_store.specs.DotFuns.{IsFunBelow, has_dot, is_empty_list, join_funs}
@@ -28,7 +28,7 @@ when_empty (x ∷ xs) e = absurd (false≢true e)
 
 module _ {V : Type 0} {is_value : V → Type 0} {below : V → V → Type 0} {join : V → V → V} (laws : IsLattice is_value below join) where
   abbrev IsFunWithin : List (Dot × V) → Dots → Type 0
-  IsFunWithin = IsWithin (IsMap dot_cmp is_value) has_dot
+  IsFunWithin = IsStoreWithin (IsMap dot_cmp is_value) has_dot
 
   under : (s : List (Dot × V)) (c : Dots) → IsFunWithin s c → (x : Dot) → Under is_value (set.contains c x) (find dot_cmp x s)
   under s c u x = (u.store.values x, u.held x)
@@ -45,7 +45,7 @@ module _ {V : Type 0} {is_value : V → Type 0} {below : V → V → Type 0} {jo
     antisymm = λ s t c us ut p q. same_entries dot_cmp dots_total exact_dots s t us.store.in_order ut.store.in_order (λ x. at_antisymm laws (set.contains c x) _ _ (under s c us x) (under t c ut x) (p x) (q x));
     stored = λ s c t d us ut. record {
       in_order = sorted_merge dots_total exact_dots (λ x. join_at join (set.contains c x) (set.contains d x)) s t us.in_order ut.in_order;
-      values = λ x. subst (IsIn is_value) (sym (find_join s c t d us ut x)) (at_closed laws (set.contains c x) (set.contains d x) _ _ (us.values x) (ut.values x));
+      values = λ x. subst (IsOptionOf is_value) (sym (find_join s c t d us ut x)) (at_closed laws (set.contains c x) (set.contains d x) _ _ (us.values x) (ut.values x));
     };
     comes = λ s c t d x us ut h. at_comes laws (set.contains c x) (set.contains d x) _ _ (ap is_some (sym (find_join s c t d us ut x)) ∙ h);
     left = λ s c t d us ut x h. subst (StandsBelow below (find dot_cmp x s)) (sym (find_join s c t d us.store ut.store x)) (at_left laws (set.contains c x) (set.contains d x) _ _ (under s c us x) (under t d ut x) h);

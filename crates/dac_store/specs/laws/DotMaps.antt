@@ -14,7 +14,7 @@ use Rattle.dac_dots.specs.Dots.{Dots}
 use Rattle.dac_dots.specs.declared.dot.Dot.{Dot}
 use Rattle.dac_lattice.specs.laws.Entries.{sorted_merge, find_merge, find_below}
 use Rattle.dac_lattice.specs.laws.EntryLaws.{first, second}
-use Rattle.dac_store.specs.Stores.{IsWithin, IsDotStore}
+use Rattle.dac_store.specs.Stores.{IsStoreWithin, IsDotStore}
 use Rattle.dac_store.specs.DotFuns.{is_empty_list}
 use Rattle.dac_store.specs.laws.DotFuns.{when_empty}
 use Rattle.dac_store.specs.DotMaps.{IsKept, IsKeyed, IsKeyedBelow, has_in, join_keyed, store_at, unless_empty}
@@ -73,9 +73,9 @@ module _ {K : Type 0} {R : K → K → Ordering} (o : IsTotalOrder R) (exact : C
   ]
 
   abbrev IsKeyedWithin : List (K × S) → Dots → Type 0
-  IsKeyedWithin = IsWithin (IsKeyed R is_store is_empty) (has_in has)
+  IsKeyedWithin = IsStoreWithin (IsKeyed R is_store is_empty) (has_in has)
 
-  within_at : (m : List (K × S)) (c : Dots) → IsKeyedWithin m c → (k : K) → IsWithin is_store has (store_at nothing (find R k m)) c
+  within_at : (m : List (K × S)) (c : Dots) → IsKeyedWithin m c → (k : K) → IsStoreWithin is_store has (store_at nothing (find R k m)) c
   within_at m c u k = record { store = at_store _ (u.store.stores k); held = λ x e. u.held x (has_found m k x e) }
 
   -- what is at a key of a join, before it is dropped where it has no dots

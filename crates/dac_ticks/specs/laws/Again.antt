@@ -38,7 +38,7 @@ use Rattle.dac_ticks.specs.Ticks.{Turn, turn_from, claim_of, is_mine, turn_over}
 use Rattle.dac_ticks.specs.Again.{IsAmong, noting, SecondTickClaimsNothing}
 use Rattle.dac_ticks.specs.laws.Turning.{numbered, apps_from, turned_by, turn_more}
 use Rattle.dac_ticks.specs.laws.Words.{is_own, own_if}
-use Rattle.dac_ticks.specs.laws.Claimed.{Alike, alike_itself, alike_through, alike_back, claim_alike, claim_state, other_claim, own_claim, claimed_as}
+use Rattle.dac_ticks.specs.laws.Claimed.{MayRunAlike, alike_itself, alike_through, alike_back, claim_alike, claim_state, other_claim, own_claim, claimed_as}
 
 -- ---- lists
 
@@ -73,7 +73,7 @@ fewer p q within (x ∷ xs) = by_tests (p x) (q x) (within x) (filter p xs) (fil
 abbrev places : Lives → Permits → Writes → Drains → Claims → StateValue
 places lives permits starts drains claims = record { heard = set.empty; known = set.empty; permits = permits; starts = starts; lives = lives; claims = claims; drains = drains }
 
-module _ (t : Table) (s u : StateValue) (a : Alike s u) (app : AppId) where
+module _ (t : Table) (s u : StateValue) (a : MayRunAlike s u) (app : AppId) where
   eligible_alike : (n : NodeId) → is_eligible t s app n ≡ is_eligible t u app n
   eligible_alike n = λ i. is_eligible t (places (a.lives i) (a.permits i) (a.starts i) (a.drains i) map.empty) app n
 
@@ -116,7 +116,7 @@ module _ (t : Table) (own : Origin) where
     pub eligible : IsEligible t s app own.node
     pub earliest : EachEligible t s app (λ m. ¬ IsEarlier t app m own.node)
 
-  pub takes_alike : (s u : StateValue) → Alike s u → (app : AppId) → map.get s.claims app ≡ map.get u.claims app → Takes s app → Takes u app
+  pub takes_alike : (s u : StateValue) → MayRunAlike s u → (app : AppId) → map.get s.claims app ≡ map.get u.claims app → Takes s app → Takes u app
   takes_alike s u a app same takes = record {
     holder = sym (holder_alike t s u a app same) ∙ takes.holder;
     eligible = to_eligible t s u a app own.node takes.eligible;
@@ -182,7 +182,7 @@ module _ (t : Table) (own : Origin) where
 
   -- u is s with claims of the incarnation, of applications from lo on and below hi, which it holds
   pub record Later (lo hi : ℕ) (s u : StateValue) : Type 0 where
-    pub alike : Alike s u
+    pub alike : MayRunAlike s u
     pub claims : (b : AppId) → (map.get s.claims b ≡ map.get u.claims b) ⊎ ((lo ≤ b.0) × ((b.0 < hi) × Takes u b))
 
   later_itself : (lo : ℕ) (s : StateValue) → Later lo lo s s
@@ -202,8 +202,8 @@ module _ (t : Table) (own : Origin) where
     abbrev after_act : Act → StateValue
     after_act act = join u (meaning_of (next_operation u own act ∷ []))
 
-    pub after_alike : Alike u (after u app)
-    after_alike = let by = claimed_as u app (verdict_of t u app) in subst (λ act. Alike u (after_act act)) (sym by.2) (claim_alike own u app by.0 by.1 is)
+    pub after_alike : MayRunAlike u (after u app)
+    after_alike = let by = claimed_as u app (verdict_of t u app) in subst (λ act. MayRunAlike u (after_act act)) (sym by.2) (claim_alike own u app by.0 by.1 is)
 
     pub after_state : IsState (after u app)
     after_state = let by = claimed_as u app (verdict_of t u app) in subst (λ act. IsState (after_act act)) (sym by.2) (claim_state own u app by.0 by.1 is)

@@ -67,19 +67,19 @@ both_ways false true there back = back refl
 both_ways false false there back = refl
 
 -- who may run what is alike in both: all but what was heard and who claims
-pub record Alike (s t : StateValue) : Type 0 where
+pub record MayRunAlike (s t : StateValue) : Type 0 where
   pub lives : s.lives ≡ t.lives
   pub permits : s.permits ≡ t.permits
   pub starts : s.starts ≡ t.starts
   pub drains : s.drains ≡ t.drains
 
-pub alike_itself : (s : StateValue) → Alike s s
+pub alike_itself : (s : StateValue) → MayRunAlike s s
 alike_itself s = record { lives = refl; permits = refl; starts = refl; drains = refl }
 
-pub alike_through : (s t u : StateValue) → Alike s t → Alike t u → Alike s u
+pub alike_through : (s t u : StateValue) → MayRunAlike s t → MayRunAlike t u → MayRunAlike s u
 alike_through s t u a b = record { lives = a.lives ∙ b.lives; permits = a.permits ∙ b.permits; starts = a.starts ∙ b.starts; drains = a.drains ∙ b.drains }
 
-pub alike_back : (s t : StateValue) → Alike s t → Alike t s
+pub alike_back : (s t : StateValue) → MayRunAlike s t → MayRunAlike t s
 alike_back s t a = record { lives = sym a.lives; permits = sym a.permits; starts = sym a.starts; drains = sym a.drains }
 
 -- votes stay beside what has none and doesn't know their dots
@@ -170,7 +170,7 @@ module _ (own : Origin) (s : StateValue) (app : AppId) (how : How) (from : Optio
     no_drain : (w : DrainWrite) → map.get m.drains w ≡ None
     no_drain w = drains-meaning (o ∷ []) w ∙ unsaid (is_replaced w.dot (o ∷ []))
 
-    pub claim_alike : Alike s after
+    pub claim_alike : MayRunAlike s after
     claim_alike = record {
       lives = sym lives_after;
       permits = sym (ap (λ (v : PermissionsValue). v.standing) (permissions-join s m) ∙ votes_stay keys_total exact_keys (permissions_of s) (permissions_of m) no_permit (λ w h. apart w.dot (is.permits w h)));

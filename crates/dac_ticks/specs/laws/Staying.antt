@@ -15,7 +15,7 @@ use Rattle.dac_chains.specs.Lives.{IsLive, Lives}
 use Rattle.dac_operations.specs.declared.act.Act.TheVariants.{Claim}
 use Rattle.dac_operations.specs.Operations.{Operation}
 use Rattle.dac_meaning.specs.StateValue.{StateValue, IsState, join}
-use Rattle.dac_meaning.specs.Meaning.{In, meaning_of}
+use Rattle.dac_meaning.specs.Meaning.{IsOperationOf, meaning_of}
 use Rattle.dac_meaning.specs.laws.Members.{In-append_cases}
 use Rattle.dac_placement.specs.Placement.{IsUp, IsVerdict, candidate_of, verdict_of}
 use Rattle.dac_placement.specs.laws.Tests.{runs_is}
@@ -26,7 +26,7 @@ use Rattle.dac_ticks.specs.Ticks.{Turn, turn_from, claiming, claim_of, turned, t
 use Rattle.dac_ticks.specs.Staying.{ClaimsApp, ClaimsAreLater, ClaimsStay}
 use Rattle.dac_ticks.specs.laws.Turning.{turned_by}
 use Rattle.dac_ticks.specs.laws.Words.{own_if}
-use Rattle.dac_ticks.specs.laws.Claimed.{Alike, alike_itself, alike_through, claimed_as, own_claim}
+use Rattle.dac_ticks.specs.laws.Claimed.{MayRunAlike, alike_itself, alike_through, claimed_as, own_claim}
 use Rattle.dac_ticks.specs.laws.Again.{Takes, takes_alike, takes_kept, takes_runs, first_of, after, after_alike, after_state, after_other, after_takes, kept_here}
 
 -- a claim is of one application and under one term
@@ -62,10 +62,10 @@ module _ (t : Table) (own : Origin) (waits : List (Option Noted)) (now : ℕ) (s
   -- terms. An incarnation that is live holds what it claimed.
   record Holds (turn : Turn) : Type 0 where
     state : IsState turn.state
-    alike : Alike s turn.state
+    alike : MayRunAlike s turn.state
     grown : (app : AppId) → next_term s app ≤ next_term turn.state app
-    later : (o : Operation) (app : AppId) → In o turn.ops → (c : ClaimsApp app o) → next_term s app ≤ c.0
-    held : IsUp s own → (o : Operation) (app : AppId) → In o turn.ops → ClaimsApp app o → IsHeld turn.state app
+    later : (o : Operation) (app : AppId) → IsOperationOf o turn.ops → (c : ClaimsApp app o) → next_term s app ≤ c.0
+    held : IsUp s own → (o : Operation) (app : AppId) → IsOperationOf o turn.ops → ClaimsApp app o → IsHeld turn.state app
 
   more : (a b c : ℕ) → a ≤ b → c ≡ b + 1 → a ≤ c
   more a b c le e = omega arith
@@ -84,7 +84,7 @@ module _ (t : Table) (own : Origin) (waits : List (Option Noted)) (now : ℕ) (s
     abbrev claim : Operation
     claim = claim_of t own u app
 
-    left_alike : Alike u left
+    left_alike : MayRunAlike u left
     left_alike = after_alike t own u g.state app
 
     -- it is the claim of this application under its next term

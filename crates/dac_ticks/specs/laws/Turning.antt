@@ -18,7 +18,7 @@ use Rattle.dac_commands.specs.Commands.{KnowsItself, greatest_counter}
 use Rattle.dac_commands.specs.Causes.{terms_used_up}
 use Rattle.dac_ticks.specs.Ticks.{Turn, turn_from, passing, claiming, claimed_by, claim_of, is_mine, turned, turn_over, turn_of}
 use Rattle.dac_ticks.specs.declared.turning.Found.TheVariants.{Left, Passed, Claimed}
-use Rattle.dac_ticks.specs.Progress.{found_of, added}
+use Rattle.dac_ticks.specs.TurnSoFar.{found_of, added}
 use Rattle.dac_ticks.specs.laws.Counters.{counter_after, knows_after}
 
 -- ---- applications by their numbers

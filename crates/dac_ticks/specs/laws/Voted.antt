@@ -25,7 +25,7 @@ use Rattle.dac_wishes.specs.laws.Votes.{standing-join_votes}
 use Rattle.dac_operations.specs.declared.act.Act.{Act}
 use Rattle.dac_operations.specs.Operations.{Operation, over_list}
 use Rattle.dac_meaning.specs.StateValue.{StateValue}
-use Rattle.dac_meaning.specs.Meaning.{meaning_of, is_same, flag_said, told, vote_at}
+use Rattle.dac_meaning.specs.Meaning.{meaning_of, is_same, flag_said, vote_says, vote_at}
 use Rattle.dac_meaning.specs.laws.Readers.{known-meaning}
 use Rattle.dac_commands.specs.Commands.{greatest_counter, next_operation}
 use Rattle.dac_commands.specs.laws.Counters.{counter-greatest}
@@ -109,7 +109,7 @@ module _ {K : Type 0} {R : K → K → Ordering} (total : IsTotalOrder R) (exact
     abbrev said_by : Dot → Option (K × Bool) → Option Flag
     said_by d said =
         cond (has_key dot_cmp (over_list act) d || false) None
-        (flag_said ((told R key down said && same_dot d next) || false) ((told R key (not down) said && same_dot d next) || false))
+        (flag_said ((vote_says R key down said && same_dot d next) || false) ((vote_says R key (not down) said && same_dot d next) || false))
 
     says : (d : Dot) → map.get new (keyed_write key d) ≡ said_at (has_key dot_cmp (over_list act) d) (same_dot d next)
     says d = is.says (keyed_write key d) ∙ ap (said_by d) is.votes

@@ -33,7 +33,7 @@ use Rattle.dac_commands.specs.laws.Counters.{next_of_is}
 use Rattle.dac_commands.specs.laws.Terms.{terms_used_up_is, next_claim_is}
 use Rattle.dac_ticks.specs.Ticks.{Turn, turn_from, passing, claiming, held_by, claimed_by, claim_of, is_mine, turn_over, turn_of}
 use Rattle.dac_ticks.specs.declared.turning.Found.TheVariants.{Left, Passed, Claimed}
-use Rattle.dac_ticks.specs.Progress.{found_of}
+use Rattle.dac_ticks.specs.TurnSoFar.{found_of}
 use Rattle.dac_ticks.specs.InWords.{IsMine, IsNotMine, ComesBy, IsClaimOf, IsTurn, HasRoom}
 use Rattle.dac_ticks.specs.laws.Counters.{counter_after}
 use Rattle.dac_ticks.specs.laws.Turning.{AreBelow, numbered, apps_below, claim_is_bare, turned_by}

@@ -16,17 +16,17 @@ use Rattle.dac_journal.specs.Histories.{off_after}
 use Rattle.dac_journal.specs.ModelWorld.{ModelWorld, start, happens, event_of, heard_by, handed_by, counted}
 use Rattle.dac_journal.specs.declared.record.Record.{Record}
 use Rattle.dac_journal.specs.Journals.{JournalValue}
-use Rattle.dac_weave.specs.Woven.{Seen, seen_of, seen_at, seen_in, as_seen, told, At, IsFrontOf, HasNone, GivesFronts}
+use Rattle.dac_weave.specs.Woven.{Seen, seen_of, seen_at, seen_in, as_seen, journal_seen, At, IsFrontOf, HasNone, GivesFronts}
 use Rattle.dac_journal.specs.EveryList.{run_from}
 use Rattle.dac_weave.specs.Replay.{node_step, replayed}
-use Rattle.dac_weave.specs.laws.Members.{In, in-from_counted, counted-from_in}
+use Rattle.dac_weave.specs.laws.Members.{IsMember, in-from_counted, counted-from_in}
 use Rattle.dac_weave.specs.laws.Runs.{node-after, count-after, seen-append, steps_node, outs, outs-front, sent, from, grows, shipped_of, issued_of}
 
 -- ---- which world event is a node's event
 -- what was shipped and issued in one world was so in another
 pub record Has (w v : ModelWorld) : Type 0 where
-  pub messages : (m : Message) → In m w.messages → In m v.messages
-  pub operations : (o : Operation) → In o w.operations → In o v.operations
+  pub messages : (m : Message) → IsMember m w.messages → IsMember m v.messages
+  pub operations : (o : Operation) → IsMember o w.operations → IsMember o v.operations
 
 heard-from : (o : Option Message) (e : Event) → heard_by o ≡ Ok e → (m : Message) × (o ≡ Some m)
 heard-from None e h = cc
@@ -56,30 +56,30 @@ named_still w v has (Hand k) e h =
 pub same_number : (m n : NodeId) → nat_eq m.0 n.0 ≡ true → m ≡ n
 same_number m n e = ap (λ (k : ℕ). record { 0 = k }) (exact_unsigned_eq m.0 n.0 e)
 
-pub has_journal : (js : List JournalValue) (n : NodeId) → ((i : ℕ) × ((j : JournalValue) × (At js i j × (j.opening.node ≡ n)))) ⊎ HasNone js n
+pub has_journal : (js : List JournalValue) (n : NodeId) → ((i : ℕ) × ((j : JournalValue) × (At js i j × (j.beginning.node ≡ n)))) ⊎ HasNone js n
 has_journal [] n = inr (λ i j at is. cc)
 has_journal (b ∷ js) n =
-    elim (nat_eq b.opening.node.0 n.0) as (λ t. nat_eq b.opening.node.0 n.0 ≡ t → ((i : ℕ) × ((j : JournalValue) × (At (b ∷ js) i j × (j.opening.node ≡ n)))) ⊎ HasNone (b ∷ js) n) [
-      | true ↦ λ e. inl (0, (b, (refl, same_number b.opening.node n e)))
+    elim (nat_eq b.beginning.node.0 n.0) as (λ t. nat_eq b.beginning.node.0 n.0 ≡ t → ((i : ℕ) × ((j : JournalValue) × (At (b ∷ js) i j × (j.beginning.node ≡ n)))) ⊎ HasNone (b ∷ js) n) [
+      | true ↦ λ e. inl (0, (b, (refl, same_number b.beginning.node n e)))
       | false ↦ λ e. elim (has_journal js n) [
         | inl h ↦ inl (suc h.0, (h.1.0, (h.1.1.0, h.1.1.1)))
         | inr none ↦ inr (apart e none)
       ]
     ] refl
   where
-    number : (a j : JournalValue) → Some a ≡ Some j → a.opening.node.0 ≡ j.opening.node.0
+    number : (a j : JournalValue) → Some a ≡ Some j → a.beginning.node.0 ≡ j.beginning.node.0
     number a j at = cc
 
-    apart : nat_eq b.opening.node.0 n.0 ≡ false → HasNone js n → HasNone (b ∷ js) n
-    apart e none zero j at is = true≢false (sym (eq-eqb b.opening.node.0 n.0 (number b j at ∙ ap (λ (k : NodeId). k.0) is)) ∙ e)
+    apart : nat_eq b.beginning.node.0 n.0 ≡ false → HasNone js n → HasNone (b ∷ js) n
+    apart e none zero j at is = true≢false (sym (eq-eqb b.beginning.node.0 n.0 (number b j at ∙ ap (λ (k : NodeId). k.0) is)) ∙ e)
     apart e none (suc i) j at is = none i j at is
 
--- ---- what is told are records
-told-record : (rs : List Record) (xs : List Seen) (x : Seen) (ys : List Seen) → map as_seen rs ≡ xs ++ x ∷ ys → (r : Record) × (x ≡ as_seen r)
-told-record [] [] x ys h = cc
-told-record [] (z ∷ zs) x ys h = cc
-told-record (r ∷ rs) [] x ys h = (r, cc)
-told-record (r ∷ rs) (z ∷ zs) x ys h = told-record rs zs x ys (cc)
+-- ---- what a journal's node saw are records
+journal_seen-record : (rs : List Record) (xs : List Seen) (x : Seen) (ys : List Seen) → map as_seen rs ≡ xs ++ x ∷ ys → (r : Record) × (x ≡ as_seen r)
+journal_seen-record [] [] x ys h = cc
+journal_seen-record [] (z ∷ zs) x ys h = cc
+journal_seen-record (r ∷ rs) [] x ys h = (r, cc)
+journal_seen-record (r ∷ rs) (z ∷ zs) x ys h = journal_seen-record rs zs x ys (cc)
 
 -- ---- fronts
 -- the same list goes on with the same
@@ -101,7 +101,7 @@ module _ (t : Table) (js : List JournalValue) (es : List WorldEvent) where
 
   -- no journal's next record can be placed
   abbrev pub Stands : Type 0
-  Stands = (i : ℕ) (j : JournalValue) → At js i j → (x : Seen) → IsFrontOf (seen_in t es j.opening.node ++ x ∷ []) (told j) → x.answer ≡ (node_step t j.opening.node (final.node j.opening.node) x.event).answer → (what : What) → event_of final.operations final.messages what ≡ x.event → ⊥
+  Stands = (i : ℕ) (j : JournalValue) → At js i j → (x : Seen) → IsFrontOf (seen_in t es j.beginning.node ++ x ∷ []) (journal_seen j) → x.answer ≡ (node_step t j.beginning.node (final.node j.beginning.node) x.event).answer → (what : What) → event_of final.operations final.messages what ≡ x.event → ⊥
 
   -- another run, no further than this one anywhere
   abbrev pub Behind : List WorldEvent → Type 0
@@ -112,12 +112,12 @@ module _ (t : Table) (js : List JournalValue) (es : List WorldEvent) where
     messages = λ m h. elim (from t shipped_of (λ w. w.messages) (λ w e. (grows t w e).messages) m (start t) gs h) [
       | inl a ↦ absurd a
       | inr b ↦ sent t shipped_of (λ w. w.messages) (λ w e. (grows t w e).messages) m b.0 (start t) es
-          (subst (λ xs. In m (outs t shipped_of (λ w. w.messages) (λ w e. (grows t w e).messages) xs)) (sym (behind b.0).1) (outs-front t shipped_of (λ w. w.messages) (λ w e. (grows t w e).messages) m (seen_in t gs b.0) (behind b.0).0 b.1))
+          (subst (λ xs. IsMember m (outs t shipped_of (λ w. w.messages) (λ w e. (grows t w e).messages) xs)) (sym (behind b.0).1) (outs-front t shipped_of (λ w. w.messages) (λ w e. (grows t w e).messages) m (seen_in t gs b.0) (behind b.0).0 b.1))
     ];
     operations = λ o h. elim (from t issued_of (λ w. w.operations) (λ w e. (grows t w e).operations) o (start t) gs h) [
       | inl a ↦ absurd a
       | inr b ↦ sent t issued_of (λ w. w.operations) (λ w e. (grows t w e).operations) o b.0 (start t) es
-          (subst (λ xs. In o (outs t issued_of (λ w. w.operations) (λ w e. (grows t w e).operations) xs)) (sym (behind b.0).1) (outs-front t issued_of (λ w. w.operations) (λ w e. (grows t w e).operations) o (seen_in t gs b.0) (behind b.0).0 b.1))
+          (subst (λ xs. IsMember o (outs t issued_of (λ w. w.operations) (λ w e. (grows t w e).operations) xs)) (sym (behind b.0).1) (outs-front t issued_of (λ w. w.operations) (λ w e. (grows t w e).operations) o (seen_in t gs b.0) (behind b.0).0 b.1))
     ];
   }
 
@@ -146,34 +146,34 @@ module _ (t : Table) (js : List JournalValue) (es : List WorldEvent) where
     all_seen gs f fs n e = seen-append t n (start t) gs (f ∷ fs) ∙ ap (λ b. seen_in t gs n ++ cond b (seen_next gs f ∷ later gs f fs n) (later gs f fs n)) e
 
     -- it isn't the first that this run lacks
-    not_lacking : (gs : List WorldEvent) (f : WorldEvent) (fs : List WorldEvent) (i : ℕ) (j : JournalValue) → At js i j → Next gs f fs j.opening.node → seen_in t es j.opening.node ≡ seen_in t gs j.opening.node → ⊥
+    not_lacking : (gs : List WorldEvent) (f : WorldEvent) (fs : List WorldEvent) (i : ℕ) (j : JournalValue) → At js i j → Next gs f fs j.beginning.node → seen_in t es j.beginning.node ≡ seen_in t gs j.beginning.node → ⊥
     not_lacking gs f fs i j at next same =
-        let n = j.opening.node in
+        let n = j.beginning.node in
         let x = seen_next gs f in
         let r = (next.whole.each i j at).0 in
-        let is : told j ≡ (seen_in t gs n ++ x ∷ later gs f fs n) ++ r = (next.whole.each i j at).1 ∙ ap (λ (xs : List Seen). xs ++ r) (all_seen gs f fs n next.at) in
-        let front : told j ≡ (seen_in t es n ++ x ∷ []) ++ (later gs f fs n ++ r) =
+        let is : journal_seen j ≡ (seen_in t gs n ++ x ∷ later gs f fs n) ++ r = (next.whole.each i j at).1 ∙ ap (λ (xs : List Seen). xs ++ r) (all_seen gs f fs n next.at) in
+        let front : journal_seen j ≡ (seen_in t es n ++ x ∷ []) ++ (later gs f fs n ++ r) =
         is ∙ (append_assoc (seen_in t gs n) (x ∷ later gs f fs n) r ∙ (ap (λ (xs : List Seen). xs ++ x ∷ (later gs f fs n ++ r)) (sym same) ∙ sym (append_assoc (seen_in t es n) (x ∷ []) (later gs f fs n ++ r)))) in
-        let rec = told-record j.records (seen_in t gs n) x (later gs f fs n ++ r) (is ∙ append_assoc (seen_in t gs n) (x ∷ later gs f fs n) r) in
+        let rec = journal_seen-record j.records (seen_in t gs n) x (later gs f fs n ++ r) (is ∙ append_assoc (seen_in t gs n) (x ∷ later gs f fs n) r) in
         let named = named_still (world_of gs) final (behind_has gs next.behind) f.what rec.0.event (ap (λ (s : Seen). s.event) rec.1) in
         let answer : x.answer ≡ (node_step t n (final.node n) x.event).answer =
         ◌∙◌ {a = x.answer} (steps_node t n (world_of gs) f (count-after t (start t) gs refl) next.at).answer (ap (λ d. (node_step t n d x.event).answer) (same_there gs n same)) in
         stands i j at x (later gs f fs n ++ r, front) answer named.0 (named.1 ∙ sym (ap (λ (s : Seen). s.event) rec.1))
 
-    at_journal : (gs : List WorldEvent) (f : WorldEvent) (fs : List WorldEvent) (i : ℕ) (j : JournalValue) → At js i j → Next gs f fs j.opening.node → (left : List Seen) → seen_in t es j.opening.node ≡ seen_in t gs j.opening.node ++ left → IsFrontOf (seen_in t gs j.opening.node ++ seen_next gs f ∷ []) (seen_in t es j.opening.node)
-    at_journal gs f fs i j at next [] q = absurd (not_lacking gs f fs i j at next (q ∙ append-nil (seen_in t gs j.opening.node)))
+    at_journal : (gs : List WorldEvent) (f : WorldEvent) (fs : List WorldEvent) (i : ℕ) (j : JournalValue) → At js i j → Next gs f fs j.beginning.node → (left : List Seen) → seen_in t es j.beginning.node ≡ seen_in t gs j.beginning.node ++ left → IsFrontOf (seen_in t gs j.beginning.node ++ seen_next gs f ∷ []) (seen_in t es j.beginning.node)
+    at_journal gs f fs i j at next [] q = absurd (not_lacking gs f fs i j at next (q ∙ append-nil (seen_in t gs j.beginning.node)))
     at_journal gs f fs i j at next (y ∷ ys) q =
-        let n = j.opening.node in
+        let n = j.beginning.node in
         let x = seen_next gs f in
         let theirs = next.whole.each i j at in
         let mine = own.each i j at in
-        let is : x ≡ y = next_same (seen_in t gs n) x y (later gs f fs n) ys theirs.0 mine.0 (told j) (theirs.1 ∙ ap (λ (xs : List Seen). xs ++ theirs.0) (all_seen gs f fs n next.at)) (mine.1 ∙ ap (λ (xs : List Seen). xs ++ mine.0) q) in
+        let is : x ≡ y = next_same (seen_in t gs n) x y (later gs f fs n) ys theirs.0 mine.0 (journal_seen j) (theirs.1 ∙ ap (λ (xs : List Seen). xs ++ theirs.0) (all_seen gs f fs n next.at)) (mine.1 ∙ ap (λ (xs : List Seen). xs ++ mine.0) q) in
         (ys, q ∙ (ap (λ z. seen_in t gs n ++ z ∷ ys) (sym is) ∙ sym (append_assoc (seen_in t gs n) (x ∷ []) ys)))
 
     at_node : (gs : List WorldEvent) (f : WorldEvent) (fs : List WorldEvent) (n : NodeId) → Next gs f fs n → IsFrontOf (seen_in t gs n ++ seen_next gs f ∷ []) (seen_in t es n)
     at_node gs f fs n next = elim (has_journal js n) [
       | inl h ↦ subst (λ (m : NodeId). Next gs f fs m → IsFrontOf (seen_in t gs m ++ seen_next gs f ∷ []) (seen_in t es m)) h.1.1.1
-          (λ (here : Next gs f fs h.1.0.opening.node). at_journal gs f fs h.0 h.1.0 h.1.1.0 here (here.behind h.1.0.opening.node).0 (here.behind h.1.0.opening.node).1) next
+          (λ (here : Next gs f fs h.1.0.beginning.node). at_journal gs f fs h.0 h.1.0 h.1.1.0 here (here.behind h.1.0.beginning.node).0 (here.behind h.1.0.beginning.node).1) next
       | inr none ↦ absurd (no_more (seen_in t gs n) (seen_next gs f) (later gs f fs n) (sym (all_seen gs f fs n next.at) ∙ next.whole.others n none))
     ]
 

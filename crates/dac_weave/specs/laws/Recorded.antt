@@ -84,19 +84,19 @@ enough-seen t n w (e ∷ es) =
       | false ↦ later
     ]
 
-entries-told : (rs : List Record) → AllEnough (map as_seen rs) → entries_of (map as_seen rs) ≡ map entry_of rs
-entries-told [] h = refl
-entries-told (r ∷ rs) h =
+entries-journal_seen : (rs : List Record) → AllEnough (map as_seen rs) → entries_of (map as_seen rs) ≡ map entry_of rs
+entries-journal_seen [] h = refl
+entries-journal_seen (r ∷ rs) h =
     ap (λ o. recorded o (Ok r.event) ++ entries_of (map as_seen rs)) (own-worldly r.answer (λ e. h.0 (ap worldly e)))
-    ∙ ap (λ (xs : List Entry). entry_of r ∷ xs) (entries-told rs h.1)
+    ∙ ap (λ (xs : List Entry). entry_of r ∷ xs) (entries-journal_seen rs h.1)
 
 -- what a run gives it records
 pub gives-recorded : (t : Table) (js : List JournalValue) (es : List WorldEvent) → Gives t js es → IsRecorded t js es
 gives-recorded t js es g = record {
   fit = g.fit;
   each = λ i j at.
-      let n = j.opening.node in
-      records-seen t n (start t) es ∙ (ap entries_of (g.each i j at) ∙ entries-told j.records (subst AllEnough (g.each i j at) (enough-seen t n (start t) es)));
+      let n = j.beginning.node in
+      records-seen t n (start t) es ∙ (ap entries_of (g.each i j at) ∙ entries-journal_seen j.records (subst AllEnough (g.each i j at) (enough-seen t n (start t) es)));
   others = λ n none. records-seen t n (start t) es ∙ ap entries_of (g.others n none);
 }
 
@@ -187,6 +187,6 @@ entries-seen (r ∷ rs) = ap (λ (xs : List Seen). as_seen r ∷ xs) (entries-se
 pub recorded-gives : (t : Table) (js : List JournalValue) (es : List WorldEvent) → IsRecorded t js es → Gives t js (kept t (start t) es)
 recorded-gives t js es h = record {
   fit = h.fit;
-  each = λ i j at. kept-seen t j.opening.node (start t) es ∙ (ap (λ (xs : List Entry). map seen_entry xs) (h.each i j at) ∙ entries-seen j.records);
+  each = λ i j at. kept-seen t j.beginning.node (start t) es ∙ (ap (λ (xs : List Entry). map seen_entry xs) (h.each i j at) ∙ entries-seen j.records);
   others = λ n none. kept-seen t n (start t) es ∙ ap (λ (xs : List Entry). map seen_entry xs) (h.others n none);
 }

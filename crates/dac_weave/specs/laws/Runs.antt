@@ -19,7 +19,7 @@ use Rattle.dac_journal.specs.ModelWorld.{ModelWorld, WorldStepped, happens, happ
 use Rattle.dac_weave.specs.Woven.{Seen, seen_of, seen_at}
 use Rattle.dac_weave.specs.Replay.{NodeStepped, moved, node_step, node_step_by, replayed, AreAnswered}
 use Rattle.dac_journal.specs.EveryList.{run_from}
-use Rattle.dac_weave.specs.laws.Members.{In, In-left, In-right, In-cases, not_true}
+use Rattle.dac_weave.specs.laws.Members.{IsMember, In-left, In-right, In-cases, not_true}
 
 -- ---- one event
 same_node : (m n : NodeId) → nat_eq m.0 n.0 ≡ true → m ≡ n
@@ -132,49 +132,49 @@ module _ {X : Type 0} (t : Table) (out : Result Reply WorldFault → List X) (al
   outs [] = []
   outs (x ∷ xs) = out x.answer ++ outs xs
 
-  pub outs-front : (x : X) (xs ys : List Seen) → In x (outs xs) → In x (outs (xs ++ ys))
+  pub outs-front : (x : X) (xs ys : List Seen) → IsMember x (outs xs) → IsMember x (outs (xs ++ ys))
   outs-front x [] ys h = elim h [ ]
   outs-front x (s ∷ xs) ys h = elim (In-cases x (out s.answer) (outs xs) h) [
     | inl a ↦ In-left x (out s.answer) (outs (xs ++ ys)) a
     | inr b ↦ In-right x (out s.answer) (outs (xs ++ ys)) (outs-front x xs ys b)
   ]
 
-  stays : (x : X) (w : ModelWorld) (es : List WorldEvent) → In x (all w) → In x (all (run_from t w es))
+  stays : (x : X) (w : ModelWorld) (es : List WorldEvent) → IsMember x (all w) → IsMember x (all (run_from t w es))
   stays x w [] h = h
-  stays x w (e ∷ es) h = stays x (happens t w e).world es (subst (In x) (sym (grows w e)) (In-left x (all w) (out (happens t w e).answer) h))
+  stays x w (e ∷ es) h = stays x (happens t w e).world es (subst (IsMember x) (sym (grows w e)) (In-left x (all w) (out (happens t w e).answer) h))
 
-  pub sent : (x : X) (n : NodeId) (w : ModelWorld) (es : List WorldEvent) → In x (outs (seen_at t n w es)) → In x (all (run_from t w es))
+  pub sent : (x : X) (n : NodeId) (w : ModelWorld) (es : List WorldEvent) → IsMember x (outs (seen_at t n w es)) → IsMember x (all (run_from t w es))
   sent x n w [] = λ h. absurd h
   sent x n w (e ∷ es) =
       let next = (happens t w e).world in
       let rest = seen_at t n next es in
-      elim (nat_eq e.node.0 n.0) as (λ b. In x (outs (cond b (seen_of t w e ∷ rest) rest)) → In x (all (run_from t next es))) [
+      elim (nat_eq e.node.0 n.0) as (λ b. IsMember x (outs (cond b (seen_of t w e ∷ rest) rest)) → IsMember x (all (run_from t next es))) [
         | true ↦ λ h. elim (In-cases x (out (happens t w e).answer) (outs rest) h) [
-          | inl a ↦ stays x next es (subst (In x) (sym (grows w e)) (In-right x (all w) (out (happens t w e).answer) a))
+          | inl a ↦ stays x next es (subst (IsMember x) (sym (grows w e)) (In-right x (all w) (out (happens t w e).answer) a))
           | inr b ↦ sent x n next es b
         ]
         | false ↦ λ h. sent x n next es h
       ]
 
-  sent_more : (x : X) (n : NodeId) (w : ModelWorld) (e : WorldEvent) (es : List WorldEvent) → In x (outs (seen_at t n (happens t w e).world es)) → In x (outs (seen_at t n w (e ∷ es)))
+  sent_more : (x : X) (n : NodeId) (w : ModelWorld) (e : WorldEvent) (es : List WorldEvent) → IsMember x (outs (seen_at t n (happens t w e).world es)) → IsMember x (outs (seen_at t n w (e ∷ es)))
   sent_more x n w e es h =
       let rest = seen_at t n (happens t w e).world es in
-      elim (nat_eq e.node.0 n.0) as (λ b. In x (outs (cond b (seen_of t w e ∷ rest) rest))) [
+      elim (nat_eq e.node.0 n.0) as (λ b. IsMember x (outs (cond b (seen_of t w e ∷ rest) rest))) [
         | true ↦ In-right x (out (happens t w e).answer) (outs rest) h
         | false ↦ h
       ]
 
-  sent_here : (x : X) (w : ModelWorld) (e : WorldEvent) (es : List WorldEvent) → In x (out (happens t w e).answer) → In x (outs (seen_at t e.node w (e ∷ es)))
+  sent_here : (x : X) (w : ModelWorld) (e : WorldEvent) (es : List WorldEvent) → IsMember x (out (happens t w e).answer) → IsMember x (outs (seen_at t e.node w (e ∷ es)))
   sent_here x w e es h =
       let rest = seen_at t e.node (happens t w e).world es in
-      subst (λ b. In x (outs (cond b (seen_of t w e ∷ rest) rest))) (sym (eq_self e.node.0)) (In-left x (out (happens t w e).answer) (outs rest) h)
+      subst (λ b. IsMember x (outs (cond b (seen_of t w e ∷ rest) rest))) (sym (eq_self e.node.0)) (In-left x (out (happens t w e).answer) (outs rest) h)
 
-  pub from : (x : X) (w : ModelWorld) (es : List WorldEvent) → In x (all (run_from t w es)) → In x (all w) ⊎ ((n : NodeId) × In x (outs (seen_at t n w es)))
+  pub from : (x : X) (w : ModelWorld) (es : List WorldEvent) → IsMember x (all (run_from t w es)) → IsMember x (all w) ⊎ ((n : NodeId) × IsMember x (outs (seen_at t n w es)))
   from x w [] h = inl h
   from x w (e ∷ es) h =
       let next = (happens t w e).world in
       elim (from x next es h) [
-        | inl a ↦ elim (In-cases x (all w) (out (happens t w e).answer) (subst (In x) (grows w e) a)) [
+        | inl a ↦ elim (In-cases x (all w) (out (happens t w e).answer) (subst (IsMember x) (grows w e) a)) [
           | inl old ↦ inl old
           | inr new ↦ inr (e.node, sent_here x w e es new)
         ]

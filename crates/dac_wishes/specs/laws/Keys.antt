@@ -17,15 +17,15 @@ pub keys_total : IsTotalOrder key_cmp
 keys_total = then_total (on_total (λ (k : Key). k.app) apps_total) (then_total (on_total (λ (k : Key). k.node) nodes_total) (on_total (λ (k : Key). k.inc) nat_cmp_total))
 
 -- a node and an incarnation of it
-abbrev Place : Type 0
-Place = NodeId × ℕ
+abbrev Incarnation : Type 0
+Incarnation = NodeId × ℕ
 
-abbrev place_cmp : Place → Place → Ordering
-place_cmp x y = ordering_then (node_cmp x.0 y.0) (nat_cmp x.1 y.1)
+abbrev incarnation_cmp : Incarnation → Incarnation → Ordering
+incarnation_cmp x y = ordering_then (node_cmp x.0 y.0) (nat_cmp x.1 y.1)
 
 pub exact_keys : CmpEqualImpliesEq key_cmp
-exact_keys a b h = ap (λ (p : AppId × Place). record { app = p.0; node = p.1.0; inc = p.1.1 })
-    (exact_pairs app_cmp place_cmp exact_apps (exact_pairs node_cmp nat_cmp exact_nodes exact_unsigned) (a.app, (a.node, a.inc)) (b.app, (b.node, b.inc)) h)
+exact_keys a b h = ap (λ (p : AppId × Incarnation). record { app = p.0; node = p.1.0; inc = p.1.1 })
+    (exact_pairs app_cmp incarnation_cmp exact_apps (exact_pairs node_cmp nat_cmp exact_nodes exact_unsigned) (a.app, (a.node, a.inc)) (b.app, (b.node, b.inc)) h)
 
 -- what is the same key is equal
 pub same_key_is : (a b : Key) → same_key a b ≡ true → a ≡ b

@@ -15,7 +15,7 @@ use Rattle.dac_dots.specs.Dots.{Dots, dot_cmp}
 use Rattle.dac_lattice.specs.declared.flags.Flag.{Flag}
 use Rattle.dac_lattice.specs.declared.flags.Flag.TheVariants.{Up, Down}
 use Rattle.dac_lattice.specs.Flags.{join_flags}
-use Rattle.dac_lattice.specs.Pieces.{In, AreOperations, IsPiece}
+use Rattle.dac_lattice.specs.Pieces.{IsGivenIn, AreOperations, IsPiece}
 use Rattle.dac_store.specs.laws.Stores.{same_context}
 use Rattle.dac_store.specs.AtDot.{join_at}
 use Rattle.dac_wishes.specs.KeyedWrites.{KeyedWrite, keyed_write_cmp, same_dot}
@@ -103,7 +103,7 @@ module _ {K : Type 0} {R : K → K → Ordering} (total : IsTotalOrder R) (exact
   ] refl
 
   -- where all operations of a dot are one, what is said is what it says
-  said_by_one : (w : KeyedWrite K) (os : List (Dot × A)) (o : Dot × A) → ((p : Dot × A) → In p os → p.0 ≡ w.dot → p ≡ o) → list_any (is_under w.dot) os ≡ true → said R vote w os ≡ says_of R w.key (vote o.1)
+  said_by_one : (w : KeyedWrite K) (os : List (Dot × A)) (o : Dot × A) → ((p : Dot × A) → IsGivenIn p os → p.0 ≡ w.dot → p ≡ o) → list_any (is_under w.dot) os ≡ true → said R vote w os ≡ says_of R w.key (vote o.1)
   said_by_one w [] o same h = absurd (false≢true h)
   said_by_one w (p ∷ os) o same h = elim (is_under w.dot p) as (λ b. is_under w.dot p ≡ b → (b || list_any (is_under w.dot) os) ≡ true → or_else (cond b (says_of R w.key (vote p.1)) None) (said R vote w os) ≡ says_of R w.key (vote o.1)) [
     | true ↦ λ t _.

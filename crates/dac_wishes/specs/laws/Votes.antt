@@ -14,7 +14,7 @@ use Rattle.dac_lattice.specs.declared.flags.Flag.{Flag}
 use Rattle.dac_lattice.specs.Chains.{IsAny}
 use Rattle.dac_lattice.specs.Flags.{IsFlagBelow}
 use Rattle.dac_lattice.specs.laws.Flags.{flag_laws}
-use Rattle.dac_lattice.specs.Lattices.{IsLattice, IsIn}
+use Rattle.dac_lattice.specs.Lattices.{IsLattice, IsOptionOf}
 use Rattle.dac_lattice.specs.Entries.{merge_entries}
 use Rattle.dac_lattice.specs.laws.Entries.{find_merge}
 use Rattle.dac_store.specs.laws.Stores.{subset_left, subset_right, subset_union, subset_empty, same_context}
@@ -46,7 +46,7 @@ module _ {K : Type 0} {R : K → K → Ordering} (total : IsTotalOrder R) (exact
 
   -- ---- the laws
 
-  any_in : (v : Option Flag) → IsIn IsAny v
+  any_in : (v : Option Flag) → IsOptionOf IsAny v
   any_in None = tt
   any_in (Some f) = tt
 

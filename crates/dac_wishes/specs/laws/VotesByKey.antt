@@ -16,7 +16,7 @@ use Rattle.dac_dots.specs.laws.Dots.{dots_total, exact_dots}
 use Rattle.dac_dots.specs.Keys.{has_key}
 use Rattle.dac_lattice.specs.declared.flags.Flag.{Flag}
 use Rattle.dac_lattice.specs.Chains.{IsAny}
-use Rattle.dac_lattice.specs.Lattices.{IsIn}
+use Rattle.dac_lattice.specs.Lattices.{IsOptionOf}
 use Rattle.dac_lattice.specs.Maps.{IsMap}
 use Rattle.dac_lattice.specs.laws.Flags.{flag_laws}
 use Rattle.dac_lattice.specs.laws.Entries.{find_below}
@@ -45,7 +45,7 @@ both : (a b : Bool) → T a → T b → T (a && b)
 both true b p q = q
 both false b p q = p
 
-any_flag : (v : Option Flag) → IsIn {T = Flag} IsAny v
+any_flag : (v : Option Flag) → IsOptionOf {T = Flag} IsAny v
 any_flag None = tt
 any_flag (Some f) = tt
 

@@ -11,8 +11,8 @@ pub loop-key-preserved : goal.loop-key-preserved
 loop-key-preserved c =
     let before = c.loop-key.invariant in
     record {
-      before = λ k e. before.before k (c.mark.ensures.before k e);
-      gone = λ k e. one_more keys_total exact_keys (IsAbsent k) _ _ _ c.loop-key-test.true c.loop-key-item.is (before.gone k (c.mark.ensures.before k e)) (λ at. absurd (c.mark.ensures.own k e at));
+      before = λ k e. before.before k (c.count_moved.ensures.before k e);
+      gone = λ k e. one_more keys_total exact_keys (IsAbsent k) _ _ _ c.loop-key-test.true c.loop-key-item.is (before.gone k (c.count_moved.ensures.before k e)) (λ at. absurd (c.count_moved.ensures.own k e at));
     }
 
 pub returns : goal.returns

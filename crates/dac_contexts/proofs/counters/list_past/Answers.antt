@@ -3,38 +3,38 @@ use Rattle.std.specs.Ordering.{nat_cmp}
 use Rattle.std.proofs.lemmas.Bool.{lt-ltb, le-ltb}
 use Rattle.std.proofs.lemmas.List.{take_all}
 use Rattle.dac_dots.specs.Keys.{has_key}
-use Rattle.dac_contexts.specs.Runs.{any_past}
+use Rattle.dac_contexts.specs.Spans.{any_past}
 use Rattle.dac_contexts.proofs.Failures.{no_success}
-use Rattle.dac_contexts.proofs.RunLemmas.{valid_at, past_more, past_same}
+use Rattle.dac_contexts.proofs.SpanLemmas.{valid_at, past_more, past_same}
 use Rattle.dac_contexts.proofs.counters.list_past.Goals as goal
-use Rattle.dac_contexts.proofs.counters.list_past.Goals.{then-upto-run+in_ok-list_run, else-upto-run}
+use Rattle.dac_contexts.proofs.counters.list_past.Goals.{then-upto-span+in_ok-list_span, else-upto-span}
 
-pub list_run-requires-clause-valid : goal.list_run-requires-clause-valid
-list_run-requires-clause-valid c = valid_at c.args.runs.now c.requires.valid c.loop-run.run-index (record { first = 0; last = 0 }) c.loop-run-test.true
+pub list_span-requires-clause-valid : goal.list_span-requires-clause-valid
+list_span-requires-clause-valid c = valid_at c.args.spans.now c.requires.valid c.loop-span.span-index (record { first = 0; last = 0 }) c.loop-span-test.true
 
-pub loop-run-preserved : goal.loop-run-preserved
-loop-run-preserved c = elim c.if-upto-run.branch [
-  | then-upto-run+in_ok-list_run w ↦ record {
-    rising = rw w.counters-is w.list_run.ensures.rising;
-    so_far = rw w.counters-is (past_more c.args.upto c.args.runs.now c.loop-run.run-index (record { first = 0; last = 0 }) c.loop-run-test.true (lt-ltb _ _ w.if-upto-run.true) c.args.counters.now.items c.loop-run.counters.items w.list_run.new.counters.items c.loop-run.invariant.so_far w.in_ok-list_run.ensures.ok);
+pub loop-span-preserved : goal.loop-span-preserved
+loop-span-preserved c = elim c.if-upto-span.branch [
+  | then-upto-span+in_ok-list_span w ↦ record {
+    rising = rw w.counters-is w.list_span.ensures.rising;
+    so_far = rw w.counters-is (past_more c.args.upto c.args.spans.now c.loop-span.span-index (record { first = 0; last = 0 }) c.loop-span-test.true (lt-ltb _ _ w.if-upto-span.true) c.args.counters.now.items c.loop-span.counters.items w.list_span.new.counters.items c.loop-span.invariant.so_far w.in_ok-list_span.ensures.ok);
   }
-  | else-upto-run w ↦ record {
-    rising = rw w.counters-is c.loop-run.invariant.rising;
-    so_far = rw w.counters-is (λ n. c.loop-run.invariant.so_far n ∙ ap (λ b. b || has_key nat_cmp c.args.counters.now.items n) (sym (past_same c.args.upto c.args.runs.now c.loop-run.run-index (record { first = 0; last = 0 }) c.loop-run-test.true (le-ltb _ _ w.if-upto-run.false) n)));
+  | else-upto-span w ↦ record {
+    rising = rw w.counters-is c.loop-span.invariant.rising;
+    so_far = rw w.counters-is (λ n. c.loop-span.invariant.so_far n ∙ ap (λ b. b || has_key nat_cmp c.args.counters.now.items n) (sym (past_same c.args.upto c.args.spans.now c.loop-span.span-index (record { first = 0; last = 0 }) c.loop-span-test.true (le-ltb _ _ w.if-upto-span.false) n)));
   }
 ]
 
-pub loop-run-init : goal.loop-run-init
-loop-run-init c = record { rising = c.requires.rising; so_far = λ n. refl }
+pub loop-span-init : goal.loop-span-init
+loop-span-init c = record { rising = c.requires.rising; so_far = λ n. refl }
 
-pub list_run-requires-clause-rising : goal.list_run-requires-clause-rising
-list_run-requires-clause-rising c = c.loop-run.invariant.rising
+pub list_span-requires-clause-rising : goal.list_span-requires-clause-rising
+list_span-requires-clause-rising c = c.loop-span.invariant.rising
 
-pub returns-in_err-list_run : goal.returns-in_err-list_run
-returns-in_err-list_run c = record { rising = c.list_run.ensures.rising; ok = no_success _ c.from_residual.result c.from_residual.ensures.0 }
+pub returns-in_err-list_span : goal.returns-in_err-list_span
+returns-in_err-list_span c = record { rising = c.list_span.ensures.rising; ok = no_success _ c.from_residual.result c.from_residual.ensures.0 }
 
 pub returns : goal.returns
 returns c = record {
-  rising = c.loop-run.invariant.rising;
-  ok = λ n. c.loop-run.invariant.so_far n ∙ ap (λ runs. any_past c.args.upto runs n || has_key nat_cmp c.args.counters.now.items n) (take_all c.loop-run.run-index c.args.runs.now c.loop-run-test.false);
+  rising = c.loop-span.invariant.rising;
+  ok = λ n. c.loop-span.invariant.so_far n ∙ ap (λ spans. any_past c.args.upto spans n || has_key nat_cmp c.args.counters.now.items n) (take_all c.loop-span.span-index c.args.spans.now c.loop-span-test.false);
 }

@@ -1,7 +1,7 @@
 use Rattle.std.proofs.Common.{◌≡◌, ◌++◌, length, take, ap, sym, subst, ◌∙◌, arith}
 use Rattle.std.proofs.lemmas.Result.{IfOk-from_err}
 use Rattle.std.specs.Vec.Iter.{into_iter_items}
-use Rattle.dac_deltas.specs.Endings.{AreJoined, deltas_of}
+use Rattle.dac_deltas.specs.BlockEnds.{AreJoined, deltas_of}
 use Rattle.dac_deltas.proofs.Joining.{added_one}
 use Rattle.dac_deltas.proofs.Copying.{copied_whole}
 use Rattle.dac_deltas.proofs.blocks.add_all.Goals as goal

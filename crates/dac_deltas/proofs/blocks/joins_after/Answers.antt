@@ -2,8 +2,8 @@ use Rattle.std.proofs.Common.{◌≡◌, ◌+◌, length, ap, subst, ◌∙◌, 
 use Rattle.std.proofs.lemmas.Result.{IfOk-from_err}
 use borrow.Author.Count.{falls}
 use Rattle.dac_deltas.specs.Blocks.{IsLongest}
-use Rattle.dac_deltas.specs.Endings.{join_at}
-use Rattle.dac_deltas.proofs.Places.{below_longest}
+use Rattle.dac_deltas.specs.BlockEnds.{join_at}
+use Rattle.dac_deltas.proofs.Levels.{below_longest}
 use Rattle.dac_deltas.proofs.Joining.{AreMade, block_before, made_one, made_next, made_all}
 use Rattle.dac_deltas.proofs.blocks.joins_after.Goals as goal
 

@@ -6,7 +6,7 @@ abbrev pub invariant-loop-level : goal.invariant-loop-level
 invariant-loop-level l = record {
   small : l.level ≤ MOST_LEVEL;
   longer : l.longer ≡ 2 ^ (l.level + 1);
-  aligned : l.place % 2 ^ l.level ≡ 0;
+  aligned : l.number % 2 ^ l.level ≡ 0;
   fits : 2 ^ l.level ≤ l.most;
 }
 

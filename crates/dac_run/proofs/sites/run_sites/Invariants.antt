@@ -4,4 +4,4 @@ abbrev pub ghosts-with_fourth-O-Ledger : goal.ghosts-with_fourth-O-Ledger
 ghosts-with_fourth-O-Ledger g a = record { name = a.blank.blank.name; parts = a.blank.blank.parts }
 
 abbrev pub ghosts-with_fourth-O-SiteName : goal.ghosts-with_fourth-O-SiteName
-ghosts-with_fourth-O-SiteName g a = record { seats = a.blank.blank.parts; opening = a.blank.desk.journal.opening }
+ghosts-with_fourth-O-SiteName g a = record { seats = a.blank.blank.parts; beginning = a.blank.desk.journal.beginning }

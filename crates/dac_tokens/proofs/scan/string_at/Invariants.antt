@@ -6,7 +6,7 @@ use Rattle.dac_tokens.proofs.scan.string_at.Given as goal
 abbrev pub invariant-loop-b : goal.invariant-loop-b
 invariant-loop-b l = record {
   same : inside_string l.at (l.before + 1) l.escaped l.rest ≡ inside_string l.at (l.at + 1) false l.bytes;
-  place : l.before + length l.rest ≡ l.at + length l.bytes;
+  offset : l.before + length l.rest ≡ l.at + length l.bytes;
 }
 
 abbrev pub decreases-loop-b : goal.decreases-loop-b

@@ -1,11 +1,11 @@
 use Rattle.std.proofs.Common.{◌∙◌, ◌||◌, ap, sym, Result, Ok, Err, OnOk}
 use Rattle.std.specs.Ordering.{nat_cmp}
 use Rattle.dac_dots.specs.Keys.{has_key}
-use Rattle.dac_contexts.proofs.RunLemmas.{valid_runs, has_now}
+use Rattle.dac_contexts.proofs.SpanLemmas.{valid_spans, has_now}
 use Rattle.dac_contexts.proofs.counters.Counters.absorb.Goals as goal
 
 pub put_all-requires : goal.put_all-requires
-put_all-requires c = rw c.deref.ensures.value (valid_runs 0 c.other.inside.runs.items c.other.invariant)
+put_all-requires c = rw c.deref.ensures.value (valid_spans 0 c.other.inside.spans.items c.other.invariant)
 
 so : {T E P Q : Type 0} (r : Result T E) → (P → Q) → OnOk r P → OnOk r Q
 so (Ok x) f p = f p

@@ -1,5 +1,5 @@
-use Rattle.dac_contexts.proofs.RunLemmas.{no_runs}
+use Rattle.dac_contexts.proofs.SpanLemmas.{no_spans}
 use Rattle.dac_contexts.proofs.counters.Counters.empty.Goals as goal
 
 pub returns : goal.returns
-returns c = rw c.new.ensures.items no_runs
+returns c = rw c.new.ensures.items no_spans

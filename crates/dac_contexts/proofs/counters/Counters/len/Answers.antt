@@ -1,26 +1,26 @@
 use Rattle.std.proofs.Common.{◌≡◌, ◌+◌, List, ℕ, length, take, ap, sym, arith, add-one, subst}
-use Rattle.dac_contexts.specs.Runs.{counters_in}
-use Rattle.dac_contexts.specs.declared.counters.Run.{Run}
-use Rattle.dac_contexts.proofs.RunLemmas.{apart_at, no_runs, len_more, len_span}
+use Rattle.dac_contexts.specs.Spans.{counters_in}
+use Rattle.dac_contexts.specs.declared.counters.Span.{Span}
+use Rattle.dac_contexts.proofs.SpanLemmas.{apart_at, no_spans, len_more, len_span}
 use Rattle.dac_contexts.proofs.counters.Counters.len.Goals as goal
 
-pub loop-run-init : goal.loop-run-init
-loop-run-init c = record { so_far = ap (λ (ns : List ℕ). length ns) (sym no_runs); small = omega arith }
+pub loop-span-init : goal.loop-span-init
+loop-span-init c = record { so_far = ap (λ (ns : List ℕ). length ns) (sym no_spans); small = omega arith }
 
 pub len-len-requires : goal.len-len-requires
-len-len-requires c = (apart_at 0 c.deref-run-items.result.now (rw c.deref-run-items.ensures.value c.self.invariant) c.loop-run.run-index (record { first = 0; last = 0 }) c.loop-run-test.true).1
+len-len-requires c = (apart_at 0 c.deref-span-items.result.now (rw c.deref-span-items.ensures.value c.self.invariant) c.loop-span.span-index (record { first = 0; last = 0 }) c.loop-span-test.true).1
 
-pub loop-run-preserved : goal.loop-run-preserved
-loop-run-preserved c =
-    let runs = c.deref-run-items.result.now in
-    let i = c.loop-run.run-index in
-    let d : Run = record { first = 0; last = 0 } in
-    let at = len_more runs i d c.loop-run-test.true in
-    let span = len_span 0 runs (rw c.deref-run-items.ensures.value c.self.invariant) i d c.loop-run-test.true in
-    let so_far = c.loop-run.invariant.so_far in
+pub loop-span-preserved : goal.loop-span-preserved
+loop-span-preserved c =
+    let spans = c.deref-span-items.result.now in
+    let i = c.loop-span.span-index in
+    let d : Span = record { first = 0; last = 0 } in
+    let at = len_more spans i d c.loop-span-test.true in
+    let span = len_span 0 spans (rw c.deref-span-items.ensures.value c.self.invariant) i d c.loop-span-test.true in
+    let so_far = c.loop-span.invariant.so_far in
     let one = c.len-len.ensures.value in
     let top = c.len-len.ensures.bound in
     record {
-      so_far = subst (λ k. c.loop-run.len + c.len-len.result ≡ length (counters_in (take k runs))) (sym (add-one i)) (omega arith);
+      so_far = subst (λ k. c.loop-span.len + c.len-len.result ≡ length (counters_in (take k spans))) (sym (add-one i)) (omega arith);
       small = omega arith;
     }

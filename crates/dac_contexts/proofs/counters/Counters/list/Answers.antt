@@ -1,18 +1,18 @@
-use Rattle.dac_contexts.proofs.RunLemmas.{apart_at, list_more, listed}
+use Rattle.dac_contexts.proofs.SpanLemmas.{apart_at, list_more, listed}
 use Rattle.dac_contexts.proofs.counters.Counters.list.Goals as goal
 
-pub list_run-requires-clause-valid : goal.list_run-requires-clause-valid
-list_run-requires-clause-valid c = (apart_at 0 c.deref-run-items.result.now (rw c.deref-run-items.ensures.value c.self.invariant) c.loop-run.run-index (record { first = 0; last = 0 }) c.loop-run-test.true).1
+pub list_span-requires-clause-valid : goal.list_span-requires-clause-valid
+list_span-requires-clause-valid c = (apart_at 0 c.deref-span-items.result.now (rw c.deref-span-items.ensures.value c.self.invariant) c.loop-span.span-index (record { first = 0; last = 0 }) c.loop-span-test.true).1
 
-pub loop-run-preserved : goal.loop-run-preserved
-loop-run-preserved c = record {
-  rising = c.list_run.ensures.rising;
-  so_far = list_more c.deref-run-items.result.now c.loop-run.run-index (record { first = 0; last = 0 }) c.loop-run-test.true c.loop-run.counters.items c.list_run.new.counters.items c.loop-run.invariant.so_far c.in_ok-list_run.ensures.ok;
+pub loop-span-preserved : goal.loop-span-preserved
+loop-span-preserved c = record {
+  rising = c.list_span.ensures.rising;
+  so_far = list_more c.deref-span-items.result.now c.loop-span.span-index (record { first = 0; last = 0 }) c.loop-span-test.true c.loop-span.counters.items c.list_span.new.counters.items c.loop-span.invariant.so_far c.in_ok-list_span.ensures.ok;
 }
 
-pub list_run-requires-clause-rising : goal.list_run-requires-clause-rising
-list_run-requires-clause-rising c = c.loop-run.invariant.rising
+pub list_span-requires-clause-rising : goal.list_span-requires-clause-rising
+list_span-requires-clause-rising c = c.loop-span.invariant.rising
 
 pub returns : goal.returns
 returns c =
-    listed c.deref-run-items.result.now (rw c.deref-run-items.ensures.value c.self.invariant) c.args.self.now (rw c.deref-run-items.ensures.value c.self.view_is) c.loop-run.run-index c.loop-run-test.false c.loop-run.counters.items c.loop-run.invariant.rising c.loop-run.invariant.so_far
+    listed c.deref-span-items.result.now (rw c.deref-span-items.ensures.value c.self.invariant) c.args.self.now (rw c.deref-span-items.ensures.value c.self.view_is) c.loop-span.span-index c.loop-span-test.false c.loop-span.counters.items c.loop-span.invariant.rising c.loop-span.invariant.so_far

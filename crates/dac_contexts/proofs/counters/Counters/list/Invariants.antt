@@ -1,12 +1,12 @@
 use Rattle.std.proofs.Common.{◌≡◌, ℕ, take}
 use Rattle.std.specs.Ordering.{nat_cmp}
 use Rattle.dac_dots.specs.Keys.{IsRising, has_key}
-use Rattle.dac_contexts.specs.Runs.{any_run}
+use Rattle.dac_contexts.specs.Spans.{any_span}
 use Rattle.dac_contexts.proofs.counters.Counters.list.Given as goal
 
--- the counters of the runs so far are there
-abbrev pub invariant-loop-run : goal.invariant-loop-run
-invariant-loop-run l = record {
+-- the counters of the spans so far are there
+abbrev pub invariant-loop-span : goal.invariant-loop-span
+invariant-loop-span l = record {
   rising : IsRising nat_cmp l.counters.items;
-  so_far : (n : ℕ) → has_key nat_cmp l.counters.items n ≡ any_run (take l.run-index l.run-items) n;
+  so_far : (n : ℕ) → has_key nat_cmp l.counters.items n ≡ any_span (take l.span-index l.span-items) n;
 }

@@ -1,8 +1,8 @@
 use Rattle.std.proofs.Common.{◌++◌, ap, sym, subst, ◌∙◌}
 use Rattle.std.proofs.lemmas.Result.{IfOk-from_err}
 use Rattle.std.specs.VecDeque.Iter.{deque_iter_rest}
-use Rattle.dac_deltas.specs.Kept.{newest}
-use Rattle.dac_deltas.specs.Endings.{IsKept, IsReady, deltas_of}
+use Rattle.dac_deltas.specs.KeptDeltas.{newest}
+use Rattle.dac_deltas.specs.BlockEnds.{IsKept, IsReady, deltas_of}
 use Rattle.dac_deltas.proofs.Copying.{copied_next, copied_whole}
 use Rattle.dac_deltas.proofs.buffer.Buffer.copy.Goals as goal
 

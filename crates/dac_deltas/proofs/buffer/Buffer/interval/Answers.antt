@@ -1,6 +1,6 @@
 use Rattle.std.proofs.Common.{◌-◌, sym, subst, arith}
 use Rattle.std.proofs.lemmas.List.Elements.{All-drop}
-use Rattle.dac_deltas.specs.Kept.{IsJoinOf, numbered_from}
+use Rattle.dac_deltas.specs.KeptDeltas.{IsJoinOf, numbered_from}
 use Rattle.dac_deltas.specs.laws.Joins.{joins_are_least}
 use Rattle.dac_deltas.proofs.Intervals.{whole_interval}
 use Rattle.dac_deltas.proofs.buffer.Buffer.interval.Goals as goal

@@ -2,8 +2,8 @@ use Rattle.std.specs.Prelude.{unwrap_or}
 use Rattle.std.proofs.Common.{◌≡◌, ◌-◌, refl, List, fold, drop, length, sym, ap, subst, ◌∙◌, arith}
 use Rattle.std.proofs.lemmas.List.{length-map}
 use Rattle.std.proofs.lemmas.Result.{IfOk-from_err}
-use Rattle.dac_deltas.specs.Kept.{Kept, numbered_from}
-use Rattle.dac_deltas.specs.Endings.{AreJoined, deltas_of}
+use Rattle.dac_deltas.specs.KeptDeltas.{KeptDeltas, numbered_from}
+use Rattle.dac_deltas.specs.BlockEnds.{AreJoined, deltas_of}
 use Rattle.dac_deltas.proofs.Joining.{block_there, joining_one, joining_all}
 use Rattle.dac_deltas.proofs.Keeping.{whole, base_is}
 use Rattle.dac_deltas.proofs.buffer.Buffer.made_from.Goals as goal
@@ -39,7 +39,7 @@ loop-at-preserved g c =
 
 pub loop-at-init : goal.loop-at-init
 loop-at-init g c =
-    let shown = ap (λ (k : Kept g.row.L.Denot). k.count) c.self.view_is in
+    let shown = ap (λ (k : KeptDeltas g.row.L.Denot). k.count) c.self.view_is in
     record { from = omega arith; to = omega arith; value = g.met.L.Bottom.bottom_value; rest = refl }
 
 pub overflow_shl-end : goal.overflow_shl-end
@@ -61,4 +61,4 @@ returns g c =
     let many = length-map es (λ (x : g.row.L.Denot × List g.row.L.Denot). x.0) in
     let skip : a - c.base-base.result ≡ a - (count - length ds) = omega arith in
     let joined = joining_all is_value join g.L.Bottom.bottom c.base-base.result a count c.loop-at.at ds (unwrap_or c.loop-at.joined g.L.Bottom.bottom) (omega arith) c.loop-at-test.false c.loop-at.invariant ∙ ap (λ n. fold join g.L.Bottom.bottom (drop n ds)) skip in
-    c.or_bottom.ensures ∙ (joined ∙ ap (λ (k : Kept g.row.L.Denot). fold join g.L.Bottom.bottom (numbered_from k a)) c.self.view_is)
+    c.or_bottom.ensures ∙ (joined ∙ ap (λ (k : KeptDeltas g.row.L.Denot). fold join g.L.Bottom.bottom (numbered_from k a)) c.self.view_is)

@@ -1,6 +1,6 @@
 use Rattle.std.proofs.Common.{◌-◌}
 use Rattle.std.specs.Prelude.{unwrap_or}
-use Rattle.dac_deltas.specs.Endings.{deltas_of}
+use Rattle.dac_deltas.specs.BlockEnds.{deltas_of}
 use Rattle.dac_deltas.proofs.Joining.{IsJoining}
 use Rattle.dac_deltas.proofs.buffer.Buffer.made_from.Given as goal
 

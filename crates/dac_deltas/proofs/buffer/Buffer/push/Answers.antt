@@ -1,8 +1,8 @@
 use Rattle.std.proofs.Common.{◌+◌, ◌≤◌, ◌∷◌, [], refl, sym, ap, subst, ◌∙◌, arith}
 use Rattle.std.proofs.lemmas.Result.{IfOk-from_err}
 use Rattle.dac_base.specs.declared.limits.TheConstants.{MAX_COUNTER}
-use Rattle.dac_deltas.specs.Kept.{Kept, newest, pushed}
-use Rattle.dac_deltas.specs.Endings.{AreJoined, IsHeld, deltas_of}
+use Rattle.dac_deltas.specs.KeptDeltas.{KeptDeltas, newest, pushed}
+use Rattle.dac_deltas.specs.BlockEnds.{AreJoined, IsHeld, deltas_of}
 use Rattle.dac_deltas.proofs.Keeping.{kept_added, shown_added, whole, base_is, joined_one}
 use Rattle.dac_deltas.proofs.Copying.{fails_so}
 use Rattle.dac_deltas.proofs.buffer.Buffer.push.Goals as goal
@@ -23,7 +23,7 @@ invariant_of-self-2 g c =
     let mid = c.push_back.new.self.items in
     let base = base_is is_value join count es c.self.invariant.kept c.args.self.now c.base-base.result c.self.view_is c.base-base.ensures in
     let one = joined_one is_value join count es c.self.invariant.kept mid c.in_ok-ending.ending c.args.delta c.base-base.result base c.in_ok-ending.ensures.delta c.in_ok-ending.ensures.joins c.in_ok-push_back.ensures.items in
-    let room : count + 1 ≤ MAX_COUNTER = let shown = ap (λ (k : Kept g.row.L.Denot). k.count) c.self.view_is in omega arith in
+    let room : count + 1 ≤ MAX_COUNTER = let shown = ap (λ (k : KeptDeltas g.row.L.Denot). k.count) c.self.view_is in omega arith in
     record { kept = kept_added is_value join count es c.self.invariant.kept mid c.keep_newest.new.kept.items (c.args.delta ∷ []) room one.0 one.1 c.keep_newest.ensures; ready = tt }
 
 pub next-requires-clause-room : goal.next-requires-clause-room
@@ -34,7 +34,7 @@ next-requires-clause-room g c =
     let es = c.self.inside.kept.items in
     let base = base_is is_value join count es c.self.invariant.kept c.args.self.now c.base-base.result c.self.view_is c.base-base.ensures in
     let all = whole is_value join count es c.self.invariant.kept in
-    let shown = ap (λ (k : Kept g.row.L.Denot). k.count) c.self.view_is in
+    let shown = ap (λ (k : KeptDeltas g.row.L.Denot). k.count) c.self.view_is in
     omega arith
 
 pub returns-in_err-ending-clause-ok : goal.returns-in_err-ending-clause-ok

@@ -1,7 +1,7 @@
 use Rattle.std.proofs.Common.{◌≡◌, ◌+◌, ◌≤◌, fold, length, take, sym, ap, subst, ◌∙◌, arith}
 use Rattle.dac_base.specs.declared.limits.TheConstants.{MAX_COUNTER}
-use Rattle.dac_deltas.specs.Kept.{Kept, newest, pushed}
-use Rattle.dac_deltas.specs.Endings.{AreJoined, IsKept, IsHeld, deltas_of}
+use Rattle.dac_deltas.specs.KeptDeltas.{KeptDeltas, newest, pushed}
+use Rattle.dac_deltas.specs.BlockEnds.{AreJoined, IsKept, IsHeld, deltas_of}
 use Rattle.dac_deltas.proofs.Keeping.{kept_added, shown_added, whole, base_is}
 use Rattle.dac_deltas.proofs.buffer.Buffer.push_all.Goals as goal
 
@@ -24,7 +24,7 @@ invariant_of-self-2 g c =
     let long : length ds ≡ c.len-added.result = sym (c.len-added.ensures ∙ c.args.deltas.ok.0) in
     let base = base_is is_value join count es c.self.invariant.kept c.args.self.now c.base-base.result c.self.view_is c.base-base.ensures in
     let joined = subst (λ b. AreJoined is_value join b mid) base c.in_default.ensures.joined in
-    let room : count + length ds ≤ MAX_COUNTER = let shown = ap (λ (k : Kept g.row.L.Denot). k.count) c.self.view_is in omega arith in
+    let room : count + length ds ≤ MAX_COUNTER = let shown = ap (λ (k : KeptDeltas g.row.L.Denot). k.count) c.self.view_is in omega arith in
     record { kept = subst (λ n. IsKept is_value join (count + n) new) long (kept_added is_value join count es c.self.invariant.kept mid new ds room joined c.in_default.ensures.added c.keep_newest.ensures); ready = tt }
 
 pub returns-clause-ok : goal.returns-clause-ok
@@ -48,7 +48,7 @@ add_all-requires-clause-room g c =
     let es = c.self.inside.kept.items in
     let base = base_is is_value join count es c.self.invariant.kept c.args.self.now c.base-base.result c.self.view_is c.base-base.ensures in
     let all = whole is_value join count es c.self.invariant.kept in
-    let shown = ap (λ (k : Kept g.row.L.Denot). k.count) c.self.view_is in
+    let shown = ap (λ (k : KeptDeltas g.row.L.Denot). k.count) c.self.view_is in
     omega arith
 
 pub invariant_of-self : goal.invariant_of-self
@@ -64,5 +64,5 @@ returns-in-Err-clause-err g c =
 pub overflow_add-self : goal.overflow_add-self
 overflow_add-self g c =
     let long = c.args.deltas.ok.0 in
-    let shown = ap (λ (k : Kept g.row.L.Denot). k.count) c.self.view_is in
+    let shown = ap (λ (k : KeptDeltas g.row.L.Denot). k.count) c.self.view_is in
     omega arith

@@ -1,6 +1,6 @@
 use Rattle.std.proofs.Common.{◌∙◌, arith, ap, sym, subst}
-use Rattle.dac_deltas.specs.Kept.{Kept, newest, trimmed}
-use Rattle.dac_deltas.specs.Endings.{IsReady, deltas_of}
+use Rattle.dac_deltas.specs.KeptDeltas.{KeptDeltas, newest, trimmed}
+use Rattle.dac_deltas.specs.BlockEnds.{IsReady, deltas_of}
 use Rattle.dac_deltas.proofs.Intervals.{ready_cut}
 use Rattle.dac_deltas.proofs.Keeping.{kept_dropped, shown_dropped, base_is, whole}
 use Rattle.dac_deltas.proofs.buffer.Buffer.trim.Goals as goal
@@ -18,7 +18,7 @@ invariant_of-self g c =
     let shown = shown_dropped is_value join count es c.self.invariant.kept new c.args.n c.saturating_sub-dropped.result (omega arith) dropped in
     record {
       kept = kept_dropped is_value join count es c.self.invariant.kept new c.saturating_sub-dropped.result (omega arith) dropped;
-      ready = subst (λ (k : Kept g.row.L.Denot). IsReady join g.L.Bottom.bottom k c.self.inside.ready) (sym shown) (ready_cut join g.L.Bottom.bottom (newest count (deltas_of es)) _ c.self.inside.ready c.self.invariant.ready);
+      ready = subst (λ (k : KeptDeltas g.row.L.Denot). IsReady join g.L.Bottom.bottom k c.self.inside.ready) (sym shown) (ready_cut join g.L.Bottom.bottom (newest count (deltas_of es)) _ c.self.inside.ready c.self.invariant.ready);
     }
 
 pub returns : goal.returns

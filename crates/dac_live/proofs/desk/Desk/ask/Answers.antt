@@ -12,9 +12,9 @@ invariant_of-self-2 g c =
     let rs = j.records ++ next.entry ∷ [] in
     let shown : c.publish.new.self.shown ≡ c.page_of.result = ap (λ (o : Option Page). unwrap_or o c.page_of.result) (c.publish.ensures.0 ∙ ap (λ (v : PagesValue). v.ready) c.in_ok-prepare.ensures) in
     let count : length c.records.result.now + 1 ≡ length rs = ap (λ l. length l + 1) c.records.ensures.value ∙ sym (length-append j.records (next.entry ∷ [])) in
-    let page : c.page_of.result ≡ page_of j.opening.table (length rs) next.node = c.page_of.ensures ∙ (λ i. page_of (c.config.ensures i) (count i) (c.node.ensures i)) in
-    let after : page_after c.commit.new.self.opening c.commit.new.self.records ≡ page_after j.opening rs = λ i. page_after (c.in_ok-said.ensures.opening i) (c.in_ok-said.ensures.ok i) in
-    shown ∙ page ∙ page_there j.opening rs next.node c.in_ok-next.ensures.goes.ends ∙ sym after
+    let page : c.page_of.result ≡ page_of j.beginning.table (length rs) next.node = c.page_of.ensures ∙ (λ i. page_of (c.config.ensures i) (count i) (c.node.ensures i)) in
+    let after : page_after c.commit.new.self.beginning c.commit.new.self.records ≡ page_after j.beginning rs = λ i. page_after (c.in_ok-said.ensures.beginning i) (c.in_ok-said.ensures.ok i) in
+    shown ∙ page ∙ page_there j.beginning rs next.node c.in_ok-next.ensures.goes.ends ∙ sym after
 
 pub returns-clause-page : goal.returns-clause-page
 returns-clause-page g c = invariant_of-self-2 g c

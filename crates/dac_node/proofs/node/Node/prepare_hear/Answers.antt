@@ -11,11 +11,11 @@ returns-clause-ok c = λ me.
     let change = c.in_ok-hear.field-0 in
     let last = c.self.inside.last in
     subst (λ (v : NodeValue). Prepared c.args.config.now me v e change) c.self.view_is
-    (subst (λ run. Prepared c.args.config.now me (record { last = last; run = run }) e change) (sym c.in-Some.is) (effect_prepared c.args.config.now me last c.in-Some.run' e change (sym c.in_default-refusal_to_hear.ensures) c.tells_invariant.ensures.newest c.tells_invariant.ensures.state (c.in_ok-hear.ensures)))
+    (subst (λ running. Prepared c.args.config.now me (record { last = last; running = running }) e change) (sym c.in-Some.is) (effect_prepared c.args.config.now me last c.in-Some.running e change (sym c.in_default-refusal_to_hear.ensures) c.tells_invariant.ensures.newest c.tells_invariant.ensures.state (c.in_ok-hear.ensures)))
 
 pub returns-clause-fits : goal.returns-clause-fits
 returns-clause-fits c =
     let change = c.in_ok-hear.field-0 in
     let last = c.self.inside.last in
     subst (λ (v : NodeValue). Fits v change) c.self.view_is
-    (subst (λ run. Fits (record { last = last; run = run }) change) (sym c.in-Some.is) (effect_fits c.args.config.now last c.in-Some.run' (Hear c.args.message.now) change (sym c.in_default-refusal_to_hear.ensures) c.tells_invariant.ensures.countable c.in_ok-hear.ensures))
+    (subst (λ running. Fits (record { last = last; running = running }) change) (sym c.in-Some.is) (effect_fits c.args.config.now last c.in-Some.running (Hear c.args.message.now) change (sym c.in_default-refusal_to_hear.ensures) c.tells_invariant.ensures.countable c.in_ok-hear.ensures))

@@ -11,11 +11,11 @@ returns-clause-ok c = λ t me.
     let change = c.in_ok-hear_op.field-0 in
     let last = c.self.inside.last in
     subst (λ (v : NodeValue). Prepared t me v e change) c.self.view_is
-    (subst (λ run. Prepared t me (record { last = last; run = run }) e change) (sym c.in-Some.is) (effect_prepared t me last c.in-Some.run' e change (sym c.in_default-refusal_to_hear_op.ensures) c.tells_invariant.ensures.newest c.tells_invariant.ensures.state (c.in_ok-hear_op.ensures.effect t)))
+    (subst (λ running. Prepared t me (record { last = last; running = running }) e change) (sym c.in-Some.is) (effect_prepared t me last c.in-Some.running e change (sym c.in_default-refusal_to_hear_op.ensures) c.tells_invariant.ensures.newest c.tells_invariant.ensures.state (c.in_ok-hear_op.ensures.effect t)))
 
 pub returns-clause-fits : goal.returns-clause-fits
 returns-clause-fits c =
     let change = c.in_ok-hear_op.field-0 in
     let last = c.self.inside.last in
     subst (λ (v : NodeValue). Fits v change) c.self.view_is
-    (subst (λ run. Fits (record { last = last; run = run }) change) (sym c.in-Some.is) (hear_op_fits last c.in-Some.run' c.args.operation.now _ change (sym c.in_default-refusal_to_hear_op.ensures) c.tells_invariant.ensures.countable c.in_ok-hear_op.ensures.after c.in_ok-hear_op.ensures.reply))
+    (subst (λ running. Fits (record { last = last; running = running }) change) (sym c.in-Some.is) (hear_op_fits last c.in-Some.running c.args.operation.now _ change (sym c.in_default-refusal_to_hear_op.ensures) c.tells_invariant.ensures.countable c.in_ok-hear_op.ensures.after c.in_ok-hear_op.ensures.reply))

@@ -42,7 +42,7 @@ returns-clause-keeps c =
     let old = c.args.self.now in
     let p = c.in_ok-change.ensures.ok in
     subst (λ (x : NodeValue × Reply). Keeps t me old c.args.event x.1 x.0) (λ i. (sym (c.in_ok-reply.ensures.new ∙ p.left) i, sym (c.in_ok-reply.ensures.reply ∙ p.reply) i))
-    (keeps t me old.last old.run p.noted c.args.event p.accepted p.newest p.noting)
+    (keeps t me old.last old.running p.noted c.args.event p.accepted p.newest p.noting)
 
 pub returns-clause-effect : goal.returns-clause-effect
 returns-clause-effect c =
@@ -51,14 +51,14 @@ returns-clause-effect c =
     let old = c.args.self.now in
     let p = c.in_ok-change.ensures.ok in
     subst (λ (x : NodeValue × Reply). HasEffect t old c.args.event x.1 x.0) (λ i. (sym (c.in_ok-reply.ensures.new ∙ p.left) i, sym (c.in_ok-reply.ensures.reply ∙ p.reply) i))
-    (takes_effect t me old.last old.run p.noted c.args.event p.accepted p.state)
+    (takes_effect t me old.last old.running p.noted c.args.event p.accepted p.state)
 
 pub returns-clause-heard : goal.returns-clause-heard
 returns-clause-heard c =
     let old = c.args.self.now in
     let p = c.in_ok-change.ensures.ok in
     subst (λ (x : NodeValue × Reply). HearsExactly old c.args.event x.1 x.0) (λ i. (sym (c.in_ok-reply.ensures.new ∙ p.left) i, sym (c.in_ok-reply.ensures.reply ∙ p.reply) i))
-    (hears_exactly c.args.config.now c.args.self_id old.last old.run p.noted c.args.event p.accepted)
+    (hears_exactly c.args.config.now c.args.self_id old.last old.running p.noted c.args.event p.accepted)
 
 pub returns-clause-cases : goal.returns-clause-cases
 returns-clause-cases c = free_is c.args.config.now c.args.self.now c.args.event c.in_ok-change.ensures.ok.accepted
@@ -84,7 +84,7 @@ returns-clause-writes c =
     let t = c.args.config.now in
     let old = c.args.self.now in
     let p = c.in_ok-change.ensures.ok in
-    subst (Writes t c.args.self_id old c.args.event) (sym (c.in_ok-reply.ensures.reply ∙ p.reply)) (writes t c.args.self_id old.last old.run p.noted c.args.event p.accepted p.noting)
+    subst (Writes t c.args.self_id old c.args.event) (sym (c.in_ok-reply.ensures.reply ∙ p.reply)) (writes t c.args.self_id old.last old.running p.noted c.args.event p.accepted p.noting)
 
 pub returns-in_err-reply-clause-cases : goal.returns-in_err-reply-clause-cases
 returns-in_err-reply-clause-cases c =

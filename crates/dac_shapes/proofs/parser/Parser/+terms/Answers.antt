@@ -1,7 +1,7 @@
 use Rattle.std.proofs.Common.{◌≡◌, ◌<◌, ◌∙◌, sym, ap, true, arith, inl, inr}
 use Rattle.dac_tokens.specs.declared.token.Symbol.TheVariants.{Comma}
 use Rattle.dac_tokens.specs.Words.{located_of, word_of, is_end}
-use Rattle.dac_shapes.specs.Shape.{is_mark, term_at}
+use Rattle.dac_shapes.specs.Shape.{is_symbol, term_at}
 use Rattle.dac_shapes.specs.Views.{parser_state, tokens_left}
 use Rattle.dac_shapes.proofs.Loops.{failed, comma_no_end, is_enough, in_fail, in_empty, in_begin, terms_fail, terms_end, terms_bad, terms_fail_more, terms_go, opens}
 use Rattle.dac_shapes.specs.laws.TermCases.{by_name, by_number, by_text, by_mark, by_other_mark, by_end}
@@ -66,7 +66,7 @@ behind_terms-returns-in_err-advance-2-clause-read t c = λ n lt.
 
 pub behind_terms-loop-self-preserved : goal.behind_terms-loop-self-preserved
 behind_terms-loop-self-preserved t c =
-    let comma : is_mark Comma (word_of c.behind_term.new.self.token.token) ≡ true = sym c.is-in-loop-self-2.ensures ∙ c.if-not-is.false in
+    let comma : is_symbol Comma (word_of c.behind_term.new.self.token.token) ≡ true = sym c.is-in-loop-self-2.ensures ∙ c.if-not-is.false in
     let fewer : tokens_left c.behind_term.new.self < tokens_left c.loop-self.self = c.in_ok-behind_term.ensures.fewer (comma_no_end (word_of c.behind_term.new.self.token.token) comma) in
     record {
       goes = λ n lt. terms_go (term_at n) c.args.close (c.loop-self.invariant.goes n lt) (c.in_ok-behind_term.ensures.read n (is_enough _ n lt c.loop-self.invariant.left c.loop-self.invariant.fewer)) (sym c.is-in-loop-self.ensures ∙ c.if-is-2.false) comma c.in_ok-advance-2.ensures.read (omega (arith, fewer, c.in_ok-advance-2.ensures.left));

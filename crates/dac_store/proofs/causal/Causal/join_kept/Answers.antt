@@ -10,7 +10,7 @@ returns-then-branch g c =
     let stays : join mine.store mine.context theirs.store theirs.context ≡ mine.store =
     ap (λ t. join mine.store mine.context t theirs.context) (c.in_ok-leaves.ensures.nothing c.if-branch.true)
     ∙ g.met.S.DotStore.laws.alone mine.store mine.context theirs.context c.tells_invariant.ensures.store (c.in_ok-leaves.ensures.unheard c.if-branch.true) in
-    subst (λ s. IfOk c.share.result (λ kept. kept_in kept ≡ s)) (sym stays) c.share.ensures
+    subst (λ s. IfOk c.shared_copy.result (λ kept. kept_in kept ≡ s)) (sym stays) c.shared_copy.ensures
 
 pub returns-then-branch-2 : goal.returns-then-branch-2
 returns-then-branch-2 g c =
@@ -20,4 +20,4 @@ returns-then-branch-2 g c =
     let stays : join mine.store mine.context theirs.store theirs.context ≡ theirs.store =
     ap (λ s. join s mine.context theirs.store theirs.context) (c.in_ok-leaves-2.ensures.nothing c.if-branch-2.true)
     ∙ g.met.S.DotStore.laws.alone_right theirs.store theirs.context mine.context c.tells_invariant-2.ensures.store (c.in_ok-leaves-2.ensures.unheard c.if-branch-2.true) in
-    subst (λ s. IfOk c.share-then-branch-2.result (λ kept. kept_in kept ≡ s)) (sym stays) c.share-then-branch-2.ensures
+    subst (λ s. IfOk c.shared_copy-then-branch-2.result (λ kept. kept_in kept ≡ s)) (sym stays) c.shared_copy-then-branch-2.ensures

@@ -3,7 +3,7 @@ use Rattle.std.proofs.lemmas.Result.{IfOk-from_err}
 use Rattle.dac_dots.specs.Dots.{dot_cmp}
 use Rattle.dac_dots.specs.laws.Dots.{dots_total}
 use Rattle.dac_dots.specs.declared.dot.Dot.{Dot}
-use Rattle.dac_lattice.specs.Lattices.{IsIn}
+use Rattle.dac_lattice.specs.Lattices.{IsOptionOf}
 use Rattle.dac_lattice.specs.Maps.{IsMap}
 use Rattle.dac_store.specs.Appending.{is_above_entries}
 use Rattle.dac_store.specs.laws.Appending.{sorted_appended, find_appended}
@@ -17,7 +17,7 @@ invariant_of-self-2 g c =
     let e : Dot × g.row.V.Denot = (c.args.dot, c.args.value) in
     rw c.in_ok-push.ensures.ok (record {
       in_order = sorted_appended dots_total es e c.self.invariant.in_order (sym (rw c.as_slice.ensures at c.ends_below.ensures) ∙ c.if-not-ends_below.false);
-      values = λ q. find_appended dots_total (IsIn g.V.Lattice.is_value) es e q (c.self.invariant.values q) c.tells_invariant.ensures;
+      values = λ q. find_appended dots_total (IsOptionOf g.V.Lattice.is_value) es e q (c.self.invariant.values q) c.tells_invariant.ensures;
     })
 
 pub returns-then-not-ends_below-clause-ok : goal.returns-then-not-ends_below-clause-ok

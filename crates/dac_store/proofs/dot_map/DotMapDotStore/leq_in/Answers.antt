@@ -10,14 +10,14 @@ pub loop-key-preserved : goal.loop-key-preserved
 loop-key-preserved g c =
     let s = g.S.DotStore in
     one_more g.met.K.Ord.total g.met.K.MapKey.exact (λ k v. s.below (store_at s.nothing (find g.K.Ord.cmp k c.args.self.now)) c.args.heard.now (store_at s.nothing v) c.args.other_heard.now) _ _ _
-    c.loop-key-test.true c.loop-key-item.is c.loop-key.invariant (rw (← c.of-marked.ensures) (c.leq_at.ensures.0 c.if-not-leq_at.false))
+    c.loop-key-test.true c.loop-key-item.is c.loop-key.invariant (rw (← c.of-filtered.ensures) (c.leq_at.ensures.0 c.if-not-leq_at.false))
 
 pub returns-then-not-leq_at : goal.returns-then-not-leq_at
 returns-then-not-leq_at g c =
     let s = g.S.DotStore in
     let at = at_place g.met.K.Ord.total g.met.K.MapKey.exact (λ k v. s.below (store_at s.nothing (find g.K.Ord.cmp k c.args.self.now)) c.args.heard.now (store_at s.nothing v) c.args.other_heard.now) c.deref-key-items.result.now _ _
     (rw c.deref-key-items.ensures.value c.other.invariant.in_order) c.loop-key-test.true c.loop-key-item.is in
-    (λ e. absurd (false≢true e), λ below. absurd (false≢true (sym c.if-not-leq_at.true ∙ c.leq_at.ensures.1 (rw c.of-marked.ensures (at (rw (c.deref-key-items.ensures.value, c.other.view_is) below))))))
+    (λ e. absurd (false≢true e), λ below. absurd (false≢true (sym c.if-not-leq_at.true ∙ c.leq_at.ensures.1 (rw c.of-filtered.ensures (at (rw (c.deref-key-items.ensures.value, c.other.view_is) below))))))
 
 pub returns : goal.returns
 returns g c =

@@ -1,0 +1,75 @@
+//! What goes on after an event.
+
+ghost use Rattle.std.specs.Prelude.{◌≡◌, ◌↔◌, ◌<◌, length, IsTrue};
+
+use crate::knowledge::Knowledge;
+use dac_state::State;
+use std::marker::Model;
+
+/// What goes on after an event: what the controller knows by then, and the deltas that come. With them comes the
+/// number below which no delta is kept any more.
+pub(crate) struct Advance {
+    /// What the controller knows by then.
+    pub(crate) knowledge: Knowledge,
+    /// The deltas that come, the oldest first.
+    pub(crate) deltas: Vec<State>,
+    /// The number below which no delta is kept any more.
+    pub(crate) trim: u64,
+}
+
+/// Written out: a drop is one call for a proof, wherever it stands.
+impl Drop for Advance {
+    fn drop(self) {
+        let Advance {
+            knowledge: _knowledge,
+            deltas: _deltas,
+            trim: _trim,
+        } = self;
+    }
+}
+
+impl Model for Advance {
+    ghost use Rattle.dac_node.specs.Knowing.{AdvanceValue, coded_advance};
+
+    ghost Value = { AdvanceValue };
+
+    ghost coded = { coded_advance };
+
+    ghost view = { λ a. record {
+      knowledge = a.knowledge;
+      deltas = a.deltas.items;
+      trim = a.trim;
+    } };
+}
+
+impl Advance {
+    /// What the controller knows by then, the deltas that come, and the number below which none is kept any more.
+    pub(crate) fn into_parts(self) -> (Knowledge, Vec<State>, u64)
+        ensures knowledge { result.0 ≡ self.knowledge }
+        ensures deltas { result.1.items ≡ self.deltas }
+        ensures trim { result.2 ≡ self.trim }
+    {
+        let Advance {
+            knowledge,
+            deltas,
+            trim,
+        } = self;
+        (knowledge, deltas, trim)
+    }
+
+    /// Whether a delta comes. What was heard is new exactly then.
+    pub(crate) fn has_news(&self) -> bool
+        ensures { IsTrue result ↔ (0 < length self.now.deltas) }
+    {
+        !self.deltas.is_empty()
+    }
+
+    /// The same, where no delta below this number is kept any more.
+    pub(crate) fn with_trim(mut self, trim: u64) -> Self
+        ensures { result
+            ≡ record { knowledge = self.knowledge; deltas = self.deltas; trim = trim } }
+    {
+        self.trim = trim;
+        self
+    }
+}

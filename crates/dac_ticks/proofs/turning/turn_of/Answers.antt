@@ -1,0 +1,55 @@
+use Rattle.std.proofs.Common.{◌≡◌, ℕ, ◌+◌, ◌≤◌, List, sym, ap, subst, ◌∙◌, arith}
+use Rattle.dac_base.specs.declared.AppId.{AppId}
+use Rattle.dac_operations.specs.Operations.{Operation}
+use Rattle.dac_config.specs.Table.{app_count}
+use Rattle.dac_placement.specs.Placement.{apps_of}
+use Rattle.dac_decide.specs.FailoverWait.{waits_of}
+use Rattle.dac_commands.specs.Commands.{KnowsItself, greatest_counter}
+use Rattle.dac_ticks.specs.Ticks.{Turn, turn_from, turned, turn_over, turn_of}
+use Rattle.dac_ticks.specs.TurnSoFar.{added, found_of, so_far}
+use Rattle.dac_ticks.specs.InWords.{IsTurn}
+use Rattle.dac_ticks.specs.laws.Turning.{numbered, apps_from, turned_is, turn_more, turned_knows, turned_counter}
+use Rattle.dac_ticks.specs.laws.Words.{turn_in_words}
+use Rattle.dac_ticks.proofs.turning.turn_of.Goals as goal
+
+one_more : (a b g k n : ℕ) → a ≡ b → b ≤ g + 1 → g ≤ k + n → a ≤ k + (n + 1)
+one_more a b g k n e h i = omega arith
+
+pub loop-number-preserved : goal.loop-number-preserved
+loop-number-preserved c =
+    let t = c.args.config.now in
+    let own = c.args.own in
+    let waits = c.args.waits.now in
+    let now = c.args.now in
+    let s = c.args.state.now in
+    let n = c.loop-number.number in
+    let before : Turn = so_far s c.loop-number.progress in
+    let after : Turn = so_far s c.add.new.self in
+    let step : after ≡ turned t own waits now before (numbered n) =
+    c.in_ok-add.ensures.added s
+    ∙ ap (added before (numbered n)) (c.in_ok-found.ensures ∙ ap (λ u. found_of t own waits now u (numbered n)) c.state-state.ensures)
+    ∙ turned_is t own waits now before (numbered n) in
+    record {
+      turn = step ∙ ap (λ turn. turned t own waits now turn (numbered n)) c.loop-number.invariant.turn ∙ sym (turn_more t own waits now (turn_from s) n);
+      knows = subst (λ (turn : Turn). KnowsItself own turn.state) (sym step) (turned_knows t own waits now before (numbered n) c.loop-number.invariant.knows);
+      counter = one_more _ _ (greatest_counter own before.state.known) (greatest_counter own s.known) n (ap (λ (turn : Turn). greatest_counter own turn.state.known) step)
+          (turned_counter t own waits now before (numbered n)) c.loop-number.invariant.counter;
+      sparing = c.in_ok-add.ensures.sparing c.loop-number.invariant.sparing;
+    }
+
+pub returns-clause-words : goal.returns-clause-words
+returns-clause-words c = λ notes stands.
+    let t = c.args.config.now in
+    let own = c.args.own in
+    let now = c.args.now in
+    let s = c.args.state.now in
+    let up_to = c.loop-number.auto.number-end in
+    let not_below = c.loop-number-test.false in
+    let count = c.apps-number-end.ensures.count in
+    let end : c.loop-number.number ≡ app_count t = omega arith in
+    let all : so_far s c.loop-number.progress ≡ turn_of t own (waits_of t notes) now s =
+    c.loop-number.invariant.turn ∙ (λ i. turn_over t own (stands i) now (turn_from s) (apps_from 0 (end i))) in
+    let ops = sym (c.new-3.ensures ∙ ap (λ (turn : Turn). turn.ops) all) in
+    let passed = sym (c.new-4.ensures ∙ ap (λ (turn : Turn). turn.passed) all) in
+    subst (λ (os : List Operation). IsTurn t own notes now s (apps_of t) os c.new-4.result) ops
+    (subst (λ (apps : List AppId). IsTurn t own notes now s (apps_of t) (turn_of t own (waits_of t notes) now s).ops apps) passed (turn_in_words t own notes now s c.requires.room))
