@@ -2,8 +2,8 @@
 use crate::sample::{dot, origin};
 use dac_base::{NoMemory, NodeId};
 use dac_bytes::{ByteReader, ByteWriter, ReadFault, ReadFaultKind, Version};
-use dac_contexts::Context;
-use dac_dots::{Dot, Origin};
+use dac_dots::Context;
+use dac_origins::{Dot, Origin};
 use std::alloc::Global;
 
 const NUMBERS: &[u8] = b"\x12\x34\x56\x78\x9a\xbc\xde\x01\x02\x03\x04\x05\x06\x07\x08";

@@ -1,7 +1,7 @@
 //! Dots and a configuration that the tests share.
 use dac_base::NodeId;
 use dac_config::{Config, read_config};
-use dac_dots::{Dot, Origin};
+use dac_origins::{Dot, Origin};
 use std::alloc::Global;
 
 /// The example of OTP's manual on distributed applications.

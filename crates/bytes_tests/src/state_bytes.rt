@@ -3,8 +3,8 @@ use crate::sample::{EXAMPLE, config, dot, origin};
 use dac_base::{AppId, NoMemory, NodeId};
 use dac_bytes::{ByteWriter, Version};
 use dac_config::Config;
-use dac_dots::Dot;
 use dac_lattice::{Flag, Lattice};
+use dac_origins::Dot;
 use dac_state::{Claim, How, Key, State, StateFault, StateFaultKind};
 use std::alloc::Global;
 

@@ -1,8 +1,8 @@
 //! States of a few operations.
 use crate::sample::dot;
 use dac_base::{AppId, NoMemory, NodeId};
-use dac_dots::Dot;
 use dac_lattice::{Bottom, Flag, Lattice};
+use dac_origins::Dot;
 use dac_state::{Act, DotList, How, Key, Op, State};
 use std::alloc::Global;
 

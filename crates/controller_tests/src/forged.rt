@@ -1,10 +1,10 @@
 //! Forged states: well-formed ones that no operations of a world mean.
-use crate::bearing::is_borne;
 use crate::steps::{Forged, Kind, TWO, meaning_of};
 use dac_base::NodeId;
 use dac_config::{Config, read_config};
 use dac_state::How;
 use std::alloc::Global;
+use tried_states::is_borne;
 
 /// The greatest counter, incarnation and term.
 const MOST: u64 = 1 << 62;

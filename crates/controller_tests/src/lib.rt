@@ -2,11 +2,8 @@
 //!
 //! The crates below are proved. So here stand worked cases as tables, each public call once with ample memory, and nothing
 //! that a contract says wholly. What scripts can say is tried by running the program.
-//!
-//! What is asked of a state that may be forged stands in [`bearing`], for the program `growths` too.
 #![tactic(auto)]
 
-pub mod bearing;
 #[cfg(test)]
 mod boards;
 #[cfg(test)]

@@ -3,7 +3,7 @@ use crate::steps::dot;
 use dac_base::{AppId, NoMemory, NodeId};
 use dac_config::{Config, read_config};
 use dac_core::{Body, Command, Event, Message, Node, Refusal, Reply};
-use dac_dots::Dot;
+use dac_origins::Dot;
 use dac_state::{Act, DotList, How, Key, Op, State};
 use std::alloc::Global;
 

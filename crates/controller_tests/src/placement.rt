@@ -2,7 +2,7 @@
 use crate::steps::{Kind, Step, TWO, state_after};
 use dac_base::{AppId, NodeId};
 use dac_config::{Config, read_config};
-use dac_dots::Origin;
+use dac_origins::Origin;
 use dac_placement::{
     Verdict, eligible, holder, is_permitted, is_started, is_up, load, runs_at, verdict,
 };

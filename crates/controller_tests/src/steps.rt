@@ -1,7 +1,7 @@
 //! States of a few operations, which are said as plain steps.
 use dac_base::{AppId, NoMemory, NodeId};
-use dac_dots::{Dot, Origin};
 use dac_lattice::{Bottom, Lattice};
+use dac_origins::{Dot, Origin};
 use dac_state::{Act, DotList, How, Key, Op, State};
 use std::alloc::Global;
 

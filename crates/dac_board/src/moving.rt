@@ -8,8 +8,8 @@ ghost use Rattle.dac_board.specs.Grown.{KeepsApp};
 ghost use Rattle.dac_board.specs.Alike.{IsSameOf, IsAbsent};
 
 use dac_base::{AppId, MAX_APPS};
-use dac_dots::Origin;
 use dac_lattice::{Flag, Lattice};
+use dac_origins::Origin;
 use dac_state::{Key, State};
 use dac_store::{DotFun, DotSet};
 use std::cmp::Ordering;

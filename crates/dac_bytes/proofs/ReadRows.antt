@@ -7,13 +7,13 @@ use Rattle.std.specs.Ordering.{eq_by_cmp}
 use Rattle.std.proofs.Common.{inl, inr, sym, ap, subst, ◌∙◌, arith}
 use Rattle.std.proofs.lemmas.Bool.{and_from, or_cases, or_parts, or_left, or_right, ltb-false, cases_lt, false≢true}
 use Rattle.dac_base.specs.declared.limits.TheConstants.{MAX_COUNTER}
-use Rattle.dac_dots.specs.Keys.{has_key}
-use Rattle.dac_dots.specs.laws.InOrder.{less, tie}
-use Rattle.dac_dots.specs.Dots.{Dots, dot_cmp, origin_cmp}
-use Rattle.dac_dots.specs.laws.Dots.{origins_total, exact_origins}
-use Rattle.dac_dots.specs.declared.dot.Origin.{Origin}
-use Rattle.dac_contexts.specs.laws.RowSets.{rises_to, is_dots_in, kept_are, dots_back}
-use Rattle.dac_contexts.specs.Rows.{Row, rows_of, dots_in, origins, rises_on, HasSome, EndBefore, CanFollow}
+use Rattle.dac_origins.specs.Keys.{has_key}
+use Rattle.dac_origins.specs.laws.InOrder.{less, tie}
+use Rattle.dac_origins.specs.Dots.{Dots, dot_cmp, origin_cmp}
+use Rattle.dac_origins.specs.laws.Dots.{origins_total, exact_origins}
+use Rattle.dac_origins.specs.declared.dot.Origin.{Origin}
+use Rattle.dac_dots.specs.laws.RowSets.{rises_to, is_dots_in, kept_are, dots_back}
+use Rattle.dac_dots.specs.Rows.{Row, rows_of, dots_in, origins, rises_on, HasSome, EndBefore, CanFollow}
 use Rattle.dac_bytes.specs.declared.version.Version.{Version}
 use Rattle.dac_bytes.specs.declared.fault.ReadFaultKind.TheVariants.{BadOrder, BadNumber}
 use Rattle.dac_bytes.specs.Reading.{Rest, Field, Gives, ◌>>=◌, fault, rows_at, context_at, is_above, number_at, range_at, counter_at, origin_at, origin_above_at, items_at, further_at, further_count_at, row_at}

@@ -3,13 +3,13 @@ use Rattle.std.specs.Prelude.{◌≡◌, ℕ, ◌+◌, ◌<◌, ◌≤◌, ◌^�
 use Rattle.std.specs.List.{AllByRecursion}
 use Rattle.std.specs.FinSet as set
 use Rattle.dac_base.specs.declared.limits.TheConstants.{MAX_COUNTER}
-use Rattle.dac_dots.specs.Dots.{Dots}
-use Rattle.dac_dots.specs.declared.dot.Origin.{Origin}
-use Rattle.dac_dots.specs.declared.dot.Dot.{Dot}
+use Rattle.dac_origins.specs.Dots.{Dots}
+use Rattle.dac_origins.specs.declared.dot.Origin.{Origin}
+use Rattle.dac_origins.specs.declared.dot.Dot.{Dot}
 use Rattle.dac_bytes.specs.declared.version.Version.{Version}
 use Rattle.dac_bytes.specs.Versions.{highest_incarnation}
 use Rattle.dac_bytes.specs.Items.{Chain}
-use Rattle.dac_contexts.specs.Rows.{Row, rows_of}
+use Rattle.dac_dots.specs.Rows.{Row, rows_of}
 
 -- an incarnation: from 1 to the greatest that the version has
 abbrev pub IsIncarnation : Version → ℕ → Type 0

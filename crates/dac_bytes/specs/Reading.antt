@@ -5,15 +5,15 @@ use Rattle.std.specs.declared.cmp.Ordering.{Ordering}
 use Rattle.std.specs.Ordering.{is_lt}
 use Rattle.dac_base.specs.declared.NodeId.{NodeId}
 use Rattle.dac_base.specs.declared.limits.TheConstants.{MAX_COUNTER}
-use Rattle.dac_dots.specs.declared.dot.Origin.{Origin}
-use Rattle.dac_dots.specs.declared.dot.Dot.{Dot}
-use Rattle.dac_dots.specs.Dots.{Dots, dot_cmp, origin_cmp}
+use Rattle.dac_origins.specs.declared.dot.Origin.{Origin}
+use Rattle.dac_origins.specs.declared.dot.Dot.{Dot}
+use Rattle.dac_origins.specs.Dots.{Dots, dot_cmp, origin_cmp}
 use Rattle.dac_bytes.specs.declared.fault.ReadFaultKind.{ReadFaultKind}
 use Rattle.dac_bytes.specs.declared.fault.ReadFaultKind.TheVariants.{Short, BadNumber, BadOrder, BadName, NoMemory}
 use Rattle.dac_bytes.specs.declared.fault.ReadFault.{ReadFault}
 use Rattle.dac_bytes.specs.declared.version.Version.{Version}
 use Rattle.dac_bytes.specs.Versions.{incarnation_width, highest_incarnation}
-use Rattle.dac_contexts.specs.Rows.{Row, dots_in}
+use Rattle.dac_dots.specs.Rows.{Row, dots_in}
 
 -- the rest of a text of bytes, and the offset of its first byte in that text
 pub record Rest : Type 0 where

@@ -1,6 +1,6 @@
 //! Contexts as bytes: by origin, how far its counters go without a gap, and the further ones.
 ghost use Rattle.std.specs.Prelude.{◌≡◌, ◌++◌, IfOk, OnOk, length};
-ghost use Rattle.dac_contexts.specs.Rows.{AreRowsOf, rows_of};
+ghost use Rattle.dac_dots.specs.Rows.{AreRowsOf, rows_of};
 ghost use Rattle.dac_bytes.specs.Spelling.{context_bytes, row_bytes};
 ghost use Rattle.dac_bytes.specs.Numbers.{u64_bytes};
 ghost use Rattle.std.specs.List.{flat_map};
@@ -8,8 +8,8 @@ ghost use Rattle.std.specs.List.{flat_map};
 use crate::version::Version;
 use crate::writer::ByteWriter;
 use dac_base::NoMemory;
-use dac_contexts::{Context, Further};
-use dac_dots::Origin;
+use dac_dots::{Context, Further};
+use dac_origins::Origin;
 
 fn write_numbers(mut writer: ByteWriter, numbers: &[u64]) -> Result<ByteWriter, NoMemory>
     ensures { IfOk result (λ written. written ≡ writer ++ flat_map u64_bytes numbers.now) }

@@ -7,7 +7,7 @@ ghost use Rattle.dac_bytes.specs.Reading.{IsOfBytes, Reads, after, taken, number
 use crate::fault::{ReadFault, ReadFaultKind};
 use crate::version::Version;
 use dac_base::{MAX_COUNTER, MAX_INCARNATION, NodeId};
-use dac_dots::{Dot, Origin};
+use dac_origins::{Dot, Origin};
 use std::marker::Model;
 
 /// The rest of some bytes that are being read, and the offset of its first byte. Contracts see these two.

@@ -1,7 +1,7 @@
 //! Contexts that are read, row by row.
 ghost use Rattle.std.specs.Prelude.{◌≡◌, ◌+◌, ◌++◌, ℕ, IfOk, List, Ok, None, Some, length};
-ghost use Rattle.dac_dots.specs.Dots.{Dots};
-ghost use Rattle.dac_contexts.specs.Rows.{rows_of};
+ghost use Rattle.dac_origins.specs.Dots.{Dots};
+ghost use Rattle.dac_dots.specs.Rows.{rows_of};
 ghost use Rattle.dac_bytes.specs.Reading.{Gives, IsOfBytes, context_at, further_at, items_at, row_at, rows_at};
 ghost use Rattle.dac_bytes.specs.Ranges.{IsContext};
 ghost use Rattle.dac_bytes.specs.Spelling.{context_bytes};
@@ -11,8 +11,8 @@ use crate::fault::{ReadFault, ReadFaultKind};
 use crate::reader::ByteReader;
 use crate::version::Version;
 use dac_base::MAX_COUNTER;
-use dac_contexts::Context;
-use dac_dots::Origin;
+use dac_dots::Context;
+use dac_origins::Origin;
 use std::alloc::Global;
 
 /// The dots of one origin as they are read: the counters 1 to `upto`, and the further ones.

@@ -5,7 +5,7 @@ ghost use Rattle.dac_bytes.specs.Spelling.{dot_bytes, incarnation_bytes, origin_
 
 use crate::version::Version;
 use dac_base::NoMemory;
-use dac_dots::{Dot, Origin};
+use dac_origins::{Dot, Origin};
 use std::alloc::Global;
 use std::marker::Model;
 

@@ -7,12 +7,12 @@ use Rattle.std.proofs.lemmas.Map.Views.{exact_unsigned_eq}
 use Rattle.std.proofs.lemmas.Bool.{false_from_ne_true, leb-false}
 use Rattle.dac_base.specs.declared.AppId.{AppId}
 use Rattle.dac_base.specs.declared.NodeId.{NodeId}
-use Rattle.dac_dots.specs.declared.dot.Origin.{Origin}
-use Rattle.dac_dots.specs.declared.dot.Dot.{Dot}
-use Rattle.dac_dots.specs.Dots.{Dots, dot, dot_cmp, IsNext, IsUsedUp}
-use Rattle.dac_dots.specs.laws.Dots.{dots_total, exact_dots}
-use Rattle.dac_dots.specs.Keys.{IsRising, has_key}
-use Rattle.dac_dots.specs.laws.InOrder.{in_order-rising, has_key-in_order}
+use Rattle.dac_origins.specs.declared.dot.Origin.{Origin}
+use Rattle.dac_origins.specs.declared.dot.Dot.{Dot}
+use Rattle.dac_origins.specs.Dots.{Dots, dot, dot_cmp, IsNext, IsUsedUp}
+use Rattle.dac_origins.specs.laws.Dots.{dots_total, exact_dots}
+use Rattle.dac_origins.specs.Keys.{IsRising, has_key}
+use Rattle.dac_origins.specs.laws.InOrder.{in_order-rising, has_key-in_order}
 use Rattle.dac_chains.specs.declared.claims.How.{How}
 use Rattle.dac_chains.specs.declared.claims.How.TheVariants.{Takeover as TakenOver}
 use Rattle.dac_wishes.specs.declared.key.Key.{Key}

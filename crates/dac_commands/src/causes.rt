@@ -8,8 +8,8 @@ use crate::keys::{key_of, live_of, refusal_to_name};
 use crate::taking::refusal_to_take;
 use dac_base::{AppId, MAX_REPLACED, NodeId};
 use dac_config::Config;
-use dac_dots::Origin;
 use dac_events::{Command, Refusal};
+use dac_origins::Origin;
 use dac_placement::{State, is_up};
 
 /// Why a controller that runs as this incarnation with this state refuses a command, if it does. It is the cause of

@@ -1,13 +1,13 @@
 //! The counters of an incarnation's operations and the terms of an application's claims: whether any is left, and which
 //! term is next.
 ghost use Rattle.std.specs.Prelude.{◌≡◌, ◌↔◌, IsTrue, false};
-ghost use Rattle.dac_dots.specs.Dots.{IsUsedUp};
+ghost use Rattle.dac_origins.specs.Dots.{IsUsedUp};
 ghost use Rattle.dac_commands.specs.Commands.{next_term};
 ghost use Rattle.dac_commands.specs.Causes.{terms_used_up, used_up};
 ghost use Rattle.dac_commands.specs.Written.{HasLastTerm};
 
 use dac_base::{AppId, MAX_COUNTER};
-use dac_dots::Origin;
+use dac_origins::Origin;
 use dac_placement::State;
 
 /// Whether the counters of an incarnation's operations are used up. One of its dots that are known here has the last

@@ -1,7 +1,7 @@
 //! The operations that a controller issues: for an accepted command, and to claim an application.
 
 ghost use Rattle.std.specs.Prelude.{◌≡◌, IfOk, map, false, None};
-ghost use Rattle.dac_dots.specs.declared.dot.Origin.{Origin as Incarnation};
+ghost use Rattle.dac_origins.specs.declared.dot.Origin.{Origin as Incarnation};
 ghost use Rattle.dac_operations.specs.Operations.{operation, fault_of};
 ghost use Rattle.dac_commands.specs.Commands.{KnowsItself, next_operation, standing_starts as starts_standing, standing_permits as permits_standing, standing_drains as drains_standing, claim_act, act_of as said_by};
 ghost use Rattle.dac_wishes.specs.DrainsValue.{origin};
@@ -13,10 +13,10 @@ use crate::keys::{key_of, live_of};
 use dac_base::{AppId, NoMemory, NodeId};
 use dac_chains::How;
 use dac_config::Config;
-use dac_dots::{Dot, Origin};
 use dac_events::Command;
 use dac_lattice::{Flag, Lattice};
 use dac_operations::{Act, Op};
+use dac_origins::{Dot, Origin};
 use dac_placement::{State, runner};
 use dac_wishes::{DotList, Key};
 use std::alloc::{AllocError, Global};

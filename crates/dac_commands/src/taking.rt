@@ -5,8 +5,8 @@ ghost use Rattle.dac_commands.specs.Causes.{first, causes_to_take, causes_to_cla
 use crate::counters::{dots_used_up, terms_used_up};
 use dac_base::AppId;
 use dac_config::Config;
-use dac_dots::Origin;
 use dac_events::Refusal;
+use dac_origins::Origin;
 use dac_placement::{State, eligible, is_earlier, runner, runs_at};
 
 /// Why a controller's own node doesn't take an application over, if it doesn't.

@@ -14,6 +14,8 @@ mod moments;
 mod start_gate;
 mod waits;
 
+pub use dac_board::Board;
+pub use dac_placement::{Verdict, eligible, load, verdict};
 pub use moments::Moments;
 pub use start_gate::{Opening, gate};
 pub use waits::Waits;

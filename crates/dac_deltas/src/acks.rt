@@ -5,7 +5,7 @@ ghost use Rattle.dac_deltas.specs.Numbers.{raised};
 
 use crate::entries::Entries;
 use dac_base::NoMemory;
-use dac_dots::Origin;
+use dac_origins::Origin;
 use std::alloc::Global;
 use std::marker::Model;
 
@@ -19,7 +19,7 @@ pub struct Acks {
 impl Model for Acks {
     ghost use Rattle.std.specs.FinMap as map;
     ghost use Rattle.std.specs.Coded.{coded_ℕ};
-    ghost use Rattle.dac_dots.specs.Dots.{coded_origin};
+    ghost use Rattle.dac_origins.specs.Dots.{coded_origin};
     ghost use Rattle.dac_deltas.specs.Numbers.{Numbers};
 
     ghost Value = { Numbers };

@@ -5,8 +5,8 @@ ghost use Rattle.std.specs.FinMap.{find, put};
 ghost use Rattle.dac_lattice.specs.Search.{IsInOrder};
 
 use dac_base::NoMemory;
-use dac_dots::MapKey;
 use dac_lattice::merging::value_at;
+use dac_origins::MapKey;
 use std::alloc::Global;
 use std::marker::Model;
 

@@ -1,4 +1,5 @@
-pub mod Dots
-pub mod InOrder
-pub mod Keys
+pub mod DotFilters
+pub mod Rows
+pub mod Spans
+pub mod Sharing
 pub mod laws

@@ -1,3 +1,3 @@
-pub mod KeyLaws
-pub mod Dots
-pub mod InOrder
+pub mod CounterLaws
+pub mod RowLaws
+pub mod RowSets

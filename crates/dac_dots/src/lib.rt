@@ -1,12 +1,23 @@
-//! Dots, the names of operations, and the keys of maps and sets.
+//! Causal contexts: the sets of dots that a replica has heard of.
 //!
-//! Each operation that a node issues has a dot: the node, its incarnation and a counter from 1. Contracts speak of
-//! finite sets of dots. Which dots an origin may use next, and which sets are version vectors, is said of those sets.
+//! The sets are after the causal contexts of delta-state replicated data types. Contracts see a context as a finite set
+//! of dots and nothing of how it is kept. So this crate promises the sets' own laws. They say what a set contains,
+//! that equal sets are equal values, and which dot of an origin comes next.
+//!
+//! A context is kept by origin, as spans of counters that follow one another. So calls cost by the number of
+//! origins and of gaps, and not by that of dots. Only the list of all dots, and that of the further counters
+//! of a row, cost by what they list.
 #![tactic(auto)]
 
-pub use dac_base::NoMemory;
-pub use dot::{Dot, Origin};
-pub use keys::MapKey;
+pub use context::Context;
+pub use dac_origins::{Dot, MapKey, NoMemory, Origin, keys};
+pub use filtered::FilteredContext;
+pub use row::Further;
+pub use shared::SharedContext;
 
-mod dot;
-pub mod keys;
+mod context;
+mod counters;
+mod filter;
+mod filtered;
+mod row;
+mod shared;

@@ -1,3 +1,2 @@
 pub mod InForm
 pub mod HeldForm
-pub mod Issued

@@ -7,6 +7,6 @@ pub mod Search
 pub mod Maps
 pub mod Pieces
 pub mod laws
-pub use Rattle.dac_dots.specs.Dots
-pub use Rattle.dac_dots.specs.declared.dot.Dot
-pub use Rattle.dac_dots.specs.declared.dot.Origin
+pub use Rattle.dac_origins.specs.Dots
+pub use Rattle.dac_origins.specs.declared.dot.Dot
+pub use Rattle.dac_origins.specs.declared.dot.Origin

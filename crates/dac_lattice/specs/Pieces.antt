@@ -1,7 +1,7 @@
 -- Pieces of a state: lattices to which each operation adds its delta. A set of operations is given as a list; order
 -- and repeats don't matter.
 use Rattle.std.specs.Prelude.{◌≡◌, ◌⊎◌, List, [], ◌∷◌, ◌++◌}
-use Rattle.dac_dots.specs.declared.dot.Dot.{Dot}
+use Rattle.dac_origins.specs.declared.dot.Dot.{Dot}
 
 -- an operation, by its dot and its act, is one of these
 abbrev pub IsGivenIn : {A : Type 0} → Dot × A → List (Dot × A) → Type 0

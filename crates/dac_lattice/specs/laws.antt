@@ -6,4 +6,4 @@ pub mod Flags
 pub mod Lattices
 pub mod Entries
 pub mod Maps
-pub use Rattle.dac_dots.specs.laws.Dots
+pub use Rattle.dac_origins.specs.laws.Dots

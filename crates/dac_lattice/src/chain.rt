@@ -2,7 +2,7 @@
 ghost use Rattle.std.specs.Prelude.{◌≡◌, ◌↔◌, IsTrue, IfOk};
 
 use crate::{Bottom, Lattice};
-use dac_dots::{MapKey, NoMemory};
+use dac_origins::{MapKey, NoMemory};
 use std::alloc::Global;
 
 /// The greatest value seen. The order is that of the values, and a join takes the greater of two.

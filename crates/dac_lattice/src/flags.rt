@@ -2,7 +2,7 @@
 ghost use Rattle.std.specs.Prelude.{◌≡◌, ◌↔◌, IsTrue, IfOk};
 
 use crate::{Bottom, Lattice};
-use dac_dots::{MapKey, NoMemory};
+use dac_origins::{MapKey, NoMemory};
 use std::alloc::Global;
 
 /// Whether something is up. Up is below down, so what is said to be down by one is down for all who hear it. It says

@@ -2,7 +2,7 @@
 ghost use Rattle.std.specs.Prelude.{◌≡◌, ◌↔◌, IsTrue, IfOk};
 ghost use Rattle.dac_lattice.specs.Lattices.{IsLattice};
 
-use dac_dots::NoMemory;
+use dac_origins::NoMemory;
 use std::alloc::Global;
 
 /// Values with an order in which any two have a least upper bound, their join.

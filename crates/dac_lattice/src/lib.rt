@@ -11,7 +11,7 @@
 #![tactic(auto)]
 
 pub use chain::Max;
-pub use dac_dots::{Dot, MapKey, Origin};
+pub use dac_origins::{Dot, MapKey, Origin};
 pub use flags::Flag;
 pub use lattice::{Bottom, Lattice};
 pub use maps::MapOf;

@@ -6,7 +6,7 @@ ghost use Rattle.dac_lattice.specs.Lattices.{IsOptionBelow};
 
 use crate::merging::{Combine, merge, value_at};
 use crate::{Bottom, Lattice};
-use dac_dots::{MapKey, NoMemory};
+use dac_origins::{MapKey, NoMemory};
 use std::alloc::Global;
 use std::marker::Model;
 

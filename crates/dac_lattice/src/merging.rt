@@ -6,7 +6,7 @@ ghost use Rattle.dac_lattice.specs.Entries.{merge_entries, keep};
 ghost use Rattle.dac_lattice.specs.Merges.{lowest_of, keep_lowest};
 ghost use Rattle.dac_lattice.specs.Search.{IsInOrder, IsPlaceOf};
 
-use dac_dots::{MapKey, NoMemory};
+use dac_origins::{MapKey, NoMemory};
 use std::alloc::Global;
 use std::cmp::Ordering;
 

@@ -2,7 +2,7 @@
 ghost use Rattle.std.specs.Prelude.{◌≡◌, ◌↔◌, IsTrue, IfOk};
 
 use crate::{Bottom, Lattice};
-use dac_dots::NoMemory;
+use dac_origins::NoMemory;
 use std::alloc::Global;
 
 /// Two values side by side. Each has its own order. A pair is below another where both of its values are below the

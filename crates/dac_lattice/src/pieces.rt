@@ -1,10 +1,10 @@
 //! Pieces of a state, to which each operation adds its delta.
 ghost use Rattle.std.specs.Prelude.{◌≡◌, List, IfOk};
-ghost use Rattle.dac_dots.specs.declared.dot.Dot.{Dot};
+ghost use Rattle.dac_origins.specs.declared.dot.Dot.{Dot};
 ghost use Rattle.dac_lattice.specs.Pieces.{AreOperations, IsPiece, JoinsAreTogether, OrderAndRepeatsAreNothing, DeltasAreMeanings};
 
 use crate::Bottom;
-use dac_dots::{Dot, NoMemory};
+use dac_origins::{Dot, NoMemory};
 use std::alloc::Global;
 
 /// A lattice to which each operation adds its delta.

@@ -1,1 +1,4 @@
-mod Bringing
+mod Found
+mod Repeated
+mod Shipped
+mod Spoken

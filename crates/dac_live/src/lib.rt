@@ -1,50 +1,35 @@
-//! Sites: one controller, which any thread that has a seat may call.
+//! What a run reports is read off the closed journals: what the links carried, the last pages, and what callers asked.
 //!
-//! A [`Site`] is a node under a lock, with a journal of all that it answered. [`blank_site`] makes one without a name,
-//! and [`open_site`] opens it under its name, with a [`Seat`] for each caller. Each record is followed by a page, which a
-//! [`PageReader`] reads beside the lock. [`Site::call`] asks the node for a seat,
-//! which keeps the place, the event and the answer. [`Site::close`] takes all seats back and gives the journal.
-//!
-//! The lock hides the journal while the site is open. So a call promises its answer after some history of the node,
-//! whose next record is that of the call. Closing shows the journal itself. It is a history of the node in which each
-//! seat's calls stand once, at their places, and nothing else stands. Where the calls don't match it, a
-//! [`CloseFault`] is the answer. Nothing promises that a call gets the lock.
-//!
-//! A caller, in a function over the name `L` of a site. It boots the node, and reads the page behind that. The module
-//! `callers` of `live_tests` runs it, under the name `Brand`, for a blank of `blank_site(rt, alloc, &config, node, 0, 1, 1)`.
-//!
-//! ```
-//! let (site, mut seats, mut readers) = open_site::<L, R>(rt, blank).ok()?;
-//! let mut place = 0;
-//! if let (Some(seat), Some(reader)) = (seats.first_mut(), readers.first_mut()) {
-//!     if let Ok(mut receipt) = site.call(rt, seat, Event::Boot { now: 0 }) {
-//!         reader.learn(&mut receipt);
-//!         if let Some(page) = reader.read() {
-//!             place = page.place;
-//!         }
-//!     }
-//! }
-//! let closed = site.close(rt, seats).ok()?;
-//! Some((place, closed.records().len()))
-//! ```
+//! [`run_live`] runs phases at sites and makes a [`LiveReport`] of what came of them. It asks nothing of the threads: each
+//! journal is a history of its node, and the rest of the report is compared with the journals before it is handed out.
 #![tactic(auto)]
 
-pub use blank::{SiteBlank, SiteName, blank_site};
-pub use dac_journal::{Answer, Call, Closed, Journal, MAX_RECORDS, Record};
-pub use dac_pages::Page;
-pub use desk::Desk;
-pub use faults::{CloseFault, LiveFault, OpenFault};
-pub use reader::PageReader;
-pub use replaying::replay;
-pub use seat::Seat;
-pub use site::{Receipt, Site, open_site};
+pub use callers::{answers_of, are_asked, are_told, strange_node};
+pub use dac_run::{Ask, Closed, Gate, Line, Page, Phase, RunFault};
+pub use dac_sites::{
+    Answer, Call, CloseFault, LiveFault, OpenFault, PageReader, Receipt, Record, Seat, Site,
+    SiteBlank, SiteName, blank_site, laws, open_site,
+};
+pub use dac_workers::links;
+pub use histories::are_history;
+pub use lines::{are_answered, asked_by, told_to};
+pub use lists::{AnswerList, AnswersByPhase, ClosedList, PageList};
+pub use live::run_live;
+pub use nodes::last_pages;
+pub use owed::are_runnable;
+pub use pages::last_page;
+pub use pairs::lost_link;
+pub use report::{LineAnswer, LiveReport};
 
-mod blank;
-mod desk;
-mod faults;
-pub mod laws;
-mod reader;
-mod replaying;
-mod same;
-mod seat;
-mod site;
+mod callers;
+mod handing;
+mod histories;
+mod lines;
+mod lists;
+mod live;
+mod nodes;
+mod owed;
+mod pages;
+mod pairs;
+mod report;
+mod seats;

@@ -4,8 +4,8 @@ use Rattle.std.specs.List.{cons_option}
 use Rattle.std.proofs.lemmas.List.{take_more, length-map, get_or-map}
 use Rattle.std.proofs.lemmas.List.Elements.{filter_map-append}
 use Rattle.dac_live_script.specs.declared.line.LiveLine.{LiveLine}
-use Rattle.dac_report.specs.Line.{Line}
-use Rattle.dac_report.specs.Phase.{Phase}
+use Rattle.dac_live.specs.Line.{Line}
+use Rattle.dac_live.specs.Phase.{Phase}
 use Rattle.dac_live_play.specs.Phases.{asked_by, lines_in, AsksAs}
 
 pub asked_more : (part : List LiveLine) (i : ℕ) (line : LiveLine) (asked : Option Line) → i < length part → line ≡ get_or part i line → asked ≡ asked_by line → lines_in (take (i + 1) part) ≡ lines_in (take i part) ++ cons_option asked []

@@ -7,9 +7,9 @@ use Rattle.std.proofs.lemmas.List.Elements.{All-nil, All-cons, All-head, All-tai
 use Rattle.dac_live_script.specs.declared.line.LiveLine.{LiveLine}
 use Rattle.dac_live_script.specs.declared.line.LiveLine.TheVariants.{Do, Read, Feed, Phase}
 use Rattle.dac_live_script.specs.LiveLines.{HasActors}
-use Rattle.dac_report.specs.Lines.{IsLineOf, HasLines}
-use Rattle.dac_report.specs.Line.{Line}
-use Rattle.dac_report.specs.Phase as run
+use Rattle.dac_live.specs.Lines.{IsLineOf, HasLines}
+use Rattle.dac_live.specs.Line.{Line}
+use Rattle.dac_live.specs.Phase as run
 use Rattle.dac_live_play.specs.Phases.{parts_of, lines_in, AsksAs}
 
 module _ (nodes : ℕ) where

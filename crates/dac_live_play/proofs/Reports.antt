@@ -3,8 +3,8 @@ use Rattle.std.proofs.Common.{◌≡◌, ℕ, List, Result, Ok, Err, true≢fals
 use Rattle.std.specs.Result.{is_ok}
 use Rattle.dac_config.specs.Table.{Table}
 use Rattle.dac_live_script.specs.declared.line.LiveLine.{LiveLine}
-use Rattle.dac_report.specs.Phase.{Phase}
-use Rattle.dac_report.specs.declared.report.LiveReport.{LiveReport}
+use Rattle.dac_live.specs.Phase.{Phase}
+use Rattle.dac_live.specs.declared.report.LiveReport.{LiveReport}
 use Rattle.dac_weave.specs.Faults.{IsTrueFault, IsRefusal}
 use Rattle.dac_weave.specs.declared.fault.WeaveFault.{WeaveFault}
 use Rattle.dac_weave.specs.declared.fault.WeaveFault.TheVariants as weave

@@ -9,8 +9,8 @@ use Rattle.dac_script.specs.declared.failure.Failure.{Failure}
 use Rattle.dac_script.specs.declared.source.Progress.TheVariants.{Ended}
 use Rattle.dac_script.specs.Sources.{Sourced, IsLeftBy}
 use Rattle.dac_status.specs.Texts.{node_text}
-use Rattle.dac_report.specs.RunFault.{RunFault}
-use Rattle.dac_report.specs.RunFaults.{number_of, name_of}
+use Rattle.dac_live.specs.RunFault.{RunFault}
+use Rattle.dac_live.specs.RunFaults.{number_of, name_of}
 use Rattle.dac_live_play.specs.declared.fault.PlayFault.{PlayFault}
 use Rattle.dac_live_play.specs.declared.fault.PlayFault.TheVariants as fault
 use Rattle.dac_live_play.specs.declared.ending.LiveEnding.{LiveEnding}

@@ -1,8 +1,8 @@
 -- Faults of the run and of the weave, as faults of `distac live`.
 use Rattle.dac_weave.specs.declared.fault.WeaveFault.{WeaveFault}
 use Rattle.dac_weave.specs.declared.fault.WeaveFault.TheVariants as weave
-use Rattle.dac_report.specs.RunFault.{RunFault}
-use Rattle.dac_report.specs.RunFault.TheVariants as run
+use Rattle.dac_live.specs.RunFault.{RunFault}
+use Rattle.dac_live.specs.RunFault.TheVariants as run
 use Rattle.dac_live_play.specs.declared.fault.PlayFault.{PlayFault}
 use Rattle.dac_live_play.specs.declared.fault.PlayFault.TheVariants as fault
 

@@ -5,7 +5,7 @@ use Rattle.dac_config.specs.Table.{Table}
 use Rattle.dac_live_script.specs.declared.line.LiveLine.{LiveLine}
 use Rattle.dac_live_script.specs.LiveInputs.{SaysLiveScript, IsFailureOf}
 use Rattle.dac_play.specs.Texts.{failure_text}
-use Rattle.dac_report.specs.declared.report.LiveReport.{LiveReport}
+use Rattle.dac_live.specs.declared.report.LiveReport.{LiveReport}
 use Rattle.dac_live_play.specs.declared.fault.PlayFault.{PlayFault}
 use Rattle.dac_live_play.specs.declared.ending.LiveEnding.{LiveEnding}
 use Rattle.dac_live_play.specs.declared.ending.LiveEnding.TheVariants as ending

@@ -7,9 +7,9 @@ use Rattle.dac_live_script.specs.declared.line.LiveLine.{LiveLine}
 use Rattle.dac_live_script.specs.declared.line.LiveLine.TheVariants as says
 use Rattle.dac_messages.specs.declared.event.Event.{Event}
 use Rattle.dac_messages.specs.declared.event.Event.TheVariants as event
-use Rattle.dac_report.specs.Ask.TheVariants as ask
-use Rattle.dac_report.specs.Line.{Line}
-use Rattle.dac_report.specs.Phase.{Phase}
+use Rattle.dac_live.specs.Ask.TheVariants as ask
+use Rattle.dac_live.specs.Line.{Line}
+use Rattle.dac_live.specs.Phase.{Phase}
 
 -- a phase ends
 abbrev pub ends_phase : LiveLine → Bool

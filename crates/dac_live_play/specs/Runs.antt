@@ -4,16 +4,16 @@ use Rattle.dac_base.specs.declared.NodeId.{NodeId}
 use Rattle.dac_config.specs.Table.{Table, node_count}
 use Rattle.dac_events.specs.declared.WorldEvent.{WorldEvent}
 use Rattle.dac_live_script.specs.declared.line.LiveLine.{LiveLine}
-use Rattle.dac_report.specs.declared.report.LiveReport.{LiveReport}
-use Rattle.dac_report.specs.Lines.{CallersHold, AreAnswered}
-use Rattle.dac_report.specs.Nodes.{AreNodes, PagesHold, AreTrueOf}
-use Rattle.dac_report.specs.Pairs.{LinksHold, SeatsHold}
-use Rattle.dac_report.specs.Phase.{Phase}
+use Rattle.dac_live.specs.declared.report.LiveReport.{LiveReport}
+use Rattle.dac_live.specs.Lines.{CallersHold, AreAnswered}
+use Rattle.dac_live.specs.Nodes.{AreNodes, PagesHold, AreTrueOf}
+use Rattle.dac_live.specs.Pairs.{LinksHold, SeatsHold}
+use Rattle.dac_live.specs.Phase.{Phase}
 use Rattle.dac_weave.specs.Converging.{IsConverged}
 use Rattle.dac_weave.specs.Recording.{IsRecorded}
 use Rattle.dac_weave.specs.Woven.{Gives, IsUnwoven}
-use Rattle.dac_report.specs.RunFault.{RunFault}
-use Rattle.dac_report.specs.RunFault.TheVariants as run
+use Rattle.dac_live.specs.RunFault.{RunFault}
+use Rattle.dac_live.specs.RunFault.TheVariants as run
 use Rattle.dac_live_play.specs.declared.fault.PlayFault.{PlayFault}
 use Rattle.dac_live_play.specs.declared.fault.PlayFault.TheVariants as fault
 use Rattle.dac_live_play.specs.Phases.{parts_of, AsksAs}

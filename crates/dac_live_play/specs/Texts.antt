@@ -13,10 +13,10 @@ use Rattle.dac_pages.specs.declared.page.Page.{Page}
 use Rattle.dac_placement.specs.Placement.{nodes_of}
 use Rattle.dac_play.specs.Texts.{refused_text}
 use Rattle.dac_play.specs.Wires.{fed_text}
-use Rattle.dac_report.specs.declared.report.LineAnswer.{LineAnswer}
-use Rattle.dac_report.specs.declared.report.LineAnswer.TheVariants.{Done, Fresh, Stale}
-use Rattle.dac_report.specs.declared.report.LiveReport.{LiveReport}
-use Rattle.dac_report.specs.Line.{Line}
+use Rattle.dac_live.specs.declared.report.LineAnswer.{LineAnswer}
+use Rattle.dac_live.specs.declared.report.LineAnswer.TheVariants.{Done, Fresh, Stale}
+use Rattle.dac_live.specs.declared.report.LiveReport.{LiveReport}
+use Rattle.dac_live.specs.Line.{Line}
 use Rattle.dac_status.specs.Texts.{header_text, page_text}
 use Rattle.dac_wire.specs.Decoding.{packet_at}
 use Rattle.dac_live_play.specs.Phases.{parts_of, lines_in}

@@ -6,8 +6,8 @@ ghost use Rattle.dac_live_play.specs.Endings.{status_of, run_fault_text, weave_f
 use crate::fault::PlayFault;
 use dac_base::{NoMemory, NodeId};
 use dac_config::Config;
+use dac_live::RunFault;
 use dac_play::{Ending, OUT_OF_MEMORY, print, refuse};
-use dac_report::RunFault;
 use dac_script::Failure;
 use dac_status::put_node;
 use std::alloc::Global;

@@ -3,7 +3,7 @@
 ghost use Rattle.std.specs.Prelude.{◌≡◌};
 
 use dac_base::{NoMemory, NodeId};
-use dac_report::RunFault;
+use dac_live::RunFault;
 use dac_weave::WeaveFault;
 
 /// Why a script isn't run to its end.

@@ -4,9 +4,9 @@ ghost use Rattle.std.specs.Prelude.{◌≡◌, IfOk, map};
 ghost use Rattle.dac_live_play.specs.Phases.{ends_phase, parts_of, event_of, asked_by, lines_in, AsksAs};
 
 use dac_base::NoMemory;
+use dac_live::{Ask, Line, Phase};
 use dac_live_script::{Deed, LiveLine};
 use dac_messages::Event;
-use dac_report::{Ask, Line, Phase};
 use std::alloc::Global;
 
 /// Whether a phase ends.

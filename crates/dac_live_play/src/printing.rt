@@ -9,8 +9,8 @@ ghost use Rattle.dac_live_play.specs.Texts.{caller_text, callers_text, asked_tex
 use crate::texts::{CALLERS, put_feed, put_own};
 use dac_base::{NoMemory, NodeId};
 use dac_config::Config;
+use dac_live::{AnswerList, Line, LineAnswer, LiveReport, Page, Phase};
 use dac_live_script::LiveLine;
-use dac_report::{AnswerList, Line, LineAnswer, LiveReport, Page, Phase};
 use dac_status::{header, page};
 use std::alloc::Global;
 

@@ -2,8 +2,8 @@
 use Rattle.std.proofs.Common.{[], sym, ◌∙◌}
 use Rattle.std.specs.FinSet as set
 use Rattle.std.specs.FinMap as map
-use Rattle.dac_dots.specs.Dots.{dot_cmp, origin_cmp}
-use Rattle.dac_dots.specs.laws.Dots.{dots_total, exact_dots}
+use Rattle.dac_origins.specs.Dots.{dot_cmp, origin_cmp}
+use Rattle.dac_origins.specs.laws.Dots.{dots_total, exact_dots}
 use Rattle.dac_wishes.specs.KeyedWrites.{keyed_write_cmp}
 use Rattle.dac_wishes.specs.laws.DrainsValue.{same_drains}
 use Rattle.dac_wishes.specs.Writes.{write_cmp}

@@ -2,8 +2,8 @@
 -- greater state has the one that drains, or the one that forbids. It is said in the words of drained and permitted.
 use Rattle.std.specs.Prelude.{◌≡◌, Bool, true, false, is_some}
 use Rattle.std.specs.FinMap as map
-use Rattle.dac_dots.specs.declared.dot.Dot.{Dot}
-use Rattle.dac_dots.specs.declared.dot.Origin.{Origin}
+use Rattle.dac_origins.specs.declared.dot.Dot.{Dot}
+use Rattle.dac_origins.specs.declared.dot.Origin.{Origin}
 use Rattle.dac_wishes.specs.declared.key.Key.{Key}
 use Rattle.dac_wishes.specs.KeyedWrites.{keyed_write}
 use Rattle.dac_wishes.specs.DrainsValue.{is_drained}

@@ -2,7 +2,7 @@
 -- own definition of what operations mean is that part of their meaning.
 use Rattle.std.specs.Prelude.{◌≡◌, List, map as list_map}
 use Rattle.std.specs.FinMap as map
-use Rattle.dac_dots.specs.declared.dot.Dot.{Dot}
+use Rattle.dac_origins.specs.declared.dot.Dot.{Dot}
 use Rattle.dac_lattice.specs.Pieces.{joined}
 use Rattle.dac_chains.specs.Greatest.{alone, greater}
 use Rattle.dac_chains.specs.Lives.{life_cmp, said_life}

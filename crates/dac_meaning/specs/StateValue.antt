@@ -4,7 +4,7 @@ use Rattle.std.specs.Coded.{Coded, code_by, coded×}
 use Rattle.std.specs.FinSet as set
 use Rattle.std.specs.FinMap as map
 use Rattle.dac_base.specs.Ids.{coded_app, coded_node}
-use Rattle.dac_dots.specs.Dots.{Dots, IsSubset, coded_dot, coded_origin}
+use Rattle.dac_origins.specs.Dots.{Dots, IsSubset, coded_dot, coded_origin}
 use Rattle.dac_lattice.specs.Flags.{coded_flag}
 use Rattle.dac_chains.specs.Greatest.{AreNotAbove, greater}
 use Rattle.dac_chains.specs.Lives.{Lives, life_cmp, coded_life}

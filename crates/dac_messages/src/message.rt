@@ -3,8 +3,8 @@
 ghost use Rattle.std.specs.Prelude.{◌≡◌, ◌↔◌, IfOk, IsTrue};
 
 use dac_base::{NoMemory, NodeId};
-use dac_dots::Origin;
 use dac_lattice::Lattice;
+use dac_origins::Origin;
 use dac_state::State;
 
 /// What a message brings.

@@ -1,7 +1,7 @@
 -- The same rules on what a node holds: a state, the newest deltas and the waits, in place of the log and the notes.
 use Rattle.std.specs.Prelude.{◌≡◌, ℕ, ◌+◌, ◌≤◌, true, false, cond, List, [], ◌∷◌, length, Option, Some, None, IfSome, fold}
 use Rattle.dac_base.specs.declared.NodeId.{NodeId}
-use Rattle.dac_dots.specs.declared.dot.Origin.{Origin}
+use Rattle.dac_origins.specs.declared.dot.Origin.{Origin}
 use Rattle.dac_config.specs.Table.{Table}
 use Rattle.dac_meaning.specs.StateValue.{StateValue, IsState, bottom, join}
 use Rattle.dac_meaning.specs.Meaning.{meaning_of}

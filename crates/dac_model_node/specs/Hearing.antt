@@ -1,7 +1,7 @@
 -- What a node hears by an event: the dots that it brings, and no more.
 use Rattle.std.specs.Prelude.{◌≡◌, [], ◌∷◌, map, Some}
 use Rattle.std.specs.FinSet as set
-use Rattle.dac_dots.specs.Dots.{Dots}
+use Rattle.dac_origins.specs.Dots.{Dots}
 use Rattle.dac_operations.specs.Operations.{Operation}
 use Rattle.dac_meaning.specs.StateValue.{StateValue}
 use Rattle.dac_messages.specs.Bodies.{content_of}

@@ -2,7 +2,7 @@
 -- keeps their join, the newest of them and the waits alone.
 use Rattle.std.specs.Prelude.{ℕ, ◌-◌, min, max, Bool, List, Option, fold}
 use Rattle.std.specs.Option.{option_map}
-use Rattle.dac_dots.specs.declared.dot.Origin.{Origin}
+use Rattle.dac_origins.specs.declared.dot.Origin.{Origin}
 use Rattle.dac_meaning.specs.StateValue.{StateValue, bottom, join}
 use Rattle.dac_config.specs.Table.{Table}
 use Rattle.dac_deltas.specs.Logs.{kept_of}

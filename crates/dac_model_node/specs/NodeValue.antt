@@ -2,8 +2,8 @@
 use Rattle.std.specs.Prelude.{ℕ, ◌≤◌, Bool, List, Option, None, refl}
 use Rattle.std.specs.Option.{option_map}
 use Rattle.std.specs.Coded.{Coded, code_by, coded×, coded_ℕ, coded_bool, coded_list, coded_option}
-use Rattle.dac_dots.specs.declared.dot.Origin.{Origin}
-use Rattle.dac_dots.specs.Dots.{coded_origin}
+use Rattle.dac_origins.specs.declared.dot.Origin.{Origin}
+use Rattle.dac_origins.specs.Dots.{coded_origin}
 use Rattle.dac_meaning.specs.StateValue.{StateValue, coded_state}
 use Rattle.dac_deltas.specs.KeptDeltas.{KeptDeltas}
 use Rattle.dac_peers.specs.Peers.{PeersValue, coded_peers}

@@ -4,9 +4,9 @@ use Rattle.std.specs.Prelude.{◌≡◌, ◌⊎◌, ℕ, ◌+◌, ◌<◌, ◌�
 use Rattle.std.specs.FinSet as set
 use Rattle.dac_base.specs.declared.limits.TheConstants.{MAX_INCARNATION, MAX_COUNTER, MAX_REPLACED}
 use Rattle.dac_base.specs.declared.NodeId.{NodeId}
-use Rattle.dac_dots.specs.declared.dot.Origin.{Origin}
-use Rattle.dac_dots.specs.declared.dot.Dot.{Dot}
-use Rattle.dac_dots.specs.Dots.{Dots, dot, IsUsedUp}
+use Rattle.dac_origins.specs.declared.dot.Origin.{Origin}
+use Rattle.dac_origins.specs.declared.dot.Dot.{Dot}
+use Rattle.dac_origins.specs.Dots.{Dots, dot, IsUsedUp}
 use Rattle.dac_config.specs.Table.{Table, node_count, app_count, group_of}
 use Rattle.dac_chains.specs.Lives.{IsLive}
 use Rattle.dac_wishes.specs.WishesValue.{SomeStands}

@@ -1,8 +1,8 @@
 -- The step of the model node.
 use Rattle.std.specs.Prelude.{◌≡◌, ℕ, ◌+◌, false, cond, [], ◌∷◌, ◌++◌, length, Option, Some, None, Result, Ok, Err}
 use Rattle.dac_base.specs.declared.NodeId.{NodeId}
-use Rattle.dac_dots.specs.declared.dot.Origin.{Origin}
-use Rattle.dac_dots.specs.Dots.{dot}
+use Rattle.dac_origins.specs.declared.dot.Origin.{Origin}
+use Rattle.dac_origins.specs.Dots.{dot}
 use Rattle.dac_operations.specs.declared.act.Act.TheVariants.{Up}
 use Rattle.dac_operations.specs.Operations.{Operation, operation}
 use Rattle.dac_meaning.specs.Meaning.{meaning_of}

@@ -1,7 +1,7 @@
 -- What an accepted event writes, and how it is answered.
 use Rattle.std.specs.Prelude.{◌≡◌, ◌⊎◌, ◌↔◌, ◌+◌, ◌-◌, ℕ, true, false, List, [], ◌∷◌}
 use Rattle.dac_base.specs.declared.NodeId.{NodeId}
-use Rattle.dac_dots.specs.Dots.{dot}
+use Rattle.dac_origins.specs.Dots.{dot}
 use Rattle.dac_operations.specs.declared.act.Act.TheVariants.{Up}
 use Rattle.dac_meaning.specs.StateValue.{StateValue, IsBelow}
 use Rattle.dac_meaning.specs.Meaning.{meaning_of}

@@ -1,6 +1,6 @@
 -- What the answers to heard messages and operations tell: whether they brought anything new.
 use Rattle.std.specs.Prelude.{◌≡◌, ◌↔◌, IsTrue, List, [], ◌∷◌, Result, Ok}
-use Rattle.dac_dots.specs.declared.dot.Dot.{Dot}
+use Rattle.dac_origins.specs.declared.dot.Dot.{Dot}
 use Rattle.dac_operations.specs.Operations.{Operation}
 use Rattle.dac_meaning.specs.Meaning.{IsOperationOf}
 use Rattle.dac_events.specs.declared.WorldEvent.{WorldEvent}

@@ -2,9 +2,9 @@
 use Rattle.std.proofs.Common.{◌≡◌, Bool, true, false, ◌||◌, List, [], ◌∷◌, refl, ap, ◌∙◌}
 use Rattle.std.specs.Prelude.{fold}
 use Rattle.std.specs.FinSet as set
-use Rattle.dac_dots.specs.declared.dot.Origin.{Origin}
-use Rattle.dac_dots.specs.Dots.{dot}
-use Rattle.dac_dots.specs.laws.Dots.{dots_total}
+use Rattle.dac_origins.specs.declared.dot.Origin.{Origin}
+use Rattle.dac_origins.specs.Dots.{dot}
+use Rattle.dac_origins.specs.laws.Dots.{dots_total}
 use Rattle.dac_wishes.specs.laws.KeyedWrites.{same_dot_itself}
 use Rattle.dac_meaning.specs.StateValue.{StateValue, bottom, join}
 use Rattle.dac_meaning.specs.laws.StateLaws.{known-join}

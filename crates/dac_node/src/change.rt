@@ -12,10 +12,10 @@ use crate::running::Running;
 use crate::ticking::tick;
 use dac_base::{NoMemory, NodeId};
 use dac_config::Config;
-use dac_dots::Origin;
 use dac_events::Command;
 use dac_lattice::Lattice;
 use dac_messages::{Body, Event, Message, Reply};
+use dac_origins::Origin;
 use dac_state::{Op, State};
 use std::alloc::Global;
 use std::marker::Model;
@@ -135,7 +135,12 @@ impl Change {
     }
 
     /// What a command that isn't refused does at a running controller.
-    fn obey(config: &Config, last: u64, running: &Running, command: Command) -> Result<Self, NoMemory>
+    fn obey(
+        config: &Config,
+        last: u64,
+        running: &Running,
+        command: Command,
+    ) -> Result<Self, NoMemory>
         requires { refusal_to_obey config.now running.now command ≡ None }
         ensures { IfOk result (Effect config.now last running.now (Event.Command command)) }
     {

@@ -33,9 +33,9 @@ pub use change::Change;
 pub use dac_events::Refusal;
 pub use node::Node;
 
+mod advance;
 mod change;
 mod knowledge;
-mod advance;
 mod node;
 mod running;
 mod shipping;

@@ -11,16 +11,16 @@ ghost use Rattle.dac_model_node.specs.dac_commands.Causes.{first, refusal_of_com
 ghost use Rattle.dac_model_node.specs.EventRefusals.{refusal_to_tick as refused_tick, refusal_to_ship as refused_ship, refusal_to_hear as refused_hear, refusal_to_obey as refused_command_here, refusal_to_hear_op as refused_hear_op, refusal_on, is_for, needed, overflows, too_few_left, too_many_deltas};
 ghost use Rattle.dac_model_node.specs.Step.{up};
 
-use crate::knowledge::{Knowledge, covers, is_below};
 use crate::advance::Advance;
+use crate::knowledge::{Knowledge, covers, is_below};
 use dac_base::{MAX_COUNTER, NoMemory, NodeId};
 use dac_config::Config;
 use dac_deltas::Buffer;
-use dac_dots::Origin;
 use dac_events::{Command, Refusal};
 use dac_lattice::{Bottom, Lattice};
 use dac_messages::{Event, Message, Reply};
 use dac_model_node::dac_commands::{operation_of, refusal_of};
+use dac_origins::Origin;
 use dac_placement::is_up;
 use dac_state::{Op, State};
 use std::alloc::Global;
@@ -261,7 +261,11 @@ impl Running {
     }
 
     /// What goes on after a command that isn't refused, and the operation that it issues.
-    pub(crate) fn command(&self, config: &Config, command: Command) -> Result<(Advance, Op), NoMemory>
+    pub(crate) fn command(
+        &self,
+        config: &Config,
+        command: Command,
+    ) -> Result<(Advance, Op), NoMemory>
         requires { refused_command config.now self.now.origin self.now.state command ≡ None }
         ensures next { IfOk result (λ both. both.0
             ≡ adding (knowledge_of self.now) (meaning_of (both.1 ∷ []) ∷ []) self.now.peers) }

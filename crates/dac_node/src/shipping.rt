@@ -102,7 +102,11 @@ impl Running {
     }
 
     /// What goes on after a message is heard. What all other nodes have acknowledged by then is kept no longer.
-    pub(crate) fn after_message(&self, config: &Config, message: &Message) -> Result<Advance, NoMemory>
+    pub(crate) fn after_message(
+        &self,
+        config: &Config,
+        message: &Message,
+    ) -> Result<Advance, NoMemory>
         ensures { IfOk result
             (λ next. next ≡ next_by self.now [] (hears_message config.now self.now message.now)) }
     {

@@ -12,9 +12,9 @@ ghost use Rattle.dac_model_node.specs.Deeds.{meanings, opening_at};
 ghost use Rattle.dac_node.specs.Knowing.{ticking};
 ghost use Rattle.dac_node.specs.Changes.{Effect};
 
+use crate::advance::Advance;
 use crate::change::{After, Change};
 use crate::knowledge::Knowledge;
-use crate::advance::Advance;
 use crate::running::Running;
 use dac_base::NoMemory;
 use dac_config::Config;
@@ -27,7 +27,12 @@ use std::alloc::Global;
 use std::sync::Arc;
 
 /// What a tick that isn't refused does at a running controller. Where it gives up, that takes no memory.
-pub(crate) fn tick(config: &Config, last: u64, running: &Running, now: u64) -> Result<Change, NoMemory>
+pub(crate) fn tick(
+    config: &Config,
+    last: u64,
+    running: &Running,
+    now: u64,
+) -> Result<Change, NoMemory>
     requires { refusal_to_tick config.now running.now now ≡ None }
     ensures { IfOk result (Effect config.now last running.now (Tick now)) }
 {

@@ -6,7 +6,7 @@ use Rattle.std.specs.Ordering.{is_lt}
 use Rattle.std.specs.Cmp.{IsTotalOrder}
 use Rattle.std.proofs.lemmas.Bool.{and_parts, and_from, and_left, false≢true}
 use Rattle.std.proofs.lemmas.List.{drop_more}
-use Rattle.dac_dots.specs.Keys.{is_below_all, is_rising}
+use Rattle.dac_origins.specs.Keys.{is_below_all, is_rising}
 
 less : (r : Ordering) → is_lt r ≡ true → r ≡ Less
 less Less p = refl

@@ -1,9 +1,9 @@
 -- Operations: a dot, which names the operation, and an act.
 use Rattle.std.specs.Prelude.{◌≡◌, ◌≤◌, Bool, true, false, not, ◌||◌, List, [], length, Option, Some, None, nat_lt, ◌==◌, if◌then◌else◌}
 use Rattle.dac_base.specs.declared.limits.TheConstants.{MAX_REPLACED}
-use Rattle.dac_dots.specs.declared.dot.Dot.{Dot}
-use Rattle.dac_dots.specs.Dots.{dot_cmp}
-use Rattle.dac_dots.specs.Keys.{is_rising, IsRising, has_key}
+use Rattle.dac_origins.specs.declared.dot.Dot.{Dot}
+use Rattle.dac_origins.specs.Dots.{dot_cmp}
+use Rattle.dac_origins.specs.Keys.{is_rising, IsRising, has_key}
 use Rattle.dac_operations.specs.declared.act.Act.{Act}
 use Rattle.dac_operations.specs.declared.act.Act.TheVariants.{Up, Down, Permit, Start, Stop, Drain, Claim}
 use Rattle.dac_operations.specs.declared.op.OpFault.{OpFault}

@@ -1,6 +1,6 @@
 -- What each part of a state sees of an act.
 use Rattle.std.specs.Prelude.{not, List, [], filter, if◌then◌else◌}
-use Rattle.dac_dots.specs.declared.dot.Dot.{Dot}
+use Rattle.dac_origins.specs.declared.dot.Dot.{Dot}
 use Rattle.dac_wishes.specs.declared.wish_act.WishAct.{WishAct}
 use Rattle.dac_wishes.specs.declared.wish_act.WishAct.TheVariants.{Start as SeenStart, Other as NoWish}
 use Rattle.dac_wishes.specs.declared.permit_act.PermitAct.{PermitAct}

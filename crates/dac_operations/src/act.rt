@@ -4,7 +4,7 @@ ghost use Rattle.dac_operations.specs.Operations.{says_up, over_list};
 
 use dac_base::{AppId, NoMemory, NodeId};
 use dac_chains::How;
-use dac_dots::Dot;
+use dac_origins::Dot;
 use dac_wishes::{DotList, Key};
 
 /// What an operation does.

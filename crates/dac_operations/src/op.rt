@@ -1,13 +1,13 @@
 //! Operations.
 ghost use Rattle.std.specs.Prelude.{◌≡◌, ◌↔◌, IfOk, IsOk, IsTrue, MatchOption, Ok, Err};
 ghost use Rattle.std.specs.Ordering.{is_lt};
-ghost use Rattle.dac_dots.specs.Dots.{dot_cmp};
-ghost use Rattle.dac_dots.specs.Keys.{is_rising, has_key};
+ghost use Rattle.dac_origins.specs.Dots.{dot_cmp};
+ghost use Rattle.dac_origins.specs.Keys.{is_rising, has_key};
 ghost use Rattle.dac_operations.specs.Operations.{fault_of, has_bad_over, is_on_self, operation, IsSound};
 
 use crate::act::Act;
 use dac_base::{MAX_REPLACED, NoMemory};
-use dac_dots::Dot;
+use dac_origins::Dot;
 use std::marker::Model;
 use thiserror::Error;
 

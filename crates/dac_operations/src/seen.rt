@@ -7,7 +7,7 @@ use crate::act::Act;
 use crate::op::Op;
 use dac_base::NoMemory;
 use dac_chains::{ClaimAct, LifeAct};
-use dac_dots::Origin;
+use dac_origins::Origin;
 use dac_wishes::{DotList, DrainAct, PermitAct, WishAct};
 use std::alloc::Global;
 

@@ -1,6 +1,6 @@
 //! What is published.
 
-use dac_dots::Origin;
+use dac_origins::Origin;
 use dac_status::Summary;
 use left_right::Absorb;
 use std::alloc::AllocError;

@@ -7,7 +7,7 @@ use Rattle.dac_base.specs.declared.NodeId.{NodeId}
 use Rattle.dac_base.specs.declared.AppId.{AppId}
 use Rattle.dac_base.specs.Ids.{app_cmp}
 use Rattle.dac_base.specs.declared.limits.TheConstants.{MAX_COUNTER}
-use Rattle.dac_dots.specs.declared.dot.Origin.{Origin}
+use Rattle.dac_origins.specs.declared.dot.Origin.{Origin}
 use Rattle.dac_chains.specs.declared.claims.Claim.{Claim}
 use Rattle.dac_chains.specs.declared.claims.How.{How}
 use Rattle.dac_chains.specs.declared.claims.How.TheVariants.{Normal, Failover, Takeover}

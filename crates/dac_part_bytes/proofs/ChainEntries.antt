@@ -6,7 +6,7 @@ use Rattle.std.specs.declared.cmp.Ordering.{Ordering}
 use Rattle.std.specs.Cmp.{IsTotalOrder}
 use Rattle.std.specs.FinMap as map
 use Rattle.std.proofs.lemmas.Map.Lookups.{CmpEqualImpliesEq}
-use Rattle.dac_dots.specs.Keys.{IsRising}
+use Rattle.dac_origins.specs.Keys.{IsRising}
 use Rattle.dac_bytes.specs.Reading.{Rest, Field, ◌>>=◌, counted_at}
 use Rattle.dac_bytes.specs.Takes.{TakesAs, Again}
 use Rattle.dac_bytes.specs.laws.Takes.{TakesAs-made, Again-made}

@@ -7,12 +7,12 @@ use Rattle.std.specs.FinSet as set
 use Rattle.std.specs.FinMap.{find}
 use Rattle.std.proofs.lemmas.Bool.{false≢true, true≢false, or_left}
 use Rattle.std.proofs.lemmas.List.{map-id}
-use Rattle.dac_dots.specs.declared.dot.Dot.{Dot}
-use Rattle.dac_dots.specs.Dots.{Dots, dot_cmp}
-use Rattle.dac_dots.specs.laws.Dots.{dots_total, exact_dots}
-use Rattle.dac_dots.specs.Keys.{IsRising, has_key}
-use Rattle.dac_dots.specs.InOrder.{in_order}
-use Rattle.dac_dots.specs.laws.InOrder.{in_order-same, in_order-rising, has_key-in_order}
+use Rattle.dac_origins.specs.declared.dot.Dot.{Dot}
+use Rattle.dac_origins.specs.Dots.{Dots, dot_cmp}
+use Rattle.dac_origins.specs.laws.Dots.{dots_total, exact_dots}
+use Rattle.dac_origins.specs.Keys.{IsRising, has_key}
+use Rattle.dac_origins.specs.InOrder.{in_order}
+use Rattle.dac_origins.specs.laws.InOrder.{in_order-same, in_order-rising, has_key-in_order}
 use Rattle.dac_lattice.specs.Chains.{IsAny}
 use Rattle.dac_store.specs.DotSets.{is_empty_set}
 use Rattle.dac_store.specs.DotMaps.{store_at, IsKept}

@@ -8,11 +8,11 @@ use Rattle.std.specs.FinSet as set
 use Rattle.std.specs.FinMap.{find}
 use Rattle.std.proofs.lemmas.Bool.{false≢true, or_cases, ltb-false}
 use Rattle.std.proofs.lemmas.List.Elements.{All-from_recursion}
-use Rattle.dac_dots.specs.declared.dot.Origin.{Origin}
-use Rattle.dac_dots.specs.declared.dot.Dot.{Dot}
-use Rattle.dac_dots.specs.Dots.{Dots, dot_cmp, origin_cmp}
-use Rattle.dac_dots.specs.laws.Dots.{dots_total, exact_dots, origins_total}
-use Rattle.dac_dots.specs.laws.KeyLaws.{each_key}
+use Rattle.dac_origins.specs.declared.dot.Origin.{Origin}
+use Rattle.dac_origins.specs.declared.dot.Dot.{Dot}
+use Rattle.dac_origins.specs.Dots.{Dots, dot_cmp, origin_cmp}
+use Rattle.dac_origins.specs.laws.Dots.{dots_total, exact_dots, origins_total}
+use Rattle.dac_origins.specs.laws.KeyLaws.{each_key}
 use Rattle.dac_lattice.specs.declared.flags.Flag.{Flag}
 use Rattle.dac_lattice.specs.declared.flags.Flag.TheVariants.{Up, Down}
 use Rattle.dac_chains.specs.declared.lives.Life.{Life}

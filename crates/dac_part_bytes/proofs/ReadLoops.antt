@@ -11,11 +11,11 @@ use Rattle.std.specs.FinMap.Entries.{same_entries, find-append}
 use Rattle.std.proofs.lemmas.List.{nil_from_length}
 use Rattle.std.proofs.lemmas.Bool.{and_parts, false≢true}
 use Rattle.std.proofs.lemmas.Map.Lookups.{CmpEqualImpliesEq}
-use Rattle.dac_dots.specs.declared.dot.Dot.{Dot}
-use Rattle.dac_dots.specs.Dots.{Dots}
-use Rattle.dac_dots.specs.laws.Dots.{dots_total, exact_dots}
-use Rattle.dac_dots.specs.InOrder.{in_order}
-use Rattle.dac_dots.specs.laws.InOrder.{in_order-one, in_order-rising, in_order-same, tie}
+use Rattle.dac_origins.specs.declared.dot.Dot.{Dot}
+use Rattle.dac_origins.specs.Dots.{Dots}
+use Rattle.dac_origins.specs.laws.Dots.{dots_total, exact_dots}
+use Rattle.dac_origins.specs.InOrder.{in_order}
+use Rattle.dac_origins.specs.laws.InOrder.{in_order-one, in_order-rising, in_order-same, tie}
 use Rattle.dac_lattice.specs.Lattices.{join_options}
 use Rattle.dac_store.specs.Appending.{is_above_dots, is_above_entries}
 use Rattle.dac_store.specs.laws.Appending.{rising_appended, sorted_appended}

@@ -2,7 +2,7 @@
 use Rattle.std.specs.Prelude.{◌<◌, Option}
 use Rattle.dac_base.specs.declared.NodeId.{NodeId}
 use Rattle.dac_chains.specs.declared.claims.How.{How}
-use Rattle.dac_dots.specs.Dots.{Dots}
+use Rattle.dac_origins.specs.Dots.{Dots}
 use Rattle.dac_wishes.specs.declared.key.Key.{Key}
 use Rattle.dac_config.specs.Table.{Table, node_count, app_count}
 use Rattle.dac_bytes.specs.FieldCodecs.{FieldCodecs}

@@ -13,8 +13,8 @@ use dac_base::{AppId, MAX_COUNTER, NodeId};
 use dac_bytes::{ByteReader, ReadFault, ReadFaultKind, Version};
 use dac_chains::{Claim, Claims, How, Life, Lives};
 use dac_config::Config;
-use dac_dots::Origin;
 use dac_lattice::{Bottom, Lattice};
+use dac_origins::Origin;
 use std::alloc::Global;
 
 /// The life of a node above the one before it.

@@ -12,8 +12,8 @@ use dac_base::{AppId, NodeId};
 use dac_bytes::{ByteReader, ReadFault, ReadFaultKind, Version};
 use dac_chains::{How, Life};
 use dac_config::Config;
-use dac_dots::Dot;
 use dac_lattice::Flag;
+use dac_origins::Dot;
 use dac_store::Context;
 use dac_wishes::Key;
 

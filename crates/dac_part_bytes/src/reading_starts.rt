@@ -4,7 +4,7 @@ ghost use Rattle.dac_bytes.specs.Reading.{Gives, items_at};
 ghost use Rattle.dac_bytes.specs.Takes.{IsFoundAs, IsReadAgain};
 ghost use Rattle.dac_part_bytes.specs.KeyedForm.{AreStartsInForm};
 ghost use Rattle.dac_part_bytes.specs.Spelling.{starts_bytes};
-ghost use Rattle.dac_dots.specs.InOrder.{in_order};
+ghost use Rattle.dac_origins.specs.InOrder.{in_order};
 ghost use Rattle.dac_store.specs.DotMaps.{has_in};
 ghost use Rattle.dac_store.specs.Stores.{IsHeld};
 ghost use Rattle.std.specs.FinSet as set;

@@ -4,7 +4,7 @@ ghost use Rattle.dac_bytes.specs.Reading.{Gives, IsOfBytes, items_at, origin_abo
 ghost use Rattle.dac_bytes.specs.Takes.{IsFoundAs, IsReadAgain};
 ghost use Rattle.dac_bytes.specs.declared.version.Version.TheVariants.{Two};
 ghost use Rattle.dac_config.specs.Table.{node_count};
-ghost use Rattle.dac_dots.specs.Dots.{origin_cmp};
+ghost use Rattle.dac_origins.specs.Dots.{origin_cmp};
 ghost use Rattle.dac_part_bytes.specs.KeyedForm.{AreDrainsInForm, ArePermitsInForm};
 ghost use Rattle.dac_part_bytes.specs.Reading.{all_drains_at, all_permits_at, all_votes_at, drains_of_key_at, key_above_at, keyed_votes_at, permits_of_key_at, said_flag, vote_at, votes_by_key_at, votes_of_key_at};
 ghost use Rattle.dac_part_bytes.specs.Spelling.{drains_bytes, permits_bytes};
@@ -16,8 +16,8 @@ use crate::laws::parts_have_one_spelling;
 use crate::reading_fields::{read_key, read_known_dot, read_some};
 use dac_bytes::{ByteReader, ReadFault, Version};
 use dac_config::Config;
-use dac_dots::{Dot, Origin};
 use dac_lattice::Flag;
+use dac_origins::{Dot, Origin};
 use dac_store::{Causal, Context, DotFun, DotMap, DotStore};
 use dac_wishes::{Drains, Key, Permissions};
 use std::alloc::Global;

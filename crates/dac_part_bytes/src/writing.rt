@@ -3,14 +3,14 @@ ghost use Rattle.std.specs.Prelude.{◌≡◌, ◌++◌, IfOk};
 ghost use Rattle.dac_part_bytes.specs.Spelling.{claim_bytes, claims_bytes, down_code, drains_bytes, from_code, how_code, key_bytes, keyed_dots_bytes, keyed_votes_bytes, life_bytes, lives_bytes, manner_bytes, permits_bytes, said_code, starts_bytes, vote_bytes, votes_bytes, votes_of_key_bytes};
 ghost use Rattle.dac_bytes.specs.declared.version.Version.TheVariants.{Two};
 ghost use Rattle.dac_bytes.specs.Spelling.{origin_bytes};
-ghost use Rattle.dac_dots.specs.Dots.{origin_cmp};
+ghost use Rattle.dac_origins.specs.Dots.{origin_cmp};
 ghost use Rattle.dac_lattice.specs.declared.flags.Flag.TheVariants.{Down, Up};
 
 use dac_base::{AppId, NoMemory, NodeId};
 use dac_bytes::{ByteWriter, Version};
 use dac_chains::{Claim, Claims, How, Life, Lives};
-use dac_dots::{Dot, Origin};
 use dac_lattice::Flag;
+use dac_origins::{Dot, Origin};
 use dac_wishes::{Drains, Key, Permissions, Wishes};
 
 /// A key: its application in two bytes, its node in one, and the incarnation as the version has it. [`NoMemory`] is the

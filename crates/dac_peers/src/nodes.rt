@@ -3,7 +3,7 @@ ghost use Rattle.std.specs.Prelude.{◌≡◌, IfOk, OnOk, OnErr};
 ghost use Rattle.std.specs.FinSet as set;
 
 use dac_base::{NoMemory, NodeId};
-use dac_dots::keys::{holds_key, insert_key, remove_key};
+use dac_origins::keys::{holds_key, insert_key, remove_key};
 use std::alloc::Global;
 use std::marker::Model;
 
@@ -16,7 +16,7 @@ pub(crate) struct NodeSet {
 impl Model for NodeSet {
     ghost use Rattle.std.specs.FinSet as set;
     ghost use Rattle.dac_base.specs.Ids.{node_cmp, coded_node};
-    ghost use Rattle.dac_dots.specs.Keys.{IsRising};
+    ghost use Rattle.dac_origins.specs.Keys.{IsRising};
 
     ghost Value = { set.FinSet node_cmp };
 

@@ -6,8 +6,8 @@ use crate::nodes::NodeSet;
 use crate::positions::{Position, Positions};
 use dac_base::{NoMemory, NodeId};
 use dac_deltas::Acks;
-use dac_dots::Origin;
 use dac_messages::{Body, Message, State};
+use dac_origins::Origin;
 use std::alloc::Global;
 use std::marker::Model;
 

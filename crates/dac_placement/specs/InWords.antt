@@ -1,6 +1,6 @@
 -- Placement computes what it says in words, for every configuration and every state, also one that no operation made.
 use Rattle.std.specs.Prelude.{◌≡◌, ◌↔◌, ℕ, true, None, Some, MatchOption}
-use Rattle.dac_dots.specs.declared.dot.Origin.{Origin}
+use Rattle.dac_origins.specs.declared.dot.Origin.{Origin}
 use Rattle.dac_chains.specs.Lives.{IsLive}
 use Rattle.dac_placement.specs.declared.verdicts.Verdict.TheVariants.{Halted}
 use Rattle.dac_placement.specs.declared.standing.Standing.{Standing}

@@ -1,14 +1,14 @@
 //! Who holds an application, and where it runs.
 ghost use Rattle.std.specs.Prelude.{◌≡◌, ◌↔◌, ◌<◌, IsTrue, Some};
 ghost use Rattle.dac_base.specs.declared.NodeId.{NodeId as Node};
-ghost use Rattle.dac_dots.specs.declared.dot.Origin.{Origin as Incarnation};
+ghost use Rattle.dac_origins.specs.declared.dot.Origin.{Origin as Incarnation};
 ghost use Rattle.dac_config.specs.Table.{app_count};
 ghost use Rattle.dac_placement.specs.Placement.{holder_of, IsHolder, IsUp, is_up, RunsAt, runs_at, runner_of, load_of, IsLoad};
 
 use crate::eligibility::eligible;
 use dac_base::{AppId, NodeId};
 use dac_config::Config;
-use dac_dots::Origin;
+use dac_origins::Origin;
 use dac_state::State;
 
 /// How many other applications run at a node. An application runs at a node where its greatest claim is of the node's

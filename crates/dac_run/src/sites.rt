@@ -9,7 +9,7 @@ ghost use Rattle.dac_workers.specs.Sites.{IsBlankOf};
 use crate::endings::{end_site, shut};
 use crate::hiring::{CALLERS, LinkEnds, Open, all_links, last_ends, open_with_team};
 use crate::phases::{Outcome, Phase};
-use crate::rounds::{TeamPair, SitePair, Sites, Teams, run_phases};
+use crate::rounds::{SitePair, Sites, TeamPair, Teams, run_phases};
 use crate::team::{Shared, Team};
 use dac_base::NodeId;
 use dac_config::Config;

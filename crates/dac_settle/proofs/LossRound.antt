@@ -9,7 +9,7 @@ use Rattle.std.proofs.lemmas.Bool.{false≢true, true≢false, leb-true, le-ltb}
 use Rattle.dac_base.specs.declared.NodeId.{NodeId}
 use Rattle.dac_base.specs.declared.AppId.{AppId}
 use Rattle.dac_base.specs.declared.limits.TheConstants.{MAX_COUNTER}
-use Rattle.dac_dots.specs.Dots.{origin_cmp}
+use Rattle.dac_origins.specs.Dots.{origin_cmp}
 use Rattle.dac_chains.specs.declared.lives.Life.{Life}
 use Rattle.dac_chains.specs.declared.claims.Claim.{Claim}
 use Rattle.dac_chains.specs.Lives.{IsLive}

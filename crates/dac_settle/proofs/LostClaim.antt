@@ -9,11 +9,11 @@ use Rattle.std.proofs.lemmas.Bool.{true≢false, leb-true, and_from}
 use Rattle.dac_base.specs.declared.NodeId.{NodeId}
 use Rattle.dac_base.specs.declared.AppId.{AppId}
 use Rattle.dac_base.specs.declared.limits.TheConstants.{MAX_COUNTER}
-use Rattle.dac_dots.specs.declared.dot.Dot.{Dot}
-use Rattle.dac_dots.specs.Dots.{dot, dot_cmp}
-use Rattle.dac_dots.specs.laws.Dots.{dots_total, exact_dots}
-use Rattle.dac_dots.specs.Keys.{has_key}
-use Rattle.dac_dots.specs.laws.InOrder.{has_key-in_order}
+use Rattle.dac_origins.specs.declared.dot.Dot.{Dot}
+use Rattle.dac_origins.specs.Dots.{dot, dot_cmp}
+use Rattle.dac_origins.specs.laws.Dots.{dots_total, exact_dots}
+use Rattle.dac_origins.specs.Keys.{has_key}
+use Rattle.dac_origins.specs.laws.InOrder.{has_key-in_order}
 use Rattle.dac_lattice.specs.declared.flags.Flag.TheVariants.{Up as IsUpFlag}
 use Rattle.dac_chains.specs.declared.lives.Life.{Life}
 use Rattle.dac_chains.specs.declared.claims.Claim.{Claim}

@@ -2,7 +2,7 @@
 -- and a round moves the application to the other one.
 use Rattle.std.specs.Prelude.{◌≡◌, true, List, [], ◌∷◌, Option, Some, None, IsSome}
 use Rattle.dac_base.specs.declared.NodeId.{NodeId}
-use Rattle.dac_dots.specs.Dots.{dot}
+use Rattle.dac_origins.specs.Dots.{dot}
 use Rattle.dac_chains.specs.declared.claims.Claim.{Claim}
 use Rattle.dac_chains.specs.declared.claims.How.TheVariants.{Normal}
 use Rattle.dac_operations.specs.declared.act.Act.TheVariants.{Drain, Claim as Claims}

@@ -25,8 +25,12 @@ impl<'a> Parser<'a> {
         ensures left { tokens_left self.new ≤ tokens_left self.old }
     {
         match name {
-            ParamName::Distributed => self.list::<NamedPairs<DraftApp<'a>>>().map(Param::Distributed),
-            ParamName::Permissions => self.list::<NamedPairs<Permission<'a>>>().map(Param::Permissions),
+            ParamName::Distributed => self
+                .list::<NamedPairs<DraftApp<'a>>>()
+                .map(Param::Distributed),
+            ParamName::Permissions => self
+                .list::<NamedPairs<Permission<'a>>>()
+                .map(Param::Permissions),
             ParamName::Mandatory => self.list::<SyncNodes>().map(Param::Mandatory),
             ParamName::Optional => self.list::<SyncNodes>().map(Param::Optional),
             ParamName::Timeout => {

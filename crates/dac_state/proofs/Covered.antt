@@ -4,9 +4,9 @@ use Rattle.std.specs.FinSet as set
 use Rattle.std.specs.Ordering.{eq_by_cmp, is_eq}
 use Rattle.std.specs.Cmp.{tied_itself, Equal-is}
 use Rattle.std.proofs.lemmas.Bool.{false≢true, or_cases, or_left}
-use Rattle.dac_dots.specs.declared.dot.Dot.{Dot}
-use Rattle.dac_dots.specs.Dots.{Dots, IsSubset, dot_cmp}
-use Rattle.dac_dots.specs.laws.Dots.{dots_total, exact_dots}
+use Rattle.dac_origins.specs.declared.dot.Dot.{Dot}
+use Rattle.dac_origins.specs.Dots.{Dots, IsSubset, dot_cmp}
+use Rattle.dac_origins.specs.laws.Dots.{dots_total, exact_dots}
 use Rattle.dac_operations.specs.declared.act.Act.{Act}
 use Rattle.dac_operations.specs.declared.act.Act.TheVariants.{Up, Down, Permit, Start, Stop, Drain, Claim}
 use Rattle.dac_operations.specs.Operations.{Operation, IsSound, over_list, replaces_itself}

@@ -1,7 +1,7 @@
 -- What was heard is what is known, where no more is known.
 use Rattle.std.specs.Prelude.{◌≡◌}
 use Rattle.std.specs.FinSet as set
-use Rattle.dac_dots.specs.Dots.{Dots, IsSubset}
+use Rattle.dac_origins.specs.Dots.{Dots, IsSubset}
 use Rattle.dac_wishes.specs.laws.Stores.{same_context, subset_left, subset_right, subset_union}
 
 -- where one side or the other heard each dot that either knows, what either heard is what either knows

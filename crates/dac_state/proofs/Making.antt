@@ -2,7 +2,7 @@
 use Rattle.std.specs.Prelude.{◌≡◌}
 use Rattle.std.proofs.Common.{sym, ap, subst, ◌∙◌}
 use Rattle.std.specs.FinSet as set
-use Rattle.dac_dots.specs.Dots.{Dots, IsSubset}
+use Rattle.dac_origins.specs.Dots.{Dots, IsSubset}
 use Rattle.dac_chains.specs.Greatest.{greater}
 use Rattle.dac_chains.specs.Lives.{Lives, life_cmp}
 use Rattle.dac_chains.specs.Claims.{Claims, claim_cmp}

@@ -5,8 +5,8 @@ use Rattle.std.specs.FinSet as set
 use Rattle.std.proofs.lemmas.List.{append-nil, nil_from_length}
 use Rattle.std.proofs.lemmas.Bool.{eqb-true}
 use Rattle.dac_part_bytes.specs.Table.{Table}
-use Rattle.dac_dots.specs.Dots.{Dots, IsSubset}
-use Rattle.dac_dots.specs.laws.Dots.{dots_total}
+use Rattle.dac_origins.specs.Dots.{Dots, IsSubset}
+use Rattle.dac_origins.specs.laws.Dots.{dots_total}
 use Rattle.dac_bytes.specs.declared.fault.ReadFault.{ReadFault}
 use Rattle.dac_bytes.specs.declared.fault.ReadFaultKind.TheVariants.{NotKnown, Trailing}
 use Rattle.dac_bytes.specs.Reading.{Rest, Gives, fault, whole, ◌>>=◌, context_at}

@@ -2,8 +2,8 @@
 use Rattle.std.specs.Prelude.{◌≡◌, ℕ, cond, List, ◌++◌, Ok, refl}
 use Rattle.std.specs.FinSet as set
 use Rattle.std.proofs.Common.{sym, ◌∙◌, append_assoc}
-use Rattle.dac_dots.specs.Dots.{Dots}
-use Rattle.dac_dots.specs.laws.Dots.{dots_total}
+use Rattle.dac_origins.specs.Dots.{Dots}
+use Rattle.dac_origins.specs.laws.Dots.{dots_total}
 use Rattle.dac_part_bytes.specs.Table.{Table, node_count}
 use Rattle.dac_bytes.specs.declared.fault.ReadFault.{ReadFault}
 use Rattle.dac_bytes.specs.declared.fault.ReadFaultKind.TheVariants.{NotKnown}

@@ -1,6 +1,6 @@
 -- The pieces of a state: their bytes, and what they have to be so that they can be read.
 use Rattle.std.specs.Prelude.{ℕ, List, ◌++◌}
-use Rattle.dac_dots.specs.Dots.{Dots, IsSubset}
+use Rattle.dac_origins.specs.Dots.{Dots, IsSubset}
 use Rattle.dac_chains.specs.Lives.{Lives}
 use Rattle.dac_chains.specs.Claims.{Claims}
 use Rattle.dac_wishes.specs.Writes.{Writes}

@@ -1,6 +1,6 @@
 -- How a state is kept: permissions, wishes and drains each beside the dots that they know.
 use Rattle.std.specs.Prelude.{◌≡◌}
-use Rattle.dac_dots.specs.Dots.{Dots}
+use Rattle.dac_origins.specs.Dots.{Dots}
 use Rattle.dac_chains.specs.Lives.{Lives}
 use Rattle.dac_chains.specs.Claims.{Claims}
 use Rattle.dac_wishes.specs.WishesValue.{WishesValue}

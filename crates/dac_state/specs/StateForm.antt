@@ -1,6 +1,6 @@
 -- Which states have bytes of a version that are read under a configuration.
 use Rattle.dac_part_bytes.specs.Table.{Table, node_count}
-use Rattle.dac_dots.specs.Dots.{IsSubset}
+use Rattle.dac_origins.specs.Dots.{IsSubset}
 use Rattle.dac_bytes.specs.Ranges.{IsContext}
 use Rattle.dac_part_bytes.specs.KeyedForm.{ArePermitsInForm, AreStartsInForm, AreDrainsInForm}
 use Rattle.dac_part_bytes.specs.ChainForm.{AreLivesInForm, AreClaimsInForm}

@@ -1,7 +1,7 @@
 -- Reading a state of a version from left to right, with the first fault that is met and its place.
 use Rattle.std.specs.Prelude.{ℕ, ◌==◌, List, length, Result, Ok, if◌then◌else◌}
 use Rattle.std.specs.FinSet as set
-use Rattle.dac_dots.specs.Dots.{Dots}
+use Rattle.dac_origins.specs.Dots.{Dots}
 use Rattle.dac_chains.specs.Lives.{Lives}
 use Rattle.dac_chains.specs.Claims.{Claims}
 use Rattle.dac_wishes.specs.Writes.{Writes}

@@ -1,6 +1,6 @@
 //! Whether a state is above what one operation means. The test takes no memory.
 ghost use Rattle.std.specs.Prelude.{◌≡◌, ◌↔◌, ◌∷◌, [], IsTrue};
-ghost use Rattle.dac_dots.specs.Dots.{IsSubset};
+ghost use Rattle.dac_origins.specs.Dots.{IsSubset};
 ghost use Rattle.dac_chains.specs.Greatest.{AreNotAbove};
 ghost use Rattle.dac_chains.specs.Lives.{life_cmp};
 ghost use Rattle.dac_chains.specs.Claims.{claim_cmp};
@@ -13,9 +13,9 @@ ghost use Rattle.dac_state.specs.Covering.{started_in};
 
 use crate::state::State;
 use dac_chains::{Claims, Lives};
-use dac_contexts::Context;
-use dac_dots::Origin;
+use dac_dots::Context;
 use dac_meaning::{Act, Op, laws};
+use dac_origins::Origin;
 use dac_wishes::{Drains, Key, Permissions, Wishes};
 
 impl State {

@@ -1,6 +1,6 @@
 //! States from bytes.
 ghost use Rattle.std.specs.Prelude.{◌≡◌, IfOk, Ok};
-ghost use Rattle.dac_dots.specs.Dots.{IsSubset};
+ghost use Rattle.dac_origins.specs.Dots.{IsSubset};
 ghost use Rattle.dac_bytes.specs.Reading.{Gives};
 ghost use Rattle.dac_bytes.specs.Takes.{IsFoundAs, IsReadAgain};
 ghost use Rattle.dac_meaning.specs.StateValue.{StateValue};
@@ -14,7 +14,7 @@ use crate::parts::Parts;
 use crate::state::State;
 use dac_bytes::{ByteReader, ReadFault, ReadFaultKind, Version};
 use dac_chains::{Claims, Lives};
-use dac_contexts::Context;
+use dac_dots::Context;
 use dac_lattice::Lattice;
 use dac_part_bytes::{Config, read_claims, read_drains, read_lives, read_permissions, read_wishes};
 use dac_wishes::{Drains, Permissions, Wishes};

@@ -1,11 +1,11 @@
 //! The dots heard, as they are kept beside the dots known.
 ghost use Rattle.std.specs.Prelude.{◌≡◌, ◌↔◌, IsTrue, IfOk};
 ghost use Rattle.std.specs.FinSet as set;
-ghost use Rattle.dac_dots.specs.Dots.{IsSubset};
+ghost use Rattle.dac_origins.specs.Dots.{IsSubset};
 ghost use Rattle.dac_state.specs.Heard.{heard_beside};
 
 use dac_base::NoMemory;
-use dac_contexts::{Context, SharedContext};
+use dac_dots::{Context, SharedContext};
 
 /// The dots heard, which are some of the dots known.
 #[derive(Drop)]

@@ -6,7 +6,7 @@ ghost use Rattle.dac_state.specs.Parts.{AreParts, state_of_parts};
 use crate::heard::Heard;
 use dac_base::NoMemory;
 use dac_chains::{Claims, Lives};
-use dac_contexts::Context;
+use dac_dots::Context;
 use dac_lattice::Lattice;
 use dac_wishes::{Drains, Permissions, Wishes};
 use std::alloc::Global;

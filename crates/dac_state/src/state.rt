@@ -6,7 +6,7 @@ ghost use Rattle.dac_meaning.specs.Meaning.{meaning_of};
 use crate::parts::Parts;
 use dac_base::NoMemory;
 use dac_chains::{Claims, Lives};
-use dac_contexts::{Context, SharedContext};
+use dac_dots::{Context, SharedContext};
 use dac_lattice::{Bottom, Lattice, Piece};
 use dac_meaning::{Op, laws};
 use dac_wishes::{Drains, Permissions, Wishes};

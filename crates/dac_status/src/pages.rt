@@ -11,7 +11,7 @@ use crate::nodes::put_node_line;
 use crate::summary::Summary;
 use dac_base::{AppId, NoMemory, NodeId};
 use dac_config::{Config, put_printed_name};
-use dac_dots::Origin;
+use dac_origins::Origin;
 use std::alloc::Global;
 
 /// The line above a page: a node, and as which incarnation it runs, or that it is off. A node that is off has

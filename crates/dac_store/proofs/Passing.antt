@@ -8,11 +8,11 @@ use Rattle.std.specs.FinSet as set
 use Rattle.std.proofs.lemmas.Bool.{false≢true, or_cases, or_left, or_right}
 use Rattle.std.proofs.lemmas.List.{take_all, take_more}
 use Rattle.std.proofs.lemmas.List.Folds.{list_any_more}
-use Rattle.dac_dots.specs.Keys.{has_key}
-use Rattle.dac_dots.specs.laws.KeyLaws.{has_is}
-use Rattle.dac_dots.specs.Dots.{Dots, dot_cmp}
-use Rattle.dac_dots.specs.laws.Dots.{dots_total, exact_dots}
-use Rattle.dac_dots.specs.declared.dot.Dot.{Dot}
+use Rattle.dac_origins.specs.Keys.{has_key}
+use Rattle.dac_origins.specs.laws.KeyLaws.{has_is}
+use Rattle.dac_origins.specs.Dots.{Dots, dot_cmp}
+use Rattle.dac_origins.specs.laws.Dots.{dots_total, exact_dots}
+use Rattle.dac_origins.specs.declared.dot.Dot.{Dot}
 use Rattle.dac_store.specs.Stores.{IsHeld, IsUnheard}
 use Rattle.dac_store.specs.DotSets.{may_stay}
 use Rattle.dac_store.specs.DotMaps.{has_in}

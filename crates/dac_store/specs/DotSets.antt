@@ -1,8 +1,8 @@
 -- Sets of dots as a store.
 use Rattle.std.specs.Prelude.{◌≡◌, Bool, true, not, ◌||◌, nat_eq}
 use Rattle.std.specs.FinSet as set
-use Rattle.dac_dots.specs.Dots.{Dots}
-use Rattle.dac_dots.specs.declared.dot.Dot.{Dot}
+use Rattle.dac_origins.specs.Dots.{Dots}
+use Rattle.dac_origins.specs.declared.dot.Dot.{Dot}
 
 -- each dot of t that c has heard of is in s
 abbrev pub IsSetBelow : Dots → Dots → Dots → Dots → Type 0

@@ -1,6 +1,6 @@
 -- The dots of a set, wherever it keeps them.
 use Rattle.std.specs.Prelude.{List, [], ◌∷◌}
-use Rattle.dac_dots.specs.declared.dot.Dot.{Dot}
+use Rattle.dac_origins.specs.declared.dot.Dot.{Dot}
 use Rattle.dac_store.specs.declared.few.FewDots.{FewDots}
 use Rattle.dac_store.specs.declared.few.FewDots.TheVariants.{Empty, One, Sorted}
 

@@ -1,6 +1,6 @@
 -- What `==` answers at dots.
 use Rattle.std.proofs.Common.{Bool, ◌==◌, ◌&&◌}
-use Rattle.dac_dots.specs.declared.dot.Dot.{Dot}
+use Rattle.dac_origins.specs.declared.dot.Dot.{Dot}
 
 -- the node, the incarnation and the counter are equal
 abbrev pub are_same : Dot → Dot → Bool

@@ -2,8 +2,8 @@
 -- (Dot stores are after delta-state replicated data types.)
 use Rattle.std.specs.Prelude.{◌≡◌, Bool, true, false, ◌||◌, refl}
 use Rattle.std.specs.FinSet as set
-use Rattle.dac_dots.specs.Dots.{Dots, IsSubset}
-use Rattle.dac_dots.specs.declared.dot.Dot.{Dot}
+use Rattle.dac_origins.specs.Dots.{Dots, IsSubset}
+use Rattle.dac_origins.specs.declared.dot.Dot.{Dot}
 
 -- each dot that is held is in the context
 abbrev pub IsHeld : (Dot → Bool) → Dots → Type 0

@@ -3,7 +3,7 @@ ghost use Rattle.std.specs.Prelude.{◌≡◌};
 ghost use Rattle.dac_lattice.specs.Search.{IsInOrder};
 ghost use Rattle.dac_store.specs.Appending.{is_above_entries};
 
-use dac_dots::MapKey;
+use dac_origins::MapKey;
 
 /// Whether each key of a sorted list of entries is below this one.
 pub(crate) fn ends_below<K: MapKey, X>(entries: &[(K, X)], key: K) -> bool

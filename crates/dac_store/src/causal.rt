@@ -1,15 +1,15 @@
 //! A store beside its context.
 ghost use Rattle.std.specs.Prelude.{◌≡◌, ◌↔◌, true, IsTrue, IfOk, IfErr};
 ghost use Rattle.std.specs.FinSet as set;
-ghost use Rattle.dac_dots.specs.Dots.{IsSubset};
+ghost use Rattle.dac_origins.specs.Dots.{IsSubset};
 ghost use Rattle.dac_store.specs.Keeping.{kept_in};
 ghost use Rattle.dac_store.specs.Stores.{IsHeld, IsStoredBelow, IsUnheard, join_stored};
 
 use crate::DotStore;
 use crate::kept::KeptStore;
-use dac_contexts::{Context, SharedContext};
-use dac_dots::NoMemory;
+use dac_dots::{Context, SharedContext};
 use dac_lattice::{Bottom, Lattice};
+use dac_origins::NoMemory;
 use std::alloc::Global;
 use std::marker::Model;
 use std::sync::Arc;
@@ -32,7 +32,7 @@ impl<S: DotStore> Model for Causal<S> {
     ghost use Rattle.std.specs.Prelude.{refl};
     ghost use Rattle.std.specs.Coded.{code_by, coded×};
     ghost use Rattle.std.specs.FinSet as set;
-    ghost use Rattle.dac_dots.specs.Dots.{Dots, coded_dot};
+    ghost use Rattle.dac_origins.specs.Dots.{Dots, coded_dot};
     ghost use Rattle.dac_store.specs.Stores.{IsStoreWithin, Stored};
     ghost use Rattle.dac_store.specs.Keeping.{kept_in};
 

@@ -3,17 +3,17 @@ ghost use Rattle.std.specs.Prelude.{◌≡◌, ◌↔◌, [], ◌∷◌, ◌++�
 ghost use Rattle.std.specs.FinSet as set;
 ghost use Rattle.std.specs.Option.{option_copied};
 ghost use Rattle.std.specs.FinMap.{find};
-ghost use Rattle.dac_dots.specs.Dots.{dot_cmp};
+ghost use Rattle.dac_origins.specs.Dots.{dot_cmp};
 ghost use Rattle.dac_store.specs.Appending.{is_above_entries};
 ghost use Rattle.dac_store.specs.AtDot.{StandsBelow};
 
 use crate::DotStore;
 use crate::appending::ends_below;
 use crate::few_entries::{FewEntries, merge_few};
-use dac_contexts::{Context, FilteredContext};
-use dac_dots::{Dot, NoMemory};
+use dac_dots::{Context, FilteredContext};
 use dac_lattice::Lattice;
 use dac_lattice::merging::{Combine, value_at};
+use dac_origins::{Dot, NoMemory};
 use std::alloc::Global;
 use std::marker::Model;
 
@@ -27,8 +27,8 @@ pub struct DotFun<V: Lattice> {
 
 impl<V: Lattice> Model for DotFun<V> {
     ghost use Rattle.std.specs.Prelude.{List};
-    ghost use Rattle.dac_dots.specs.Dots.{dot_cmp};
-    ghost use Rattle.dac_dots.specs.declared.Dot.{Dot};
+    ghost use Rattle.dac_origins.specs.Dots.{dot_cmp};
+    ghost use Rattle.dac_origins.specs.declared.Dot.{Dot};
     ghost use Rattle.dac_lattice.specs.Maps.{IsMap};
     ghost use Rattle.dac_store.specs.FewEntries.{entries_of};
 
@@ -133,7 +133,7 @@ impl<V: Lattice> Combine<Dot, V> for JoinHeard<'_> {
 
 impl<V: Lattice> DotStore for DotFun<V> {
     ghost use Rattle.std.specs.Prelude.{[]};
-    ghost use Rattle.dac_dots.specs.Dots.{dot_cmp};
+    ghost use Rattle.dac_origins.specs.Dots.{dot_cmp};
     ghost use Rattle.dac_lattice.specs.Maps.{IsMap};
     ghost use Rattle.dac_store.specs.DotFuns.{has_dot, IsFunBelow, join_funs, is_empty_list};
     ghost use Rattle.dac_store.specs.laws.DotFuns.{fun_laws};

@@ -7,9 +7,9 @@ ghost use Rattle.dac_store.specs.DotMaps.{unless_empty, store_at};
 
 use crate::DotStore;
 use crate::appending::ends_below;
-use dac_contexts::{Context, FilteredContext};
-use dac_dots::{Dot, MapKey, NoMemory};
+use dac_dots::{Context, FilteredContext};
 use dac_lattice::merging::{Combine, merge, value_at};
+use dac_origins::{Dot, MapKey, NoMemory};
 use std::alloc::Global;
 use std::marker::Model;
 

@@ -1,15 +1,15 @@
 //! Sets of dots.
 ghost use Rattle.std.specs.Prelude.{◌≡◌, ◌↔◌, ◌||◌, ◌&&◌, IsTrue, IfOk, OnErr, OnOk, true, if◌then◌else◌};
 ghost use Rattle.std.specs.FinSet as set;
-ghost use Rattle.dac_dots.specs.InOrder.{in_order};
+ghost use Rattle.dac_origins.specs.InOrder.{in_order};
 ghost use Rattle.dac_store.specs.Appending.{is_above_dots};
 ghost use Rattle.dac_store.specs.DotSets.{join_sets, may_stay};
 
 use crate::DotStore;
 use crate::few::FewDots;
-use dac_contexts::{Context, FilteredContext};
-use dac_dots::keys::holds_key;
-use dac_dots::{Dot, NoMemory};
+use dac_dots::{Context, FilteredContext};
+use dac_origins::keys::holds_key;
+use dac_origins::{Dot, NoMemory};
 use std::alloc::Global;
 use std::marker::Model;
 
@@ -27,8 +27,8 @@ pub struct DotSet {
 
 impl Model for DotSet {
     ghost use Rattle.std.specs.FinSet as set;
-    ghost use Rattle.dac_dots.specs.Keys.{IsRising};
-    ghost use Rattle.dac_dots.specs.Dots.{dot_cmp, coded_dot};
+    ghost use Rattle.dac_origins.specs.Keys.{IsRising};
+    ghost use Rattle.dac_origins.specs.Dots.{dot_cmp, coded_dot};
     ghost use Rattle.dac_store.specs.Few.{dots_of};
 
     ghost Value = { set.FinSet dot_cmp };

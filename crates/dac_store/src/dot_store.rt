@@ -1,11 +1,11 @@
 //! What a store of dots is.
 ghost use Rattle.std.specs.Prelude.{◌≡◌, ◌↔◌, Bool, IsTrue, IfOk};
-ghost use Rattle.dac_dots.specs.Dots.{Dots};
-ghost use Rattle.dac_dots.specs.declared.Dot.{Dot};
+ghost use Rattle.dac_origins.specs.Dots.{Dots};
+ghost use Rattle.dac_origins.specs.declared.Dot.{Dot};
 ghost use Rattle.dac_store.specs.Stores.{IsDotStore, IsHeld, IsUnheard};
 
-use dac_contexts::{Context, FilteredContext};
-use dac_dots::{Dot, NoMemory};
+use dac_dots::{Context, FilteredContext};
+use dac_origins::{Dot, NoMemory};
 use std::alloc::Global;
 
 /// Values that hold dots. Two of them are ordered and joined beside their contexts, the dots that each

@@ -1,12 +1,12 @@
 //! Few dots, with little memory.
 ghost use Rattle.std.specs.Prelude.{◌≡◌, ◌||◌, ◌&&◌, [], ◌∷◌, IfOk, OnErr, OnOk, not};
 ghost use Rattle.std.specs.Ordering.{eq_by_cmp};
-ghost use Rattle.dac_dots.specs.Dots.{dot_cmp};
-ghost use Rattle.dac_dots.specs.Keys.{IsRising, has_key};
+ghost use Rattle.dac_origins.specs.Dots.{dot_cmp};
+ghost use Rattle.dac_origins.specs.Keys.{IsRising, has_key};
 ghost use Rattle.dac_store.specs.Few.{dots_of};
 
-use dac_dots::keys::{insert_key, remove_key};
-use dac_dots::{Dot, NoMemory};
+use dac_origins::keys::{insert_key, remove_key};
+use dac_origins::{Dot, NoMemory};
 use std::alloc::Global;
 use std::cmp::Ordering;
 use std::slice::from_ref;

@@ -1,13 +1,13 @@
 //! Few values at dots, with little memory.
 ghost use Rattle.std.specs.Prelude.{◌≡◌, ◌++◌, [], ◌∷◌, IfOk, OnOk, OnErr};
 ghost use Rattle.std.specs.Option.{option_copied, option_to_list};
-ghost use Rattle.dac_dots.specs.Dots.{dot_cmp};
+ghost use Rattle.dac_origins.specs.Dots.{dot_cmp};
 ghost use Rattle.dac_lattice.specs.Entries.{merge_entries, keep};
 ghost use Rattle.dac_store.specs.FewEntries.{entries_of};
 
-use dac_dots::{Dot, NoMemory};
 use dac_lattice::Lattice;
 use dac_lattice::merging::{Combine, merge};
+use dac_origins::{Dot, NoMemory};
 use std::alloc::Global;
 use std::cmp::Ordering;
 use std::mem::replace;

@@ -12,7 +12,7 @@
 #![tactic(auto)]
 
 pub use causal::Causal;
-pub use dac_contexts::{Context, FilteredContext, SharedContext};
+pub use dac_dots::{Context, FilteredContext, SharedContext};
 pub use dot_fun::DotFun;
 pub use dot_map::DotMap;
 pub use dot_set::DotSet;

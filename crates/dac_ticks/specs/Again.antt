@@ -1,7 +1,7 @@
 -- A second tick at the same moment.
 use Rattle.std.proofs.Common.{◌≡◌, ◌⊎◌, ℕ, List, [], ◌∷◌}
 use Rattle.dac_base.specs.declared.AppId.{AppId}
-use Rattle.dac_dots.specs.declared.dot.Origin.{Origin}
+use Rattle.dac_origins.specs.declared.dot.Origin.{Origin}
 use Rattle.dac_config.specs.Table.{Table}
 use Rattle.dac_chains.specs.Lives.{IsLive}
 use Rattle.dac_meaning.specs.StateValue.{StateValue, IsState}

@@ -5,7 +5,7 @@ use Rattle.std.specs.Prelude.{ℕ, Bool, false, ◌&&◌, ◌==◌, List, [], �
 use Rattle.std.specs.Option.{option_map, option_map_or}
 use Rattle.dac_base.specs.declared.NodeId.{NodeId}
 use Rattle.dac_base.specs.declared.AppId.{AppId}
-use Rattle.dac_dots.specs.declared.dot.Origin.{Origin}
+use Rattle.dac_origins.specs.declared.dot.Origin.{Origin}
 use Rattle.dac_chains.specs.declared.claims.How.TheVariants.{Normal, Failover as FailedOver, Takeover as TakenOver}
 use Rattle.dac_operations.specs.declared.act.Act.{Act}
 use Rattle.dac_operations.specs.Operations.{Operation}

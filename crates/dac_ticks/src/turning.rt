@@ -17,10 +17,10 @@ use dac_chains::How;
 use dac_commands::{claim, terms_used_up};
 use dac_config::Config;
 use dac_decide::Waits;
-use dac_dots::Origin;
 use dac_lattice::Lattice;
 use dac_messages::{AppList, OpList};
 use dac_operations::Op;
+use dac_origins::Origin;
 use dac_placement::{State, Verdict, eligible, holder, verdict};
 use std::alloc::Global;
 

@@ -1,7 +1,7 @@
 -- The labels under which messages and operations are filed. They spread what is filed, and nothing else rests on them.
 use Rattle.std.specs.Prelude.{ℕ, ◌+◌, ◌*◌, ◌%◌, List, map, Option, Some, None}
 use Rattle.std.specs.Borrow.{Bor}
-use Rattle.dac_dots.specs.declared.dot.Origin.{Origin}
+use Rattle.dac_origins.specs.declared.dot.Origin.{Origin}
 use Rattle.dac_messages.specs.declared.message.Message.{Message}
 use Rattle.dac_operations.specs.Operations.{Operation}
 

@@ -1,8 +1,8 @@
 -- Packets as bytes, in each version. Numbers are written as in `dac_bytes`, the highest byte first.
 use Rattle.std.specs.Prelude.{ℕ, List, [], ◌∷◌, ◌++◌, length, codes, Option, None, Some}
 use Rattle.std.specs.List.{flat_map}
-use Rattle.dac_dots.specs.declared.dot.Dot.{Dot}
-use Rattle.dac_dots.specs.declared.dot.Origin.{Origin}
+use Rattle.dac_origins.specs.declared.dot.Dot.{Dot}
+use Rattle.dac_origins.specs.declared.dot.Origin.{Origin}
 use Rattle.dac_wishes.specs.DrainsValue.{origin}
 use Rattle.dac_config.specs.Canonical.{canonical_text}
 use Rattle.dac_config.specs.Mark.{fnv1a}

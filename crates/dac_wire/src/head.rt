@@ -1,7 +1,7 @@
 //! The head of a message.
 
 use dac_base::NodeId;
-use dac_dots::Origin;
+use dac_origins::Origin;
 
 /// All of a message but what it brings.
 #[derive(Clone, Copy)]

@@ -15,6 +15,7 @@
 #![tactic(auto)]
 
 pub use coding::{decode, encode};
+pub use dac_messages::{Body, Message};
 pub use fault::{WireFault, WireFaultKind};
 pub use packet::{MAX_MESSAGE, Packet};
 

@@ -10,8 +10,8 @@ use crate::reading_operations::read_operation;
 use dac_base::{MAX_COUNTER, NodeId};
 use dac_bytes::{ByteReader, ReadFault, ReadFaultKind, Version};
 use dac_config::Config;
-use dac_dots::Origin;
 use dac_messages::{Body, Message};
+use dac_origins::Origin;
 use dac_state::State;
 use std::alloc::Global;
 

@@ -7,9 +7,9 @@ use crate::codes::{act_code, kind_of_act, only_code, value_code};
 use crate::packet::Packet;
 use dac_base::NoMemory;
 use dac_bytes::{ByteWriter, Version};
-use dac_dots::{Dot, Origin};
 use dac_messages::{Body, Message};
 use dac_operations::{Act, Op};
+use dac_origins::{Dot, Origin};
 use dac_part_bytes::{write_key, write_manner};
 
 /// What was got of the receiver, if anything.

@@ -11,13 +11,13 @@ use Rattle.std.specs.FinMap.{find, is_sorted}
 use Rattle.std.proofs.lemmas.Bool.{true≢false, false≢true, and_parts, and_from, or_cases, or_left, or_right}
 use Rattle.std.proofs.lemmas.Cmp.{tied_itself}
 use Rattle.std.proofs.lemmas.Map.Lookups.{CmpEqualImpliesEq}
-use Rattle.dac_dots.specs.declared.dot.Dot.{Dot}
-use Rattle.dac_dots.specs.declared.dot.Origin.{Origin}
-use Rattle.dac_dots.specs.Dots.{Dots, IsSubset, dot_cmp, origin_cmp}
-use Rattle.dac_dots.specs.laws.Dots.{dots_total, exact_dots, origins_total, exact_origins}
-use Rattle.dac_dots.specs.Keys.{has_key}
-use Rattle.dac_dots.specs.InOrder.{in_order}
-use Rattle.dac_dots.specs.laws.InOrder.{has_key-in_order}
+use Rattle.dac_origins.specs.declared.dot.Dot.{Dot}
+use Rattle.dac_origins.specs.declared.dot.Origin.{Origin}
+use Rattle.dac_origins.specs.Dots.{Dots, IsSubset, dot_cmp, origin_cmp}
+use Rattle.dac_origins.specs.laws.Dots.{dots_total, exact_dots, origins_total, exact_origins}
+use Rattle.dac_origins.specs.Keys.{has_key}
+use Rattle.dac_origins.specs.InOrder.{in_order}
+use Rattle.dac_origins.specs.laws.InOrder.{has_key-in_order}
 use Rattle.dac_lattice.specs.declared.flags.Flag.{Flag}
 use Rattle.dac_lattice.specs.declared.flags.Flag.TheVariants.{Up, Down}
 use Rattle.dac_lattice.specs.Chains.{IsAny}

@@ -3,10 +3,10 @@ use Rattle.std.proofs.Common.{◌≡◌, ◌∙◌, ℕ, ◌+◌, ◌<◌, ◌||
 use Rattle.std.specs.Ordering.{eq_by_cmp}
 use Rattle.std.specs.FinSet as set
 use Rattle.std.proofs.lemmas.List.Folds.{list_any_more}
-use Rattle.dac_dots.specs.declared.dot.Dot.{Dot}
-use Rattle.dac_dots.specs.Dots.{Dots, dot_cmp}
-use Rattle.dac_dots.specs.laws.Dots.{dots_total}
-use Rattle.dac_dots.specs.Keys.{has_key}
+use Rattle.dac_origins.specs.declared.dot.Dot.{Dot}
+use Rattle.dac_origins.specs.Dots.{Dots, dot_cmp}
+use Rattle.dac_origins.specs.laws.Dots.{dots_total}
+use Rattle.dac_origins.specs.Keys.{has_key}
 
 -- d: the operation's own; e: one more; r: one of those before
 turn : (d e r : Bool) → (e || (d || r)) ≡ (d || (r || e))

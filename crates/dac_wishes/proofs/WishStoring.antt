@@ -5,8 +5,8 @@ use Rattle.std.specs.List.{list_any}
 use Rattle.std.specs.FinSet as set
 use Rattle.std.specs.FinMap.{find}
 use Rattle.std.proofs.lemmas.Bool.{false≢true, or_left, or_right}
-use Rattle.dac_dots.specs.declared.dot.Dot.{Dot}
-use Rattle.dac_dots.specs.Dots.{Dots, dot_cmp}
+use Rattle.dac_origins.specs.declared.dot.Dot.{Dot}
+use Rattle.dac_origins.specs.Dots.{Dots, dot_cmp}
 use Rattle.dac_lattice.specs.Chains.{IsAny}
 use Rattle.dac_store.specs.Stores.{IsStoredBelow, join_stored}
 use Rattle.dac_store.specs.laws.Stores.{causal_laws, both_ways}

@@ -2,7 +2,7 @@
 use Rattle.std.specs.Prelude.{List, map as list_map}
 use Rattle.std.specs.declared.cmp.Ordering.{Ordering}
 use Rattle.std.specs.FinSet as set
-use Rattle.dac_dots.specs.InOrder.{in_order}
+use Rattle.dac_origins.specs.InOrder.{in_order}
 
 -- each key with what is at it
 abbrev pub by_key : {K S : Type 0} → (K → S) → List K → List (K × S)

@@ -3,12 +3,12 @@
 use Rattle.std.specs.Prelude.{Bool, true, false, not, List, Option, None, Some, if◌then◌else◌}
 use Rattle.std.specs.declared.cmp.Ordering.{Ordering}
 use Rattle.std.specs.List.{list_all}
-use Rattle.dac_dots.specs.declared.dot.Dot.{Dot}
-use Rattle.dac_dots.specs.declared.dot.Origin.{Origin}
-use Rattle.dac_dots.specs.Dots.{dot_cmp}
-use Rattle.dac_dots.specs.Keys.{has_key}
-use Rattle.dac_dots.specs.InOrder.{in_order}
-use Rattle.dac_dots.specs.Dots.{Dots}
+use Rattle.dac_origins.specs.declared.dot.Dot.{Dot}
+use Rattle.dac_origins.specs.declared.dot.Origin.{Origin}
+use Rattle.dac_origins.specs.Dots.{dot_cmp}
+use Rattle.dac_origins.specs.Keys.{has_key}
+use Rattle.dac_origins.specs.InOrder.{in_order}
+use Rattle.dac_origins.specs.Dots.{Dots}
 use Rattle.dac_lattice.specs.declared.flags.Flag.{Flag}
 use Rattle.dac_lattice.specs.declared.flags.Flag.TheVariants.{Up, Down}
 use Rattle.dac_wishes.specs.declared.key.Key.{Key}

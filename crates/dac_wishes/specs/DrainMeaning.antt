@@ -1,8 +1,8 @@
 -- What a set of operations means for drains: which drains stand, with their values, and which dots are known.
 use Rattle.std.specs.Prelude.{List, Option, None, Some}
-use Rattle.dac_dots.specs.declared.dot.Dot.{Dot}
-use Rattle.dac_dots.specs.declared.dot.Origin.{Origin}
-use Rattle.dac_dots.specs.Dots.{origin_cmp}
+use Rattle.dac_origins.specs.declared.dot.Dot.{Dot}
+use Rattle.dac_origins.specs.declared.dot.Origin.{Origin}
+use Rattle.dac_origins.specs.Dots.{origin_cmp}
 use Rattle.dac_lattice.specs.declared.flags.Flag.{Flag}
 use Rattle.dac_wishes.specs.declared.drain_act.DrainAct.{DrainAct}
 use Rattle.dac_wishes.specs.declared.drain_act.DrainAct.TheVariants.{Drain, Other}

@@ -1,6 +1,6 @@
 -- What a set of operations means for permissions: which permits stand, with their values, and which dots are known.
 use Rattle.std.specs.Prelude.{List, Option, None, Some}
-use Rattle.dac_dots.specs.declared.dot.Dot.{Dot}
+use Rattle.dac_origins.specs.declared.dot.Dot.{Dot}
 use Rattle.dac_lattice.specs.declared.flags.Flag.{Flag}
 use Rattle.dac_wishes.specs.declared.key.Key.{Key}
 use Rattle.dac_wishes.specs.declared.permit_act.PermitAct.{PermitAct}

@@ -1,7 +1,7 @@
 -- Start wishes by key: the keys of the wishes that stand, each with their dots. This is how they are kept and read.
 use Rattle.std.specs.Prelude.{List}
 use Rattle.std.specs.FinSet as set
-use Rattle.dac_dots.specs.Dots.{Dots}
+use Rattle.dac_origins.specs.Dots.{Dots}
 use Rattle.dac_lattice.specs.Chains.{IsAny}
 use Rattle.dac_store.specs.DotSets.{is_empty_set}
 use Rattle.dac_store.specs.DotMaps.{IsKeyed}

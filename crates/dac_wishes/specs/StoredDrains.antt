@@ -1,7 +1,7 @@
 -- How drains are stored: values at dots at each origin, beside the context of the dots that are known.
 use Rattle.std.specs.Prelude.{List}
-use Rattle.dac_dots.specs.declared.dot.Origin.{Origin}
-use Rattle.dac_dots.specs.Dots.{origin_cmp}
+use Rattle.dac_origins.specs.declared.dot.Origin.{Origin}
+use Rattle.dac_origins.specs.Dots.{origin_cmp}
 use Rattle.dac_wishes.specs.DrainsValue.{DrainsValue, Drains}
 use Rattle.dac_wishes.specs.StoredVotes.{DotFlags, StoredVotes, AreStoredVotes, votes_of, votes_value_of}
 use Rattle.dac_wishes.specs.VotesByKey.{votes_by_key}

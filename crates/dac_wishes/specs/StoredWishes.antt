@@ -2,7 +2,7 @@
 use Rattle.std.specs.Prelude.{List, map as list_map}
 use Rattle.std.specs.List.{flat_map}
 use Rattle.std.specs.FinSet as set
-use Rattle.dac_dots.specs.Dots.{Dots}
+use Rattle.dac_origins.specs.Dots.{Dots}
 use Rattle.dac_lattice.specs.Chains.{IsAny}
 use Rattle.dac_store.specs.Stores.{Stored, IsStored}
 use Rattle.dac_store.specs.DotSets.{is_empty_set}

@@ -2,9 +2,9 @@
 ghost use Rattle.std.specs.Prelude.{◌≡◌, ◌↔◌, ◌∷◌, List, IsTrue};
 ghost use Rattle.std.specs.FinSet as set;
 ghost use Rattle.std.specs.List.{list_all};
-ghost use Rattle.dac_dots.specs.declared.dot.Dot.{Dot as DotValue};
-ghost use Rattle.dac_dots.specs.Dots.{IsSubset, dot_cmp};
-ghost use Rattle.dac_dots.specs.Keys.{has_key};
+ghost use Rattle.dac_origins.specs.declared.dot.Dot.{Dot as DotValue};
+ghost use Rattle.dac_origins.specs.Dots.{IsSubset, dot_cmp};
+ghost use Rattle.dac_origins.specs.Keys.{has_key};
 ghost use Rattle.dac_wishes.specs.KeyedWrites.{same_dot};
 ghost use Rattle.dac_wishes.specs.Covering.{drain_act, is_said_below, is_wish_of, let_stand, let_wishes, lets_stand, lets_wish, permit_act, wish_act};
 ghost use Rattle.dac_wishes.specs.VoteMeaning.{says_of};
@@ -17,8 +17,8 @@ use crate::key::Key;
 use crate::permissions::Permissions;
 use crate::permit_act::flag_of as permit_flag;
 use crate::wishes::Wishes;
-use dac_dots::{Dot, MapKey, Origin};
 use dac_lattice::Flag;
+use dac_origins::{Dot, MapKey, Origin};
 use dac_store::{Context, DotFun, DotSet};
 
 impl Permissions {

@@ -4,7 +4,7 @@ ghost use Rattle.std.specs.FinSet as set;
 ghost use Rattle.dac_store.specs.Stores.{IsHeld};
 
 use dac_base::NoMemory;
-use dac_dots::Dot;
+use dac_origins::Dot;
 use dac_store::{Causal, Context, DotStore, SharedContext};
 use std::alloc::Global;
 

@@ -2,7 +2,7 @@
 ghost use Rattle.std.specs.Prelude.{◌≡◌, ◌↔◌, IfOk, IsTrue};
 
 use dac_base::NoMemory;
-use dac_dots::Dot;
+use dac_origins::Dot;
 use std::marker::Model;
 
 /// A list of dots in some order. Contracts see it as the list.
@@ -20,7 +20,7 @@ impl Drop for DotList {
 
 impl Model for DotList {
     ghost use Rattle.std.specs.Prelude.{List};
-    ghost use Rattle.dac_dots.specs.declared.Dot.{Dot};
+    ghost use Rattle.dac_origins.specs.declared.Dot.{Dot};
 
     ghost Value = { List Dot };
 

@@ -4,8 +4,8 @@ ghost use Rattle.dac_wishes.specs.DrainMeaning.{over_of, vote_of};
 ghost use Rattle.dac_wishes.specs.DrainsValue.{flag_of};
 
 use crate::dot_list::DotList;
-use dac_dots::{Dot, Origin};
 use dac_lattice::Flag;
+use dac_origins::{Dot, Origin};
 
 /// What an operation does, as far as drains go: it may drain an incarnation of a node or end that, and replaces dots.
 #[derive(Debug, Drop)]

@@ -1,10 +1,10 @@
 //! Drains.
 ghost use Rattle.std.specs.Prelude.{◌≡◌, ◌↔◌, IsTrue, IfOk};
 ghost use Rattle.std.specs.FinSet as set;
-ghost use Rattle.dac_dots.specs.Dots.{IsSubset};
+ghost use Rattle.dac_origins.specs.Dots.{IsSubset};
 ghost use Rattle.std.specs.List.{list_any};
 ghost use Rattle.dac_lattice.specs.declared.flags.Flag.{Flag as FlagValue};
-ghost use Rattle.dac_dots.specs.declared.dot.Dot.{Dot as DotValue};
+ghost use Rattle.dac_origins.specs.declared.dot.Dot.{Dot as DotValue};
 ghost use Rattle.dac_wishes.specs.DrainsValue.{join_drains, AreDrainsBelow, origin, says_drained, is_drained, IsDrained, drains_at};
 ghost use Rattle.dac_wishes.specs.DrainMeaning.{drain_delta};
 
@@ -12,8 +12,8 @@ use crate::delta::{beside, shared_names};
 use crate::drain_act::DrainAct;
 use crate::votes::{kept_at, kept_beside};
 use dac_base::{NoMemory, NodeId};
-use dac_dots::{Dot, Origin};
 use dac_lattice::{Bottom, Flag, Lattice, Piece};
+use dac_origins::{Dot, Origin};
 use dac_store::{Causal, Context, DotFun, DotMap, DotStore, SharedContext};
 use std::alloc::Global;
 use std::marker::Model;

@@ -1,6 +1,6 @@
 //! What is permitted and wished.
 use dac_base::{AppId, NodeId};
-use dac_dots::MapKey;
+use dac_origins::MapKey;
 
 /// An application at one incarnation of a node. Permits and start wishes are of such keys, so a node that
 /// comes up again returns to the configuration.

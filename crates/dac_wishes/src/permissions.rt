@@ -1,10 +1,10 @@
 //! Permissions.
 ghost use Rattle.std.specs.Prelude.{◌≡◌, ◌↔◌, IsTrue, IfOk};
 ghost use Rattle.std.specs.FinSet as set;
-ghost use Rattle.dac_dots.specs.Dots.{IsSubset};
+ghost use Rattle.dac_origins.specs.Dots.{IsSubset};
 ghost use Rattle.std.specs.List.{list_all};
 ghost use Rattle.dac_lattice.specs.declared.flags.Flag.{Flag as FlagValue};
-ghost use Rattle.dac_dots.specs.declared.dot.Dot.{Dot as DotValue};
+ghost use Rattle.dac_origins.specs.declared.dot.Dot.{Dot as DotValue};
 ghost use Rattle.dac_wishes.specs.PermissionsValue.{join_permissions, IsPermissionsBelow, says_true, is_permitted, is_permitted_by, IsPermitted, permits_at};
 ghost use Rattle.dac_wishes.specs.PermitMeaning.{permit_delta};
 
@@ -13,8 +13,8 @@ use crate::key::Key;
 use crate::permit_act::PermitAct;
 use crate::votes::{kept_at, kept_beside};
 use dac_base::NoMemory;
-use dac_dots::Dot;
 use dac_lattice::{Bottom, Flag, Lattice, Piece};
+use dac_origins::Dot;
 use dac_store::{Causal, Context, DotFun, DotMap, SharedContext};
 use std::alloc::Global;
 use std::marker::Model;

@@ -5,8 +5,8 @@ ghost use Rattle.dac_wishes.specs.PermissionsValue.{flag_of};
 
 use crate::dot_list::DotList;
 use crate::key::Key;
-use dac_dots::Dot;
 use dac_lattice::Flag;
+use dac_origins::Dot;
 
 /// What an operation does, as far as permissions go: it may write one, and replaces dots.
 #[derive(Debug, Drop)]

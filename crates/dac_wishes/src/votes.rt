@@ -8,8 +8,8 @@ ghost use Rattle.dac_wishes.specs.StoredVotes.{stored_vote};
 
 use crate::delta::beside_shared;
 use dac_base::NoMemory;
-use dac_dots::{Dot, MapKey};
 use dac_lattice::Flag;
+use dac_origins::{Dot, MapKey};
 use dac_store::{Causal, DotFun, DotMap, DotStore, SharedContext};
 use std::alloc::Global;
 

@@ -4,7 +4,7 @@ ghost use Rattle.dac_wishes.specs.WishMeaning.{over_of};
 
 use crate::dot_list::DotList;
 use crate::key::Key;
-use dac_dots::Dot;
+use dac_origins::Dot;
 
 /// What an operation does, as far as start wishes go: it may wish a start, and replaces dots.
 #[derive(Debug, Drop)]

@@ -1,8 +1,8 @@
 //! Start wishes.
 ghost use Rattle.std.specs.Prelude.{◌≡◌, ◌↔◌, IsTrue, IfOk};
 ghost use Rattle.std.specs.FinSet as set;
-ghost use Rattle.dac_dots.specs.Dots.{IsSubset};
-ghost use Rattle.dac_dots.specs.InOrder.{in_order};
+ghost use Rattle.dac_origins.specs.Dots.{IsSubset};
+ghost use Rattle.dac_origins.specs.InOrder.{in_order};
 ghost use Rattle.dac_wishes.specs.Writes.{dots_at};
 ghost use Rattle.dac_wishes.specs.WishesValue.{join_wishes, AreWishesBelow, is_wished, SomeStands};
 ghost use Rattle.dac_wishes.specs.StoredDeltas.{stored_start};
@@ -12,8 +12,8 @@ use crate::delta::{beside_shared, shared_names};
 use crate::key::Key;
 use crate::wish_act::WishAct;
 use dac_base::NoMemory;
-use dac_dots::Dot;
 use dac_lattice::{Bottom, Lattice, Piece};
+use dac_origins::Dot;
 use dac_store::{Causal, Context, DotMap, DotSet, DotStore, SharedContext};
 use std::alloc::Global;
 use std::marker::Model;

@@ -6,7 +6,7 @@ use Rattle.dac_config.specs.Table.{Table}
 use Rattle.dac_messages.specs.declared.event.Event.{Event}
 use Rattle.dac_messages.specs.declared.event.Event.TheVariants.{Ship, Hear}
 use Rattle.dac_messages.specs.declared.message.Message.{Message}
-use Rattle.dac_live.specs.Call.{Call}
+use Rattle.dac_sites.specs.Call.{Call}
 use Rattle.dac_links.specs.Relay.{Paper}
 use Rattle.dac_wire.specs.declared.packet.Packet.TheVariants.{Msg}
 use Rattle.dac_wire.specs.Decoding.{packet_at}

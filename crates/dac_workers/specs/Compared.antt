@@ -7,7 +7,7 @@ use Rattle.dac_messages.specs.declared.message.Message.{Message}
 use Rattle.dac_messages.specs.declared.reply.Reply.{Reply}
 use Rattle.dac_messages.specs.declared.reply.Reply.TheVariants as reply
 use Rattle.dac_events.specs.declared.refusal.Refusal.{Refusal}
-use Rattle.dac_live.specs.Record.{Record}
+use Rattle.dac_sites.specs.Record.{Record}
 use Rattle.dac_workers.specs.Links.{ships_to}
 
 -- in front of these, if there is one

@@ -2,7 +2,7 @@ pub mod Compared
 pub mod Letters
 pub mod Links
 pub mod RunFaults
-pub use Rattle.dac_live.specs.Journals
-pub use Rattle.dac_live.specs.Paged
-pub use Rattle.dac_live.specs.Record
-pub use Rattle.dac_live.specs.Sites
+pub use Rattle.dac_sites.specs.Journals
+pub use Rattle.dac_sites.specs.Paged
+pub use Rattle.dac_sites.specs.Record
+pub use Rattle.dac_sites.specs.Sites

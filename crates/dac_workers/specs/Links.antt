@@ -8,7 +8,7 @@ use Rattle.dac_messages.specs.declared.message.Message.{Message}
 use Rattle.dac_messages.specs.declared.reply.Reply.{Reply}
 use Rattle.dac_messages.specs.declared.reply.Reply.TheVariants as reply
 use Rattle.dac_events.specs.declared.refusal.Refusal.{Refusal}
-use Rattle.dac_live.specs.Call.{Call}
+use Rattle.dac_sites.specs.Call.{Call}
 use Rattle.dac_links.specs.Relay.{Paper}
 use Rattle.dac_wire.specs.declared.packet.Packet.TheVariants.{Msg}
 use Rattle.dac_wire.specs.Decoding.{packet_at}

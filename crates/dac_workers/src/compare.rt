@@ -6,8 +6,8 @@ ghost use Rattle.dac_workers.specs.Compared.{found, sent_one, event_one};
 ghost use Rattle.dac_workers.specs.Links.{ships_to};
 
 use dac_base::{NoMemory, NodeId};
-use dac_live::Record;
 use dac_messages::{Event, Message, Reply};
+use dac_sites::Record;
 use std::alloc::Global;
 
 /// How often a shipper ships in a phase, with the last time that no thread runs.

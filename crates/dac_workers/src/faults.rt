@@ -4,7 +4,7 @@ ghost use Rattle.std.specs.Prelude.{◌≡◌};
 ghost use Rattle.dac_workers.specs.RunFaults.{number_of, name_of};
 
 use dac_base::NodeId;
-use dac_live::{CloseFault, LiveFault, OpenFault};
+use dac_sites::{CloseFault, LiveFault, OpenFault};
 use thiserror::Error;
 
 /// Why sites are not run to the end. The number and the name of each cause are part of the program's output.

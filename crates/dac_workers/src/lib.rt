@@ -4,7 +4,7 @@
 //! message into the link. A link worker takes the bytes out, and has its site hear each message.
 #![tactic(auto)]
 
-pub use dac_live::{
+pub use dac_sites::{
     Answer, CloseFault, Closed, LiveFault, Page, PageReader, Receipt, Record, Seat, Site,
     SiteBlank, SiteName, blank_site, open_site, replay,
 };
@@ -14,4 +14,4 @@ pub use links::{Gate, hear_link, ship_last, ship_link};
 pub mod compare;
 mod faults;
 mod letters;
-mod links;
+pub mod links;

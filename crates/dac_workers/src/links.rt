@@ -9,9 +9,10 @@ use crate::faults::RunFault;
 use crate::letters::{Ends, letter_of, message_in};
 use dac_base::NodeId;
 use dac_config::Config;
-use dac_links::{Letter, LinkReceiver, LinkSender};
-use dac_live::{LiveFault, Seat, Site, SiteName};
+use dac_links::Letter;
+pub use dac_links::{LinkReceiver, LinkSender, link};
 use dac_messages::{Event, Message, Reply};
+use dac_sites::{LiveFault, Seat, Site, SiteName};
 use std::alloc::Global;
 use std::sync::Wait;
 

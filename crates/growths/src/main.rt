@@ -15,7 +15,6 @@ mod sites;
 mod worlds;
 
 use crate::calls::{CALLS, try_listed};
-use controller_tests::bearing::is_borne;
 use dac_state::State;
 use std::alloc::Global;
 use std::io::{Print, Read};
@@ -23,6 +22,7 @@ use std::sync::Wait;
 use std::thread::Threads;
 use tried_calls::sample::{Does, ME, config, meaning};
 use tried_calls::trial::Came;
+use tried_states::is_borne;
 
 /// A word of the input, and what stands behind it.
 fn word(text: &[u8]) -> (&[u8], &[u8]) {

@@ -1,10 +1,10 @@
 //! Scripts that are read, and a run of sites in threads.
 use dac_base::NodeId;
 use dac_config::Config;
+use dac_live::{Ask, Gate, Line, Phase, are_runnable, run_live};
 use dac_live_play::dac_script::{Failure, read_script};
 use dac_live_script::read_live_script;
 use dac_messages::Event;
-use dac_report::{Ask, Gate, Line, Phase, are_runnable, run_live};
 use std::alloc::Global;
 use std::io::Print;
 use std::sync::Wait;

@@ -1,13 +1,13 @@
 //! Calls of a site, from its opening to its closing.
-ghost use Rattle.dac_live.specs.Sites.{IsBlankOf};
+ghost use Rattle.dac_sites.specs.Sites.{IsBlankOf};
 
 use crate::nodes::{Happens, all_before, number_of, twice};
 use dac_config::Config;
-use dac_live::{
+use dac_messages::Event;
+use dac_sites::{
     LiveFault, OpenFault, PageReader, Receipt, Seat, Site, SiteBlank, SiteName, blank_site,
     open_site,
 };
-use dac_messages::Event;
 use std::alloc::Global;
 use std::io::Print;
 use std::marker::Brand;

@@ -1,8 +1,8 @@
 //! Contexts, and sorted lists of keys.
 use crate::sample::{context_of, dot, origin};
 use dac_base::{AppId, NoMemory};
-use dac_contexts::{Context, Further, FilteredContext};
-use dac_dots::keys::{MapKey, holds_key, insert_key, remove_key};
+use dac_dots::{Context, FilteredContext, Further};
+use dac_origins::keys::{MapKey, holds_key, insert_key, remove_key};
 use std::alloc::Global;
 
 /// Whether the next dot of node 0 has this counter, and the context is a vector or not.

@@ -2,8 +2,8 @@
 use crate::sample::dot;
 use dac_base::{AppId, NoMemory, NodeId};
 use dac_chains::{ClaimAct, How, LifeAct};
-use dac_dots::Dot;
 use dac_operations::{Act, Op, OpFault};
+use dac_origins::Dot;
 use dac_wishes::{DotList, Key};
 use std::alloc::Global;
 

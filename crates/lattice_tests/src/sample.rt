@@ -1,8 +1,8 @@
 //! Dots that the tests share, and what is asked of every lattice.
 use dac_base::{NoMemory, NodeId};
-use dac_contexts::Context;
-use dac_dots::{Dot, Origin};
+use dac_dots::Context;
 use dac_lattice::{Bottom, Lattice};
+use dac_origins::{Dot, Origin};
 use std::alloc::Global;
 
 /// The first incarnation of a node.

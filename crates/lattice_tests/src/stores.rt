@@ -1,7 +1,7 @@
 //! Joins of stores.
 use crate::sample::{context_of, dot, is_joined_above};
 use dac_base::NoMemory;
-use dac_contexts::Context;
+use dac_dots::Context;
 use dac_lattice::{Flag, Lattice};
 use dac_store::{Causal, DotFun, DotMap, DotSet, DotStore};
 use std::alloc::Global;

@@ -1,8 +1,8 @@
 //! Permits and start wishes of a few operations.
 use crate::sample::{context_of, dot, is_joined_above};
 use dac_base::{AppId, NoMemory, NodeId};
-use dac_dots::Dot;
 use dac_lattice::{Bottom, Flag, Lattice, Piece};
+use dac_origins::Dot;
 use dac_store::{Causal, DotFun, DotMap, DotSet};
 use dac_wishes::{DotList, Key, Permissions, PermitAct, WishAct, Wishes};
 use std::alloc::Global;

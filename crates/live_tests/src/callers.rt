@@ -1,10 +1,10 @@
-//! A caller as it stands in the first comment of `dac_live`.
-ghost use Rattle.dac_live.specs.Sites.{IsBlankOf};
+//! A caller as it stands in the first comment of `dac_sites`.
+ghost use Rattle.dac_sites.specs.Sites.{IsBlankOf};
 
 use dac_base::NodeId;
 use dac_config::read_config;
-use dac_live::{SiteBlank, SiteName, blank_site, open_site};
 use dac_messages::Event;
+use dac_sites::{SiteBlank, SiteName, blank_site, open_site};
 use std::alloc::Global;
 use std::marker::Brand;
 use std::sync::Wait;

@@ -1,15 +1,15 @@
 //! A site that does everything: each event of each kind is accepted and refused, with its reply, its place and its page.
-ghost use Rattle.dac_live.specs.Sites.{IsBlankOf};
+ghost use Rattle.dac_sites.specs.Sites.{IsBlankOf};
 
 use crate::sites::{EXAMPLE, closed_with_none};
 use dac_base::{AppId, NodeId};
 use dac_config::read_config;
-use dac_dots::{Dot, Origin};
 use dac_events::{Command, Refusal};
-use dac_live::{
+use dac_messages::{Body, Event, Message, Reply, State};
+use dac_origins::{Dot, Origin};
+use dac_sites::{
     Closed, LiveFault, PageReader, Receipt, Seat, Site, SiteBlank, SiteName, blank_site, open_site,
 };
-use dac_messages::{Body, Event, Message, Reply, State};
 use dac_state::{Act, DotList, How, Key, Op};
 use std::alloc::Global;
 use std::marker::Brand;

@@ -1,8 +1,8 @@
 //! Where a seat's calls and its records first differ.
 use dac_events::Refusal;
-use dac_live::laws::same_calls;
-use dac_live::{Answer, Call, Record};
 use dac_messages::{Event, Reply};
+use dac_sites::laws::same_calls;
+use dac_sites::{Answer, Call, Record};
 use std::alloc::Global;
 use std::test::Fail;
 

@@ -2,9 +2,9 @@
 use dac_base::NodeId;
 use dac_config::read_config;
 use dac_events::Refusal;
-use dac_live::blank_site;
-use dac_live::laws::add_record;
 use dac_messages::{Event, Reply};
+use dac_sites::blank_site;
+use dac_sites::laws::add_record;
 use std::alloc::Global;
 use std::sync::Wait;
 use std::test::Fail;

@@ -1,16 +1,16 @@
 //! Sites: calls and their places, closing, a full journal, and two threads.
 ghost use Rattle.std.specs.Prelude.{◌≡◌};
-ghost use Rattle.dac_live.specs.Sites.{IsBlankOf};
+ghost use Rattle.dac_sites.specs.Sites.{IsBlankOf};
 
 use dac_base::NodeId;
 use dac_config::read_config;
-use dac_dots::Origin;
 use dac_events::Refusal;
-use dac_live::{
+use dac_messages::{Event, Reply};
+use dac_origins::Origin;
+use dac_sites::{
     CloseFault, Closed, LiveFault, OpenFault, PageReader, Receipt, Record, Seat, Site, SiteBlank,
     SiteName, blank_site, open_site,
 };
-use dac_messages::{Event, Reply};
 use std::alloc::Global;
 use std::marker::Brand;
 use std::sync::Wait;

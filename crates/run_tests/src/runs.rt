@@ -2,10 +2,10 @@
 use dac_base::{AppId, NodeId};
 use dac_config::read_config;
 use dac_events::Command;
-use dac_messages::Event;
-use dac_report::{
+use dac_live::{
     AnswerList, Ask, Gate, Line, LineAnswer, LiveReport, Phase, RunFault, are_runnable, run_live,
 };
+use dac_messages::Event;
 use std::alloc::Global;
 use std::sync::Wait;
 use std::sync::atomic::{AtomicU64, Ordering};

@@ -1,8 +1,8 @@
 //! Configurations, dots and operations that the calls share.
 use dac_base::{AppId, NodeId};
 use dac_config::{Config, read_config};
-use dac_dots::{Dot, Origin};
 use dac_messages::{Body, Message};
+use dac_origins::{Dot, Origin};
 use dac_state::{Act, DotList, How, Key, Op, State};
 use std::alloc::Global;
 

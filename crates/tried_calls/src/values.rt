@@ -5,11 +5,11 @@ use crate::trial::{Bench, Said, of_any, of_bytes, short};
 use dac_base::NoMemory;
 use dac_bytes::{ByteReader, ByteWriter, ReadFaultKind, Version};
 use dac_config::{Config, FaultKind, printed_name, read_config};
-use dac_contexts::{Context, SharedContext};
 use dac_deltas::{Acks, Buffer};
-use dac_dots::Origin;
-use dac_dots::keys::insert_key;
+use dac_dots::{Context, SharedContext};
 use dac_lattice::{MapOf, Max};
+use dac_origins::Origin;
+use dac_origins::keys::insert_key;
 use std::alloc::Global;
 
 /// What is asked of a configuration.

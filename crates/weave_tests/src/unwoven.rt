@@ -1,10 +1,10 @@
 //! Journals that no run gives, and none.
 use crate::journals::{ask, close_three, example, journal};
 use dac_base::NodeId;
-use dac_dots::Origin;
 use dac_events::WorldEvent;
 use dac_journal::Closed;
 use dac_messages::{Body, Event, Message};
+use dac_origins::Origin;
 use dac_weave::{WeaveFault, weave};
 use std::alloc::Global;
 use std::test::Fail;

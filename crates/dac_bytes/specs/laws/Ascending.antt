@@ -8,8 +8,8 @@ use Rattle.std.specs.List.{list_all, flat_map, AllByRecursion}
 use Rattle.std.proofs.Math.Bool.{and-true}
 use Rattle.std.proofs.lemmas.Bool.{and_parts, and_from}
 use Rattle.std.proofs.lemmas.List.Folds.{list_all-append}
-use Rattle.dac_dots.specs.Keys.{is_below_all, IsRising}
-use Rattle.dac_dots.specs.laws.InOrder.{less, below_more}
+use Rattle.dac_origins.specs.Keys.{is_below_all, IsRising}
+use Rattle.dac_origins.specs.laws.InOrder.{less, below_more}
 use Rattle.dac_bytes.specs.Reading.{Rest, Field, ◌>>=◌, items_at, is_above, counted_at}
 use Rattle.dac_bytes.specs.Takes.{IsCodec, TakesAs, Again}
 use Rattle.dac_bytes.specs.laws.Takes.{TakesAs-both, Again-both, bind_ok, ok_is}

@@ -5,9 +5,9 @@ use Rattle.std.specs.Int.{w16, w64}
 use Rattle.std.proofs.Common.{sym, subst, arith, append_assoc}
 use Rattle.std.proofs.lemmas.Bool.{ltb-true, lt-ltb, eqb-true, eqb-false}
 use Rattle.dac_base.specs.declared.limits.TheConstants.{MAX_COUNTER}
-use Rattle.dac_dots.specs.Dots.{Dots, origin_cmp}
-use Rattle.dac_dots.specs.laws.Dots.{origins_total}
-use Rattle.dac_dots.specs.declared.dot.Origin.{Origin}
+use Rattle.dac_origins.specs.Dots.{Dots, origin_cmp}
+use Rattle.dac_origins.specs.laws.Dots.{origins_total}
+use Rattle.dac_origins.specs.declared.dot.Origin.{Origin}
 use Rattle.dac_bytes.specs.declared.version.Version.{Version}
 use Rattle.dac_bytes.specs.declared.fault.ReadFaultKind.TheVariants.{BadOrder}
 use Rattle.dac_bytes.specs.laws.Fields.{u16_takes, u16_again, u32_in_takes, u32_in_again, u64_in_takes, u64_in_again, counter_takes, counter_again, origin_above_takes, origin_above_again}
@@ -17,9 +17,9 @@ use Rattle.dac_bytes.specs.Numbers.{u16_bytes, u32_bytes, u64_bytes}
 use Rattle.dac_bytes.specs.Ranges.{IsOrigin, IsFurther, IsRow, CountsFit, IsContext}
 use Rattle.dac_bytes.specs.Reading.{Rest, ◌>>=◌, fault, is_above, number_at, range_at, counter_at, origin_above_at, items_at, further_at, further_count_at, row_at, rows_at, context_at}
 use Rattle.dac_bytes.specs.laws.RisingLaws.{IsNextAbove, AreRising, rising_of, chain_of}
-use Rattle.dac_contexts.specs.laws.RowLaws.{rows_tell}
-use Rattle.dac_contexts.specs.laws.RowSets.{dots_back}
-use Rattle.dac_contexts.specs.Rows.{Row, rows_of, dots_in}
+use Rattle.dac_dots.specs.laws.RowLaws.{rows_tell}
+use Rattle.dac_dots.specs.laws.RowSets.{dots_back}
+use Rattle.dac_dots.specs.Rows.{Row, rows_of, dots_in}
 use Rattle.dac_bytes.specs.laws.SetLaws.{rows_in_range, are_rows, rows_are_read}
 use Rattle.dac_bytes.specs.Spelling.{origin_bytes, row_bytes, context_bytes}
 use Rattle.dac_bytes.specs.Takes.{Takes, TakesAs, Again}

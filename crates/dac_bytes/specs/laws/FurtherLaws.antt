@@ -3,8 +3,8 @@ use Rattle.std.specs.Prelude.{◌≡◌, ℕ, ◌<◌, true, List, [], ◌∷◌
 use Rattle.std.specs.Ordering.{nat_cmp, eq_by_cmp}
 use Rattle.std.proofs.Common.{inl, inr, sym, subst, arith}
 use Rattle.std.proofs.lemmas.Bool.{and_parts, and_from, or_cases, or_left, or_right, false≢true}
-use Rattle.dac_dots.specs.Keys.{is_below_all, is_rising, IsRising, has_key}
-use Rattle.dac_contexts.specs.laws.CounterLaws.{less, is_less, same, is_same, below_more}
+use Rattle.dac_origins.specs.Keys.{is_below_all, is_rising, IsRising, has_key}
+use Rattle.dac_dots.specs.laws.CounterLaws.{less, is_less, same, is_same, below_more}
 use Rattle.dac_bytes.specs.Items.{Chain}
 use Rattle.dac_bytes.specs.Ranges.{IsFurther}
 

@@ -4,8 +4,8 @@ use Rattle.std.specs.List.{AllByRecursion}
 use Rattle.std.specs.declared.cmp.Ordering.{Ordering}
 use Rattle.std.specs.Cmp.{IsTotalOrder}
 use Rattle.std.proofs.lemmas.Bool.{and_parts, and_from}
-use Rattle.dac_dots.specs.Keys.{is_below_all, is_rising, IsRising}
-use Rattle.dac_dots.specs.laws.InOrder.{less, below_more}
+use Rattle.dac_origins.specs.Keys.{is_below_all, is_rising, IsRising}
+use Rattle.dac_origins.specs.laws.InOrder.{less, below_more}
 use Rattle.dac_bytes.specs.Reading.{is_above}
 use Rattle.dac_bytes.specs.Items.{Chain}
 

@@ -5,13 +5,13 @@ use Rattle.std.specs.Ordering.{nat_cmp, eq_by_cmp}
 use Rattle.std.proofs.Common.{inl, inr, sym, subst, ◌∙◌, arith}
 use Rattle.std.proofs.lemmas.Bool.{and_parts, and_from, or_cases, or_left, or_right, false≢true, leb-true, le-leb, cases_lt}
 use Rattle.dac_base.specs.declared.limits.TheConstants.{MAX_COUNTER}
-use Rattle.dac_dots.specs.Keys.{IsRising, has_key}
-use Rattle.dac_dots.specs.laws.InOrder.{tie}
-use Rattle.dac_dots.specs.Dots.{Dots, dot, origin_cmp}
-use Rattle.dac_dots.specs.laws.Dots.{exact_origins}
-use Rattle.dac_dots.specs.declared.dot.Dot.{Dot}
-use Rattle.dac_contexts.specs.laws.RowSets.{contains-dots_in, kept_are, some_length}
-use Rattle.dac_contexts.specs.Rows.{Row, IsRowOf, rows_of, dots_in, has_counter, any_row, origins, IsKept, HasSome}
+use Rattle.dac_origins.specs.Keys.{IsRising, has_key}
+use Rattle.dac_origins.specs.laws.InOrder.{tie}
+use Rattle.dac_origins.specs.Dots.{Dots, dot, origin_cmp}
+use Rattle.dac_origins.specs.laws.Dots.{exact_origins}
+use Rattle.dac_origins.specs.declared.dot.Dot.{Dot}
+use Rattle.dac_dots.specs.laws.RowSets.{contains-dots_in, kept_are, some_length}
+use Rattle.dac_dots.specs.Rows.{Row, IsRowOf, rows_of, dots_in, has_counter, any_row, origins, IsKept, HasSome}
 use Rattle.dac_bytes.specs.declared.version.Version.{Version}
 use Rattle.dac_bytes.specs.laws.FurtherLaws.{further_of_chain, chain_of_further}
 use Rattle.dac_bytes.specs.Ranges.{IsOrigin, IsDot, InRange, IsRow, IsFurther}

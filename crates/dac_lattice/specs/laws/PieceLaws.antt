@@ -2,7 +2,7 @@
 use Rattle.std.specs.Prelude.{◌≡◌, ℕ, ◌-◌, ◌<◌, ◌≤◌, length, List, [], ◌∷◌, ◌++◌}
 use Rattle.std.proofs.Common.{zero, suc, get_or, drop, arith, inl, inr, refl, sym, ap, subst, ◌∙◌}
 use Rattle.std.proofs.Math.Seq.{drop-cons}
-use Rattle.dac_dots.specs.declared.dot.Dot.{Dot}
+use Rattle.dac_origins.specs.declared.dot.Dot.{Dot}
 use Rattle.dac_lattice.specs.Lattices.{IsLattice}
 use Rattle.dac_lattice.specs.laws.Joins.{join_comm, join_assoc, join_bottom}
 use Rattle.dac_lattice.specs.Pieces.{IsGivenIn, AreGivenIn, AreOperations, IsPiece, joined, JoinsAreTogether, OrderAndRepeatsAreNothing, DeltasAreMeanings}

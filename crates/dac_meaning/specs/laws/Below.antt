@@ -10,8 +10,8 @@ use Rattle.std.specs.Cmp.{Equal-is}
 use Rattle.std.specs.FinSet as set
 use Rattle.std.specs.FinMap as map
 use Rattle.dac_base.specs.laws.Ids.{exact_nodes, exact_apps}
-use Rattle.dac_dots.specs.Dots.{Dots, IsSubset}
-use Rattle.dac_dots.specs.laws.Dots.{dots_total, exact_origins}
+use Rattle.dac_origins.specs.Dots.{Dots, IsSubset}
+use Rattle.dac_origins.specs.laws.Dots.{dots_total, exact_origins}
 use Rattle.dac_lattice.specs.declared.flags.Flag.{Flag}
 use Rattle.dac_lattice.specs.declared.flags.Flag.TheVariants.{Up, Down}
 use Rattle.dac_lattice.specs.Flags.{IsFlagBelow}

@@ -4,7 +4,7 @@ use Rattle.std.specs.declared.cmp.Ordering.{Ordering}
 use Rattle.std.specs.Cmp.{IsTotalOrder}
 use Rattle.std.specs.FinMap as map
 use Rattle.std.proofs.lemmas.Map.Lookups.{CmpEqualImpliesEq}
-use Rattle.dac_dots.specs.declared.dot.Dot.{Dot}
+use Rattle.dac_origins.specs.declared.dot.Dot.{Dot}
 use Rattle.dac_chains.specs.Greatest.{IsGreatest, IsSaid, AreGreatest, greater, alone}
 use Rattle.dac_chains.specs.laws.Greatest.{get-greater, greatest_either, greatest_same, one_more, greatest_piece, greatest_laws, empty_is_least}
 use Rattle.dac_lattice.specs.laws.Joins.{join_above}

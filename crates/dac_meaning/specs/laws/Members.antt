@@ -2,7 +2,7 @@
 use Rattle.std.proofs.Common.{◌≡◌, Bool, true, false, ◌⊎◌, List, [], ◌∷◌, ◌++◌, refl, sym, ap, ◌∙◌, inl, inr}
 use Rattle.std.specs.List.{list_any}
 use Rattle.std.proofs.lemmas.Bool.{false≢true, or_cases, or_left, or_right, false_from_ne_true}
-use Rattle.dac_dots.specs.declared.dot.Dot.{Dot}
+use Rattle.dac_origins.specs.declared.dot.Dot.{Dot}
 use Rattle.dac_lattice.specs.Pieces.{IsGivenIn as InPairs}
 use Rattle.dac_wishes.specs.laws.Stores.{both_ways}
 use Rattle.dac_wishes.specs.laws.KeyedWrites.{same_dot_is}

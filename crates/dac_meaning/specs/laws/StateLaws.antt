@@ -3,7 +3,7 @@ use Rattle.std.specs.Prelude.{◌≡◌, refl}
 use Rattle.std.proofs.Common.{sym, subst}
 use Rattle.std.specs.FinSet as set
 use Rattle.dac_base.specs.laws.Ids.{nodes_total, exact_nodes, apps_total, exact_apps}
-use Rattle.dac_dots.specs.Dots.{IsSubset}
+use Rattle.dac_origins.specs.Dots.{IsSubset}
 use Rattle.dac_lattice.specs.Lattices.{IsLattice}
 use Rattle.dac_lattice.specs.Chains.{IsAny}
 use Rattle.dac_lattice.specs.Flags.{flag_cmp}

@@ -4,7 +4,7 @@ use Rattle.std.specs.Prelude.{nat_lt}
 use Rattle.std.proofs.lemmas.Bool.{ltb-true, false_from_ne_true}
 use Rattle.dac_base.specs.declared.NodeId.{NodeId}
 use Rattle.dac_base.specs.declared.AppId.{AppId}
-use Rattle.dac_dots.specs.declared.dot.Origin.{Origin}
+use Rattle.dac_origins.specs.declared.dot.Origin.{Origin}
 use Rattle.dac_chains.specs.Lives.{IsLive, Lives}
 use Rattle.dac_operations.specs.declared.act.Act.{Act}
 use Rattle.dac_operations.specs.Operations.{Operation}

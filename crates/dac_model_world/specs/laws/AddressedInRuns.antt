@@ -3,7 +3,7 @@ use Rattle.std.proofs.Common.{◌≡◌, ℕ, true, false, inl, inr, cond, List,
 use Rattle.std.specs.Prelude.{nat_lt}
 use Rattle.std.specs.Option.{option_map}
 use Rattle.dac_base.specs.declared.NodeId.{NodeId}
-use Rattle.dac_dots.specs.declared.dot.Origin.{Origin}
+use Rattle.dac_origins.specs.declared.dot.Origin.{Origin}
 use Rattle.dac_operations.specs.Operations.{Operation}
 use Rattle.dac_config.specs.Table.{Table}
 use Rattle.dac_decide.specs.declared.start_gate.Opening.{Opening}

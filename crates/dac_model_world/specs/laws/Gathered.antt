@@ -3,8 +3,8 @@ use Rattle.std.proofs.Common.{◌≡◌, ℕ, ◌⊎◌, inl, inr, List, [], ◌
 use Rattle.std.proofs.lemmas.List.{map-append, length-map, drop-map}
 use Rattle.std.specs.FinSet as set
 use Rattle.std.specs.FinMap as map
-use Rattle.dac_dots.specs.Dots.{dot_cmp, origin_cmp}
-use Rattle.dac_dots.specs.laws.Dots.{dots_total, exact_dots}
+use Rattle.dac_origins.specs.Dots.{dot_cmp, origin_cmp}
+use Rattle.dac_origins.specs.laws.Dots.{dots_total, exact_dots}
 use Rattle.dac_wishes.specs.KeyedWrites.{keyed_write_cmp}
 use Rattle.dac_wishes.specs.laws.DrainsValue.{same_drains}
 use Rattle.dac_wishes.specs.Writes.{write_cmp}

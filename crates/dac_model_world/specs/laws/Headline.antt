@@ -3,7 +3,7 @@ use Rattle.std.proofs.Common.{◌≡◌, suc, List, [], ◌∷◌, length, Optio
 use Rattle.std.specs.Option.{option_map}
 use Rattle.std.specs.List.{slice_get}
 use Rattle.dac_base.specs.declared.NodeId.{NodeId}
-use Rattle.dac_dots.specs.declared.dot.Origin.{Origin}
+use Rattle.dac_origins.specs.declared.dot.Origin.{Origin}
 use Rattle.dac_operations.specs.Operations.{Operation}
 use Rattle.dac_config.specs.Table.{Table}
 use Rattle.dac_meaning.specs.StateValue.{StateValue}

@@ -6,10 +6,10 @@ use Rattle.std.specs.List.{list_any}
 use Rattle.std.specs.FinSet as set
 use Rattle.std.proofs.lemmas.Bool.{false_from_ne_true}
 use Rattle.std.proofs.lemmas.Map.Views.{exact_unsigned_eq}
-use Rattle.dac_dots.specs.declared.dot.Origin.{Origin}
-use Rattle.dac_dots.specs.declared.dot.Dot.{Dot}
-use Rattle.dac_dots.specs.Dots.{Dots, dot, IsNext, IsVector}
-use Rattle.dac_dots.specs.laws.Dots.{dots_total, exact_dots}
+use Rattle.dac_origins.specs.declared.dot.Origin.{Origin}
+use Rattle.dac_origins.specs.declared.dot.Dot.{Dot}
+use Rattle.dac_origins.specs.Dots.{Dots, dot, IsNext, IsVector}
+use Rattle.dac_origins.specs.laws.Dots.{dots_total, exact_dots}
 use Rattle.dac_wishes.specs.Writes.{same_dot}
 use Rattle.dac_wishes.specs.laws.KeyedWrites.{same_dot_is, same_dot_itself}
 use Rattle.dac_operations.specs.declared.act.Act.{Act}

@@ -8,10 +8,10 @@ use Rattle.std.specs.Ordering.{eq_by_cmp, is_eq}
 use Rattle.std.specs.Cmp.{Equal-is, tied_itself}
 use Rattle.std.proofs.lemmas.Bool.{or_cases}
 use Rattle.dac_base.specs.declared.NodeId.{NodeId}
-use Rattle.dac_dots.specs.declared.dot.Dot.{Dot}
-use Rattle.dac_dots.specs.declared.dot.Origin.{Origin}
-use Rattle.dac_dots.specs.Dots.{dot, origin_cmp}
-use Rattle.dac_dots.specs.laws.Dots.{exact_origins, origins_total}
+use Rattle.dac_origins.specs.declared.dot.Dot.{Dot}
+use Rattle.dac_origins.specs.declared.dot.Origin.{Origin}
+use Rattle.dac_origins.specs.Dots.{dot, origin_cmp}
+use Rattle.dac_origins.specs.laws.Dots.{exact_origins, origins_total}
 use Rattle.dac_lattice.specs.declared.flags.Flag.TheVariants.{Up as IsUp}
 use Rattle.dac_chains.specs.declared.lives.Life.{Life}
 use Rattle.dac_chains.specs.Greatest.{IsGreatest, IsSaid}

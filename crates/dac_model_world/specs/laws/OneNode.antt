@@ -8,8 +8,8 @@ use Rattle.std.specs.List.{list_any}
 use Rattle.std.specs.FinSet as set
 use Rattle.std.proofs.lemmas.Bool.{false_from_ne_true}
 use Rattle.dac_base.specs.declared.NodeId.{NodeId}
-use Rattle.dac_dots.specs.declared.dot.Origin.{Origin}
-use Rattle.dac_dots.specs.declared.dot.Dot.{Dot}
+use Rattle.dac_origins.specs.declared.dot.Origin.{Origin}
+use Rattle.dac_origins.specs.declared.dot.Dot.{Dot}
 use Rattle.dac_wishes.specs.laws.KeyedWrites.{same_dot_is, same_dot_itself}
 use Rattle.dac_operations.specs.declared.act.Act.{Act}
 use Rattle.dac_operations.specs.Operations.{Operation}

@@ -8,8 +8,8 @@ use Rattle.std.specs.FinSet as set
 use Rattle.std.specs.FinMap as map
 use Rattle.dac_base.specs.declared.NodeId.{NodeId}
 use Rattle.dac_base.specs.Ids.{node_cmp}
-use Rattle.dac_dots.specs.declared.dot.Origin.{Origin}
-use Rattle.dac_dots.specs.Dots.{origin_cmp}
+use Rattle.dac_origins.specs.declared.dot.Origin.{Origin}
+use Rattle.dac_origins.specs.Dots.{origin_cmp}
 use Rattle.dac_chains.specs.declared.lives.Life.{Life}
 use Rattle.dac_messages.specs.StateValue.{StateValue}
 use Rattle.dac_peers.specs.declared.positions.Position.{Position}

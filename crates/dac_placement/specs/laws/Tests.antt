@@ -5,7 +5,7 @@ use Rattle.std.specs.Option.{is_some, option_map_or, option_and_then}
 use Rattle.std.proofs.lemmas.Bool.{false≢true, and_parts, and_from, eqb-true, eq-eqb, not-true, not_from_false, false_from_ne_true}
 use Rattle.dac_base.specs.declared.NodeId.{NodeId}
 use Rattle.dac_base.specs.declared.AppId.{AppId}
-use Rattle.dac_dots.specs.declared.dot.Origin.{Origin}
+use Rattle.dac_origins.specs.declared.dot.Origin.{Origin}
 use Rattle.dac_config.specs.Table.{Table, group_of, default_permission}
 use Rattle.dac_chains.specs.Lives.{live_at}
 use Rattle.dac_chains.specs.laws.Live.{live_is}

@@ -6,8 +6,8 @@ use Rattle.std.specs.FinMap as map
 use Rattle.dac_base.specs.declared.NodeId.{NodeId}
 use Rattle.dac_base.specs.declared.AppId.{AppId}
 use Rattle.dac_base.specs.declared.limits.TheConstants.{MAX_COUNTER}
-use Rattle.dac_dots.specs.declared.dot.Origin.{Origin}
-use Rattle.dac_dots.specs.Dots.{dot}
+use Rattle.dac_origins.specs.declared.dot.Origin.{Origin}
+use Rattle.dac_origins.specs.Dots.{dot}
 use Rattle.dac_chains.specs.declared.claims.Claim.{Claim}
 use Rattle.dac_chains.specs.Greatest.{IsGreatest}
 use Rattle.dac_chains.specs.Claims.{claim_cmp}

@@ -10,7 +10,7 @@ use Rattle.std.proofs.lemmas.Map.Lookups.{CmpEqualImpliesEq}
 use Rattle.dac_base.specs.declared.NodeId.{NodeId}
 use Rattle.dac_base.specs.declared.AppId.{AppId}
 use Rattle.dac_base.specs.laws.Ids.{nodes_total, exact_nodes}
-use Rattle.dac_dots.specs.declared.dot.Dot.{Dot}
+use Rattle.dac_origins.specs.declared.dot.Dot.{Dot}
 use Rattle.dac_lattice.specs.laws.Chains.{chain_laws}
 use Rattle.dac_lattice.specs.Flags.{flag_cmp}
 use Rattle.dac_lattice.specs.laws.Flags.{flags_exact}
@@ -20,8 +20,8 @@ use Rattle.dac_chains.specs.declared.claims.Claim.{Claim as ClaimValue}
 use Rattle.dac_chains.specs.declared.claims.How.{How}
 use Rattle.dac_chains.specs.laws.Lives.{lives_total, exact_lives}
 use Rattle.dac_chains.specs.Claims.{claim_cmp}
-use Rattle.dac_dots.specs.Dots.{origin_cmp}
-use Rattle.dac_dots.specs.laws.Dots.{origins_total, exact_origins}
+use Rattle.dac_origins.specs.Dots.{origin_cmp}
+use Rattle.dac_origins.specs.laws.Dots.{origins_total, exact_origins}
 use Rattle.dac_wishes.specs.Keys.{key_cmp}
 use Rattle.dac_wishes.specs.KeyedWrites.{KeyedWrite}
 use Rattle.dac_wishes.specs.laws.KeyedWrites.{keyed_writes_total, exact_keyed_writes}

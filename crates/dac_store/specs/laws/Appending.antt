@@ -9,8 +9,8 @@ use Rattle.std.specs.FinMap.{find, is_sorted}
 use Rattle.std.specs.FinMap.Entries.{below_all}
 use Rattle.std.proofs.Math.Bool.{and-true}
 use Rattle.std.proofs.lemmas.Bool.{and_parts, and_from}
-use Rattle.dac_dots.specs.Keys.{is_below_all, IsRising}
-use Rattle.dac_dots.specs.laws.InOrder.{less}
+use Rattle.dac_origins.specs.Keys.{is_below_all, IsRising}
+use Rattle.dac_origins.specs.laws.InOrder.{less}
 use Rattle.dac_lattice.specs.laws.EntryLaws.{first, second, less as below}
 use Rattle.dac_store.specs.Appending.{is_above_entries, is_above_keys}
 

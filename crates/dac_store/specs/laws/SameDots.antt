@@ -1,7 +1,7 @@
 -- Laws of the definitions in `SameDots`.
 use Rattle.std.proofs.Common.{◌≡◌, true, ◌==◌, ◌&&◌, refl, subst}
 use Rattle.std.proofs.lemmas.Bool.{and_parts, and_from, eqb-true, eq-eqb}
-use Rattle.dac_dots.specs.declared.dot.Dot.{Dot}
+use Rattle.dac_origins.specs.declared.dot.Dot.{Dot}
 use Rattle.dac_store.specs.SameDots.{are_same}
 
 joined : (x y : Dot) → x.origin.node.0 ≡ y.origin.node.0 → x.origin.inc ≡ y.origin.inc → x.n ≡ y.n → x ≡ y

@@ -3,9 +3,9 @@ use Rattle.std.specs.Prelude.{◌≡◌, Bool, true, false, refl}
 use Rattle.std.proofs.Common.{sym, subst, ◌∙◌, inl, inr}
 use Rattle.std.proofs.lemmas.Bool.{false≢true, or_cases, or_left, or_right}
 use Rattle.std.specs.FinSet as set
-use Rattle.dac_dots.specs.Dots.{Dots, IsSubset, dot_cmp}
-use Rattle.dac_dots.specs.laws.Dots.{dots_total, exact_dots}
-use Rattle.dac_dots.specs.declared.dot.Dot.{Dot}
+use Rattle.dac_origins.specs.Dots.{Dots, IsSubset, dot_cmp}
+use Rattle.dac_origins.specs.laws.Dots.{dots_total, exact_dots}
+use Rattle.dac_origins.specs.declared.dot.Dot.{Dot}
 use Rattle.dac_lattice.specs.Lattices.{IsLattice}
 use Rattle.dac_store.specs.Stores.{IsDotStore, IsStored, IsStoredBelow, IsStoreWithin, Stored, join_stored}
 

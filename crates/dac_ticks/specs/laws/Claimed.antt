@@ -15,10 +15,10 @@ use Rattle.dac_base.specs.declared.AppId.{AppId}
 use Rattle.dac_base.specs.declared.NodeId.{NodeId}
 use Rattle.dac_base.specs.Ids.{app_cmp}
 use Rattle.dac_base.specs.laws.Ids.{apps_total, exact_apps, nodes_total, exact_nodes}
-use Rattle.dac_dots.specs.declared.dot.Origin.{Origin}
-use Rattle.dac_dots.specs.declared.dot.Dot.{Dot}
-use Rattle.dac_dots.specs.Dots.{dot}
-use Rattle.dac_dots.specs.laws.Dots.{origins_total, exact_origins}
+use Rattle.dac_origins.specs.declared.dot.Origin.{Origin}
+use Rattle.dac_origins.specs.declared.dot.Dot.{Dot}
+use Rattle.dac_origins.specs.Dots.{dot}
+use Rattle.dac_origins.specs.laws.Dots.{origins_total, exact_origins}
 use Rattle.dac_lattice.specs.declared.flags.Flag.{Flag}
 use Rattle.dac_lattice.specs.Flags.{flag_cmp}
 use Rattle.dac_lattice.specs.laws.Flags.{flags_exact}

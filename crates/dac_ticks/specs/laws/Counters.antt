@@ -6,11 +6,11 @@ use Rattle.std.specs.Ordering.{eq_by_cmp}
 use Rattle.std.specs.Cmp.{Equal-is}
 use Rattle.std.specs.FinSet as set
 use Rattle.std.proofs.lemmas.Bool.{or_cases, or_left, le-leb, leb-true}
-use Rattle.dac_dots.specs.declared.dot.Origin.{Origin}
-use Rattle.dac_dots.specs.declared.dot.Dot.{Dot}
-use Rattle.dac_dots.specs.Dots.{dot, dot_cmp, origin_cmp}
-use Rattle.dac_dots.specs.laws.Dots.{dots_total, exact_origins}
-use Rattle.dac_dots.specs.Keys.{has_key}
+use Rattle.dac_origins.specs.declared.dot.Origin.{Origin}
+use Rattle.dac_origins.specs.declared.dot.Dot.{Dot}
+use Rattle.dac_origins.specs.Dots.{dot, dot_cmp, origin_cmp}
+use Rattle.dac_origins.specs.laws.Dots.{dots_total, exact_origins}
+use Rattle.dac_origins.specs.Keys.{has_key}
 use Rattle.dac_wishes.specs.Writes.{same_dot}
 use Rattle.dac_wishes.specs.laws.KeyedWrites.{same_dot_is, same_dot_itself}
 use Rattle.dac_operations.specs.declared.act.Act.{Act}

@@ -7,8 +7,8 @@ use Rattle.std.specs.FinMap.{find, is_sorted}
 use Rattle.std.specs.FinMap.Entries.{below_all}
 use Rattle.std.proofs.lemmas.Bool.{and_parts}
 use Rattle.std.proofs.lemmas.Map.Lookups.{CmpEqualImpliesEq}
-use Rattle.dac_dots.specs.Keys.{IsRising, is_below_all, has_key}
-use Rattle.dac_dots.specs.InOrder.{in_order}
+use Rattle.dac_origins.specs.Keys.{IsRising, is_below_all, has_key}
+use Rattle.dac_origins.specs.InOrder.{in_order}
 use Rattle.dac_store.specs.DotMaps.{store_at, unless_empty, IsKept, IsKeyed}
 use Rattle.dac_wishes.specs.laws.KeyedWrites.{tied_is}
 use Rattle.dac_wishes.specs.ByKey.{by_key, keys_in}
@@ -16,7 +16,7 @@ use Rattle.std.specs.List.{list_any}
 use Rattle.std.specs.Cmp.{IsTotalOrder}
 use Rattle.std.specs.FinSet as set
 use Rattle.std.proofs.lemmas.Cmp.{eq_by_cmp_equiv}
-use Rattle.dac_dots.specs.laws.InOrder.{in_order-rising, has_key-in_order}
+use Rattle.dac_origins.specs.laws.InOrder.{in_order-rising, has_key-in_order}
 use Rattle.dac_store.specs.DotFuns.{is_empty_list}
 
 list_any-list_map : {X Y : Type 0} (p : Y → Bool) (f : X → Y) (xs : List X) → list_any p (list_map f xs) ≡ list_any (λ x. p (f x)) xs

@@ -1,9 +1,9 @@
 -- Laws of the definitions in `DrainMeaning`.
 use Rattle.std.specs.Prelude.{◌≡◌}
 use Rattle.std.specs.FinMap as map
-use Rattle.dac_dots.specs.declared.dot.Dot.{Dot}
-use Rattle.dac_dots.specs.Dots.{origin_cmp}
-use Rattle.dac_dots.specs.laws.Dots.{origins_total, exact_origins}
+use Rattle.dac_origins.specs.declared.dot.Dot.{Dot}
+use Rattle.dac_origins.specs.Dots.{origin_cmp}
+use Rattle.dac_origins.specs.laws.Dots.{origins_total, exact_origins}
 use Rattle.dac_lattice.specs.Pieces.{IsPiece}
 use Rattle.dac_wishes.specs.declared.drain_act.DrainAct.{DrainAct}
 use Rattle.dac_wishes.specs.DrainsValue.{DrainWrite, AreDrains, join_drains, no_drains}

@@ -2,8 +2,8 @@
 use Rattle.std.specs.Prelude.{◌≡◌}
 use Rattle.std.specs.FinSet as set
 use Rattle.std.specs.FinMap as map
-use Rattle.dac_dots.specs.Dots.{origin_cmp}
-use Rattle.dac_dots.specs.laws.Dots.{origins_total, exact_origins}
+use Rattle.dac_origins.specs.Dots.{origin_cmp}
+use Rattle.dac_origins.specs.laws.Dots.{origins_total, exact_origins}
 use Rattle.dac_lattice.specs.Lattices.{IsLattice}
 use Rattle.dac_wishes.specs.Votes.{joined_vote}
 use Rattle.dac_wishes.specs.laws.Votes.{known-join_votes, standing-join_votes, same_votes, votes_laws, no_votes_value, no_votes_least}

@@ -1,7 +1,7 @@
 -- Laws of the definitions in `PermitMeaning`.
 use Rattle.std.specs.Prelude.{◌≡◌}
 use Rattle.std.specs.FinMap as map
-use Rattle.dac_dots.specs.declared.dot.Dot.{Dot}
+use Rattle.dac_origins.specs.declared.dot.Dot.{Dot}
 use Rattle.dac_lattice.specs.Pieces.{IsPiece}
 use Rattle.dac_wishes.specs.declared.permit_act.PermitAct.{PermitAct}
 use Rattle.dac_wishes.specs.laws.Keys.{keys_total, exact_keys}

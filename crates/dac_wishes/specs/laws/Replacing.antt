@@ -3,14 +3,14 @@ use Rattle.std.specs.Prelude.{◌≡◌, Bool, true, false, List, [], ◌∷◌,
 use Rattle.std.proofs.Common.{sym, ap, subst, ◌∙◌, inl, inr}
 use Rattle.std.specs.List.{list_any}
 use Rattle.std.proofs.lemmas.Bool.{false≢true, or_cases, or_left, or_right}
-use Rattle.dac_dots.specs.declared.dot.Dot.{Dot}
+use Rattle.dac_origins.specs.declared.dot.Dot.{Dot}
 use Rattle.dac_lattice.specs.Pieces.{IsGivenIn, AreOperations}
 use Rattle.dac_wishes.specs.laws.KeyedWrites.{same_dot_is}
 use Rattle.dac_wishes.specs.Replacing.{is_under, replaces, is_replaced, names, SparesItself, named_by, AreNamedIn}
 use Rattle.std.specs.FinSet as set
-use Rattle.dac_dots.specs.Dots.{Dots, dot_cmp}
-use Rattle.dac_dots.specs.laws.Dots.{dots_total}
-use Rattle.dac_dots.specs.Keys.{has_key}
+use Rattle.dac_origins.specs.Dots.{Dots, dot_cmp}
+use Rattle.dac_origins.specs.laws.Dots.{dots_total}
+use Rattle.dac_origins.specs.Keys.{has_key}
 
 module _ {A : Type 0} (over : A → List Dot) where
   or_turn : (a b : Bool) → (a || b) ≡ (b || a)

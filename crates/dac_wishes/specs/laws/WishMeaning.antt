@@ -5,8 +5,8 @@ use Rattle.std.specs.List.{list_any}
 use Rattle.std.specs.Ordering.{eq_by_cmp}
 use Rattle.std.specs.FinSet as set
 use Rattle.std.proofs.lemmas.Bool.{false≢true, true≢false, and_parts, or_left}
-use Rattle.dac_dots.specs.declared.dot.Dot.{Dot}
-use Rattle.dac_dots.specs.Dots.{Dots, dot_cmp}
+use Rattle.dac_origins.specs.declared.dot.Dot.{Dot}
+use Rattle.dac_origins.specs.Dots.{Dots, dot_cmp}
 use Rattle.dac_lattice.specs.Pieces.{AreOperations, IsPiece}
 use Rattle.dac_store.specs.laws.Stores.{same_context, both_ways}
 use Rattle.dac_wishes.specs.declared.wish_act.WishAct.{WishAct}

@@ -3,9 +3,9 @@ use Rattle.std.specs.Prelude.{◌≡◌, true, ◌&&◌, ◌||◌, refl}
 use Rattle.std.proofs.Common.{sym, ◌∙◌, inl, inr}
 use Rattle.std.specs.FinSet as set
 use Rattle.std.proofs.lemmas.Bool.{false≢true, or_cases}
-use Rattle.dac_dots.specs.declared.dot.Dot.{Dot}
-use Rattle.dac_dots.specs.Dots.{dot_cmp}
-use Rattle.dac_dots.specs.laws.Dots.{dots_total}
+use Rattle.dac_origins.specs.declared.dot.Dot.{Dot}
+use Rattle.dac_origins.specs.Dots.{dot_cmp}
+use Rattle.dac_origins.specs.laws.Dots.{dots_total}
 use Rattle.dac_lattice.specs.Lattices.{IsLattice}
 use Rattle.dac_store.specs.laws.Stores.{subset_left, subset_right, subset_union, subset_empty, same_context, both_ways}
 use Rattle.dac_store.specs.laws.DotSets.{from_either, held_left, held_right, held_joined}

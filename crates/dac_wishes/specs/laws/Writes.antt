@@ -6,8 +6,8 @@ use Rattle.std.specs.Ordering.{eq_by_cmp}
 use Rattle.std.specs.Cmp.{IsTotalOrder}
 use Rattle.std.specs.FinSet as set
 use Rattle.std.proofs.lemmas.Map.Lookups.{CmpEqualImpliesEq}
-use Rattle.dac_dots.specs.declared.dot.Dot.{Dot}
-use Rattle.dac_dots.specs.laws.Dots.{dots_total}
+use Rattle.dac_origins.specs.declared.dot.Dot.{Dot}
+use Rattle.dac_origins.specs.laws.Dots.{dots_total}
 use Rattle.dac_wishes.specs.declared.key.Key.{Key}
 use Rattle.dac_wishes.specs.Keys.{key_cmp, same_key}
 use Rattle.dac_wishes.specs.laws.Keys.{keys_total, exact_keys}

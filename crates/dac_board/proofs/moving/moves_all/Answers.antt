@@ -1,6 +1,6 @@
 use Rattle.std.proofs.Common.{◌≡◌, Bool, true, false, not, refl, sym, ap, ◌∙◌}
 use Rattle.std.proofs.lemmas.Bool.{true≢false}
-use Rattle.dac_dots.specs.laws.Dots.{origins_total, exact_origins}
+use Rattle.dac_origins.specs.laws.Dots.{origins_total, exact_origins}
 use Rattle.dac_wishes.specs.DrainsValue.{DrainsValue}
 use Rattle.dac_wishes.specs.StoredDrains.{drains_by_origin}
 use Rattle.dac_board.proofs.Walks.{same_standing}

@@ -1,6 +1,6 @@
 use Rattle.std.proofs.Common.{◌≡◌, true, ◌&&◌, sym, ap, ap₂, ◌∙◌}
 use Rattle.std.specs.Cmp.Lexicographic.{pointwise}
-use Rattle.dac_dots.specs.InOrder.{in_order}
+use Rattle.dac_origins.specs.InOrder.{in_order}
 use Rattle.dac_store.specs.SameDots.{are_same}
 use Rattle.dac_wishes.specs.Writes.{dots_at}
 use Rattle.dac_wishes.specs.WishesValue.{WishesValue}

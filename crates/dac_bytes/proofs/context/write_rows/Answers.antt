@@ -1,5 +1,5 @@
 use Rattle.std.proofs.Common.{◌∙◌, arith}
-use Rattle.dac_contexts.specs.Rows.{rows_of}
+use Rattle.dac_dots.specs.Rows.{rows_of}
 use Rattle.dac_bytes.proofs.WrittenRows.{written_more}
 use Rattle.dac_bytes.proofs.context.write_rows.Goals as goal
 use Rattle.dac_bytes.proofs.context.write_rows.Goals.{in-Some+in_ok-writer, in_default}

@@ -1,6 +1,6 @@
 use Rattle.std.proofs.Common.{◌≡◌, ◌++◌, take}
 use Rattle.std.specs.List.{flat_map}
-use Rattle.dac_contexts.specs.Rows.{rows_of}
+use Rattle.dac_dots.specs.Rows.{rows_of}
 use Rattle.dac_bytes.specs.Spelling.{row_bytes}
 use Rattle.dac_bytes.proofs.context.write_rows.Given as goal
 

@@ -1,6 +1,6 @@
 use Rattle.std.proofs.Common.{◌≡◌, ◌++◌, ◌∷◌, [], ◌∙◌, Some, None, ap, sym, subst}
 use Rattle.std.proofs.lemmas.Result.{err_from_is_err_and}
-use Rattle.dac_contexts.specs.Rows.{Row, rows_of}
+use Rattle.dac_dots.specs.Rows.{Row, rows_of}
 use Rattle.dac_bytes.specs.Reading.{row_at, items_at}
 use Rattle.dac_bytes.specs.laws.Items.{ends, goes_on, is_done}
 use Rattle.dac_bytes.proofs.ReadRows.{IsLast, row_comes, can_follow, last_more, no_rows, starts, pushed}

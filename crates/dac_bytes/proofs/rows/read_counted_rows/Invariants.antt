@@ -1,5 +1,5 @@
 use Rattle.std.proofs.Common.{◌≡◌, ◌-◌, Some, None}
-use Rattle.dac_contexts.specs.Rows.{Row, rows_of}
+use Rattle.dac_dots.specs.Rows.{Row, rows_of}
 use Rattle.dac_bytes.specs.Reading.{items_at, row_at}
 use Rattle.dac_bytes.specs.Items.{with_front}
 use Rattle.dac_bytes.proofs.ReadRows.{IsLast}

@@ -1,6 +1,6 @@
 use Rattle.std.proofs.Common.{◌≡◌, ◌↔◌, Bool, true, false, not, sym, ap, subst, ◌∙◌}
-use Rattle.dac_dots.specs.declared.dot.Origin.{Origin}
-use Rattle.dac_dots.specs.Dots.{IsUsedUp}
+use Rattle.dac_origins.specs.declared.dot.Origin.{Origin}
+use Rattle.dac_origins.specs.Dots.{IsUsedUp}
 use Rattle.dac_placement.specs.StateValue.{StateValue}
 use Rattle.dac_commands.specs.Causes.{used_up}
 use Rattle.dac_commands.specs.laws.Counters.{used_up_is}

@@ -1,6 +1,6 @@
 use Rattle.std.proofs.Common.{◌≡◌, ◌+◌, ap, ◌∙◌}
-use Rattle.dac_dots.specs.declared.dot.Dot.{Dot}
-use Rattle.dac_dots.specs.Dots.{dot}
+use Rattle.dac_origins.specs.declared.dot.Dot.{Dot}
+use Rattle.dac_origins.specs.Dots.{dot}
 use Rattle.dac_operations.specs.Operations.{operation, fault_of}
 use Rattle.dac_commands.specs.Commands.{greatest_counter}
 use Rattle.dac_commands.proofs.Issues.{next_there, next_dot}

@@ -1,7 +1,7 @@
 use Rattle.std.proofs.Common.{◌≡◌, map, ap, subst, ◌∙◌}
 use Rattle.std.proofs.lemmas.Result.{err_from_is_err_and}
 use Rattle.dac_config.specs.Table.{node_count}
-use Rattle.dac_report.specs.Pairs.{LinksHold}
+use Rattle.dac_live.specs.Pairs.{LinksHold}
 use Rattle.dac_weave.specs.Converging.{IsConverged}
 use Rattle.dac_weave.specs.Faults.{IsTrueFault, IsRefusal}
 use Rattle.dac_weave.specs.Recording.{IsRecorded}

@@ -1,6 +1,6 @@
 use Rattle.std.proofs.Common.{◌≡◌, ℕ, ◌+◌, ◌<◌, ◌≤◌, List, ◌++◌, length, map, sym, ap, ◌∙◌, arith}
 use Rattle.std.proofs.lemmas.List.{length-map}
-use Rattle.dac_report.specs.Phase.{Phase}
+use Rattle.dac_live.specs.Phase.{Phase}
 use Rattle.dac_live_play.specs.Texts.{phase_text}
 use Rattle.dac_live_play.proofs.Asking.{at_map, as_many, asks_at}
 use Rattle.dac_live_play.proofs.Placing.{put_place, all_placed}

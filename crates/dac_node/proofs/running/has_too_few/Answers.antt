@@ -2,8 +2,8 @@ use Rattle.std.proofs.Common.{◌≡◌, ◌<◌, ◌≤◌, ◌+◌, ◌-◌, �
 use Rattle.std.specs.Prelude.{nat_lt, max}
 use Rattle.std.proofs.lemmas.Bool.{leb-true, lt-ltb, ltb-true, ltb-false, false_from_ne_true}
 use Rattle.dac_base.specs.declared.limits.TheConstants.{MAX_COUNTER}
-use Rattle.dac_dots.specs.declared.dot.Dot.{Dot}
-use Rattle.dac_dots.specs.Dots.{IsNext, IsUsedUp}
+use Rattle.dac_origins.specs.declared.dot.Dot.{Dot}
+use Rattle.dac_origins.specs.Dots.{IsNext, IsUsedUp}
 use Rattle.dac_config.specs.Table.{app_count}
 use Rattle.dac_model_node.specs.dac_commands.Commands.{greatest_counter}
 use Rattle.dac_model_node.specs.dac_commands.laws.Counters.{next-is, used_up_is}

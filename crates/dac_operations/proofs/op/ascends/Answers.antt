@@ -1,5 +1,5 @@
 use Rattle.std.proofs.Common.{◌∙◌, sym, arith}
-use Rattle.dac_dots.specs.laws.Dots.{dots_total}
+use Rattle.dac_origins.specs.laws.Dots.{dots_total}
 use Rattle.dac_operations.proofs.Rising.{rising_more, not_rising, rising_last}
 use Rattle.dac_operations.proofs.op.ascends.Goals as goal
 

@@ -1,6 +1,6 @@
 use Rattle.std.proofs.Common.{◌≡◌, ◌-◌, drop}
-use Rattle.dac_dots.specs.Dots.{dot_cmp}
-use Rattle.dac_dots.specs.Keys.{is_rising}
+use Rattle.dac_origins.specs.Dots.{dot_cmp}
+use Rattle.dac_origins.specs.Keys.{is_rising}
 use Rattle.dac_operations.proofs.op.ascends.Given as goal
 
 abbrev pub invariant-loop-i : goal.invariant-loop-i

@@ -1,10 +1,10 @@
 use Rattle.std.proofs.Common.{Some, None, [], ◌∷◌, ◌++◌, ◌≡◌, sym, ap, ◌∙◌, arith}
 use Rattle.std.proofs.lemmas.Result.{err_from_is_err_and}
 use Rattle.std.specs.FinSet as set
-use Rattle.dac_dots.specs.declared.dot.Dot.{Dot}
-use Rattle.dac_dots.specs.Dots.{dot_cmp}
-use Rattle.dac_dots.specs.laws.Dots.{dots_total}
-use Rattle.dac_dots.specs.InOrder.{in_order}
+use Rattle.dac_origins.specs.declared.dot.Dot.{Dot}
+use Rattle.dac_origins.specs.Dots.{dot_cmp}
+use Rattle.dac_origins.specs.laws.Dots.{dots_total}
+use Rattle.dac_origins.specs.InOrder.{in_order}
 use Rattle.dac_bytes.specs.Reading.{items_at}
 use Rattle.dac_bytes.specs.laws.Items.{ends, goes_on, is_done, Fails-from}
 use Rattle.dac_part_bytes.specs.Reading.{known_dot_at}

@@ -2,7 +2,7 @@ use Rattle.std.proofs.Common.{◌≡◌, ◌-◌, Some, None}
 use Rattle.dac_bytes.specs.Reading.{items_at}
 use Rattle.dac_bytes.specs.Items.{with_front}
 use Rattle.dac_wishes.specs.declared.key.Key.{Key}
-use Rattle.dac_dots.specs.Dots.{Dots}
+use Rattle.dac_origins.specs.Dots.{Dots}
 use Rattle.dac_wishes.specs.Keys.{key_cmp}
 use Rattle.dac_part_bytes.specs.Reading.{keyed_dots_at}
 use Rattle.dac_bytes.specs.laws.Ascending.{Reaches}

@@ -2,8 +2,8 @@ use Rattle.std.proofs.Common.{Some, None, [], ◌∷◌, ◌++◌, ◌≡◌, sy
 use Rattle.std.proofs.lemmas.Result.{err_from_is_err_and}
 use Rattle.std.proofs.lemmas.Bool.{and_from}
 use Rattle.std.specs.Prelude.{not}
-use Rattle.dac_dots.specs.declared.dot.Origin.{Origin}
-use Rattle.dac_dots.specs.laws.Dots.{origins_total}
+use Rattle.dac_origins.specs.declared.dot.Origin.{Origin}
+use Rattle.dac_origins.specs.laws.Dots.{origins_total}
 use Rattle.dac_wishes.specs.StoredVotes.{DotFlags}
 use Rattle.dac_bytes.specs.Reading.{items_at}
 use Rattle.dac_bytes.specs.laws.Items.{ends, goes_on, is_done}

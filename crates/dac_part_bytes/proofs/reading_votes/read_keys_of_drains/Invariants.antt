@@ -1,8 +1,8 @@
 use Rattle.std.proofs.Common.{◌≡◌, ◌-◌, Some, None}
 use Rattle.dac_bytes.specs.Reading.{items_at}
 use Rattle.dac_bytes.specs.Items.{with_front}
-use Rattle.dac_dots.specs.declared.dot.Origin.{Origin}
-use Rattle.dac_dots.specs.Dots.{origin_cmp}
+use Rattle.dac_origins.specs.declared.dot.Origin.{Origin}
+use Rattle.dac_origins.specs.Dots.{origin_cmp}
 use Rattle.dac_wishes.specs.StoredVotes.{DotFlags}
 use Rattle.dac_part_bytes.proofs.ReadFacts.{drain_item}
 use Rattle.dac_bytes.specs.laws.Ascending.{Reaches}

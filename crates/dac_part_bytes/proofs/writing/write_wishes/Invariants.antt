@@ -1,6 +1,6 @@
 use Rattle.std.proofs.Common.{◌≡◌, ◌++◌, take}
 use Rattle.std.specs.List.{flat_map}
-use Rattle.dac_dots.specs.InOrder.{in_order}
+use Rattle.dac_origins.specs.InOrder.{in_order}
 use Rattle.dac_part_bytes.specs.Spelling.{keyed_dots_bytes}
 use Rattle.dac_part_bytes.proofs.writing.write_wishes.Given as goal
 

@@ -2,8 +2,8 @@ use Rattle.std.proofs.Common.{◌∙◌, ◌≡◌, false, sym, refl}
 use Rattle.std.proofs.lemmas.Bool.{false≢true}
 use Rattle.std.proofs.lemmas.List.Elements.{All-more}
 use Rattle.std.specs.FinSet as set
-use Rattle.dac_dots.specs.laws.Dots.{dots_total, exact_dots}
-use Rattle.dac_dots.specs.laws.KeyLaws.{each_member, member_at}
+use Rattle.dac_origins.specs.laws.Dots.{dots_total, exact_dots}
+use Rattle.dac_origins.specs.laws.KeyLaws.{each_member, member_at}
 use Rattle.dac_store.specs.laws.Stores.{held_unheard}
 use Rattle.dac_store.proofs.causal.holds_none.Goals as goal
 

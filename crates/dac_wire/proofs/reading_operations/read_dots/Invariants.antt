@@ -1,7 +1,7 @@
 use Rattle.std.proofs.Common.{◌≡◌, ◌-◌, Some, None}
 use Rattle.dac_bytes.specs.Reading.{items_at, dot_above_at}
 use Rattle.dac_bytes.specs.Items.{with_front}
-use Rattle.dac_dots.specs.declared.dot.Dot.{Dot}
+use Rattle.dac_origins.specs.declared.dot.Dot.{Dot}
 use Rattle.dac_wire.proofs.reading_operations.read_dots.Given as goal
 
 -- what was read with what is still to be read is the whole

@@ -2,9 +2,9 @@ use Rattle.std.proofs.Common.{◌∙◌, ◌||◌, ◌∷◌, ap, sym}
 use Rattle.std.specs.Ordering.{eq_by_cmp}
 use Rattle.std.specs.FinSet as set
 use Rattle.std.proofs.lemmas.List.{take_all}
-use Rattle.dac_dots.specs.Dots.{dot_cmp}
-use Rattle.dac_dots.specs.laws.Dots.{dots_total, exact_dots}
-use Rattle.dac_dots.specs.Keys.{has_key}
+use Rattle.dac_origins.specs.Dots.{dot_cmp}
+use Rattle.dac_origins.specs.laws.Dots.{dots_total, exact_dots}
+use Rattle.dac_origins.specs.Keys.{has_key}
 use Rattle.dac_wishes.proofs.Naming.{named_more}
 use Rattle.dac_wishes.proofs.delta.named_by.Goals as goal
 

@@ -1,6 +1,6 @@
 use Rattle.std.proofs.Common.{◌∙◌, ap, [], ◌∷◌, cond}
 use Rattle.std.specs.FinSet as set
-use Rattle.dac_dots.specs.Dots.{dot_cmp}
+use Rattle.dac_origins.specs.Dots.{dot_cmp}
 use Rattle.dac_store.specs.DotSets.{is_empty_set}
 use Rattle.dac_wishes.proofs.DeltaStoring.{one_not_empty}
 use Rattle.dac_wishes.proofs.wishes.start_in.Goals as goal

@@ -1,4 +1,4 @@
-use Rattle.dac_contexts.specs.laws.RowLaws.{rows_tell}
+use Rattle.dac_dots.specs.laws.RowLaws.{rows_tell}
 use Rattle.dac_bytes.proofs.writer.ByteWriter.write_context.Goals as goal
 
 pub returns-clause-rows : goal.returns-clause-rows

@@ -1,6 +1,6 @@
 use Rattle.std.proofs.Common.{ap, sym, ◌∙◌}
 use Rattle.std.specs.FinMap as map
-use Rattle.dac_dots.specs.laws.Dots.{origins_total}
+use Rattle.dac_origins.specs.laws.Dots.{origins_total}
 use Rattle.dac_deltas.proofs.acks.Acks.get.Goals as goal
 
 pub returns : goal.returns

@@ -2,8 +2,8 @@ use Rattle.std.proofs.Common.{◌≡◌, cond, Some, Result, Ok, Err, OnErr, ap,
 use Rattle.std.specs.Ordering.{eq_by_cmp}
 use Rattle.std.specs.FinMap as map
 use Rattle.std.specs.FinMap.Entries.{find, find-put}
-use Rattle.dac_dots.specs.Dots.{origin_cmp}
-use Rattle.dac_dots.specs.laws.Dots.{origins_total, exact_origins}
+use Rattle.dac_origins.specs.Dots.{origin_cmp}
+use Rattle.dac_origins.specs.laws.Dots.{origins_total, exact_origins}
 use Rattle.dac_deltas.specs.Numbers.{greater}
 use Rattle.dac_deltas.proofs.acks.Acks.raise.Goals as goal
 use Rattle.dac_deltas.proofs.acks.Acks.raise.Goals.{in-Some, in-None}

@@ -1,6 +1,6 @@
 use Rattle.std.proofs.Common.{sym, subst, ◌∙◌}
 use Rattle.std.proofs.lemmas.Bool.{false≢true, iff_false}
-use Rattle.dac_dots.specs.Dots.{IsSubset}
+use Rattle.dac_origins.specs.Dots.{IsSubset}
 use Rattle.dac_chains.specs.Greatest.{AreNotAbove}
 use Rattle.dac_chains.specs.Lives.{life_cmp}
 use Rattle.dac_chains.specs.Claims.{claim_cmp}

@@ -2,8 +2,8 @@ use Rattle.std.proofs.Common.{◌≡◌, ◌∙◌, true, sym, refl}
 use Rattle.std.proofs.lemmas.Bool.{false≢true}
 use Rattle.std.specs.FinSet as set
 use Rattle.std.specs.FinMap.{find}
-use Rattle.dac_dots.specs.Dots.{dot_cmp}
-use Rattle.dac_dots.specs.laws.Dots.{dots_total, exact_dots}
+use Rattle.dac_origins.specs.Dots.{dot_cmp}
+use Rattle.dac_origins.specs.laws.Dots.{dots_total, exact_dots}
 use Rattle.dac_lattice.specs.laws.EntryLaws.{no_more, one_more, at_place}
 use Rattle.dac_store.specs.AtDot.{StandsBelow}
 use Rattle.dac_store.proofs.dot_fun.DotFunDotStore.leq_in.Goals as goal

@@ -1,7 +1,7 @@
 use Rattle.std.proofs.Common.{◌≡◌, true, take}
 use Rattle.std.specs.FinSet as set
 use Rattle.std.specs.FinMap.{find}
-use Rattle.dac_dots.specs.Dots.{dot_cmp}
+use Rattle.dac_origins.specs.Dots.{dot_cmp}
 use Rattle.dac_lattice.specs.Search.{AtEachEntry}
 use Rattle.dac_store.specs.AtDot.{StandsBelow}
 use Rattle.dac_store.proofs.dot_fun.DotFunDotStore.leq_in.Given as goal

@@ -1,6 +1,6 @@
 use Rattle.std.proofs.Common.{◌∙◌, sym}
-use Rattle.dac_dots.specs.laws.Dots.{dots_total, exact_dots}
-use Rattle.dac_dots.specs.laws.InOrder.{in_order-same}
+use Rattle.dac_origins.specs.laws.Dots.{dots_total, exact_dots}
+use Rattle.dac_origins.specs.laws.InOrder.{in_order-same}
 use Rattle.dac_store.specs.DotSets.{may_stay}
 use Rattle.dac_store.proofs.Passing.{adds_kept, adds_dropped, adds_all}
 use Rattle.dac_store.proofs.dot_set.DotSet.add_staying.Goals as goal

@@ -1,6 +1,6 @@
 use Rattle.std.proofs.Common.{◌∙◌}
-use Rattle.dac_dots.specs.laws.Dots.{dots_total, exact_dots}
-use Rattle.dac_dots.specs.laws.InOrder.{in_order-one}
+use Rattle.dac_origins.specs.laws.Dots.{dots_total, exact_dots}
+use Rattle.dac_origins.specs.laws.InOrder.{in_order-one}
 use Rattle.dac_store.specs.Few.{dots_of}
 use Rattle.dac_store.proofs.dot_set.DotSet.dots.Goals as goal
 

@@ -1,6 +1,6 @@
 use Rattle.std.proofs.Common.{◌∙◌, sym}
-use Rattle.dac_dots.specs.laws.Dots.{dots_total, exact_dots}
-use Rattle.dac_dots.specs.laws.InOrder.{in_order-same}
+use Rattle.dac_origins.specs.laws.Dots.{dots_total, exact_dots}
+use Rattle.dac_origins.specs.laws.InOrder.{in_order-same}
 use Rattle.dac_store.proofs.Passing.{loses_one, loses_none, loses_all}
 use Rattle.dac_store.proofs.dot_set.DotSet.drop_missing.Goals as goal
 use Rattle.dac_store.proofs.dot_set.DotSet.drop_missing.Goals.{then-not-has, else-not-has}

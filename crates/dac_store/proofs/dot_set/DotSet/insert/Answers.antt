@@ -1,7 +1,7 @@
 use Rattle.std.proofs.Common.{◌∙◌, ap}
 use Rattle.std.specs.FinSet as set
-use Rattle.dac_dots.specs.laws.Dots.{dots_total, exact_dots}
-use Rattle.dac_dots.specs.laws.KeyLaws.{one_inserted}
+use Rattle.dac_origins.specs.laws.Dots.{dots_total, exact_dots}
+use Rattle.dac_origins.specs.laws.KeyLaws.{one_inserted}
 use Rattle.dac_store.specs.Few.{dots_of}
 use Rattle.dac_store.proofs.dot_set.DotSet.insert.Goals as goal
 

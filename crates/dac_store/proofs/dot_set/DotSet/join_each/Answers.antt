@@ -1,7 +1,7 @@
 use Rattle.std.proofs.Common.{◌||◌, ◌&&◌, ap, ◌∙◌, sym}
 use Rattle.std.specs.FinSet as set
-use Rattle.dac_dots.specs.Dots.{dot_cmp}
-use Rattle.dac_dots.specs.laws.Dots.{dots_total, exact_dots}
+use Rattle.dac_origins.specs.Dots.{dot_cmp}
+use Rattle.dac_origins.specs.laws.Dots.{dots_total, exact_dots}
 use Rattle.dac_store.specs.DotSets.{join_sets, may_stay}
 use Rattle.dac_store.specs.laws.DotSets.{contains_join}
 use Rattle.dac_store.proofs.dot_set.DotSet.join_each.Goals as goal

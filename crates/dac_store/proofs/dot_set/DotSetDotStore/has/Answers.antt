@@ -1,6 +1,6 @@
 use Rattle.std.proofs.Common.{◌∙◌}
-use Rattle.dac_dots.specs.laws.Dots.{dots_total}
-use Rattle.dac_dots.specs.laws.KeyLaws.{has_is}
+use Rattle.dac_origins.specs.laws.Dots.{dots_total}
+use Rattle.dac_origins.specs.laws.KeyLaws.{has_is}
 use Rattle.dac_store.specs.Few.{dots_of}
 use Rattle.dac_store.proofs.dot_set.DotSetDotStore.has.Goals as goal
 

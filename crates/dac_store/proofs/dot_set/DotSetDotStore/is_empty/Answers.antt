@@ -1,9 +1,9 @@
 use Rattle.std.proofs.Common.{◌∙◌, ap, nat_eq}
 use Rattle.std.specs.FinSet as set
-use Rattle.dac_dots.specs.laws.Dots.{dots_total, exact_dots}
-use Rattle.dac_dots.specs.InOrder.{in_order}
-use Rattle.dac_dots.specs.laws.InOrder.{in_order-rising, in_order-same}
-use Rattle.dac_dots.specs.laws.KeyLaws.{len_rising}
+use Rattle.dac_origins.specs.laws.Dots.{dots_total, exact_dots}
+use Rattle.dac_origins.specs.InOrder.{in_order}
+use Rattle.dac_origins.specs.laws.InOrder.{in_order-rising, in_order-same}
+use Rattle.dac_origins.specs.laws.KeyLaws.{len_rising}
 use Rattle.dac_store.proofs.dot_set.DotSetDotStore.is_empty.Goals as goal
 
 pub returns : goal.returns

@@ -3,11 +3,11 @@ use Rattle.std.proofs.lemmas.Bool.{false≢true, or_cases}
 use Rattle.std.proofs.lemmas.List.Elements.{All-more}
 use Rattle.std.specs.FinSet as set
 use Rattle.std.specs.Ordering.{eq_by_cmp}
-use Rattle.dac_dots.specs.Dots.{dot_cmp}
-use Rattle.dac_dots.specs.laws.Dots.{dots_total, exact_dots}
-use Rattle.dac_dots.specs.laws.InOrder.{in_order-same, tie}
-use Rattle.dac_dots.specs.laws.KeyLaws.{each_member, has_is, member_at}
-use Rattle.dac_dots.specs.declared.Dot.{Dot}
+use Rattle.dac_origins.specs.Dots.{dot_cmp}
+use Rattle.dac_origins.specs.laws.Dots.{dots_total, exact_dots}
+use Rattle.dac_origins.specs.laws.InOrder.{in_order-same, tie}
+use Rattle.dac_origins.specs.laws.KeyLaws.{each_member, has_is, member_at}
+use Rattle.dac_origins.specs.declared.Dot.{Dot}
 use Rattle.dac_store.specs.Few.{dots_of}
 use Rattle.dac_store.proofs.dot_set.DotSetDotStore.is_unheard.Goals as goal
 

@@ -2,9 +2,9 @@ use Rattle.std.proofs.Common.{◌∙◌, ◌≡◌, true, sym, refl}
 use Rattle.std.proofs.lemmas.Bool.{false≢true}
 use Rattle.std.proofs.lemmas.List.Elements.{All-more}
 use Rattle.std.specs.FinSet as set
-use Rattle.dac_dots.specs.laws.Dots.{dots_total, exact_dots}
-use Rattle.dac_dots.specs.laws.InOrder.{in_order-same}
-use Rattle.dac_dots.specs.laws.KeyLaws.{each_member, member_at}
+use Rattle.dac_origins.specs.laws.Dots.{dots_total, exact_dots}
+use Rattle.dac_origins.specs.laws.InOrder.{in_order-same}
+use Rattle.dac_origins.specs.laws.KeyLaws.{each_member, member_at}
 use Rattle.dac_store.specs.DotSets.{may_stay}
 use Rattle.dac_store.specs.laws.DotSets.{held_if_stays, stays_if_held}
 use Rattle.dac_store.proofs.dot_set.DotSetDotStore.leq_in.Goals as goal

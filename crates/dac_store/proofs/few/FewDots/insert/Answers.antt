@@ -1,7 +1,7 @@
 use Rattle.std.proofs.Common.{◌||◌, ◌∙◌, sym, ap}
 use Rattle.std.specs.Ordering.{eq_by_cmp}
-use Rattle.dac_dots.specs.Dots.{dot_cmp}
-use Rattle.dac_dots.specs.Keys.{has_key}
+use Rattle.dac_origins.specs.Dots.{dot_cmp}
+use Rattle.dac_origins.specs.Keys.{has_key}
 use Rattle.dac_store.specs.Few.{dots_of}
 use Rattle.dac_store.proofs.few.FewDots.insert.Goals as goal
 

@@ -1,10 +1,10 @@
 use Rattle.std.proofs.Common.{◌≡◌, Bool, true, false, not, ◌&&◌, ◌||◌, refl, sym, ap, subst, ◌∙◌}
 use Rattle.std.specs.Cmp.{Equal-is}
 use Rattle.std.specs.Ordering.{is_eq, eq_by_cmp}
-use Rattle.dac_dots.specs.Dots.{dot_cmp}
-use Rattle.dac_dots.specs.laws.Dots.{exact_dots}
-use Rattle.dac_dots.specs.Keys.{IsRising, has_key}
-use Rattle.dac_dots.specs.declared.dot.Dot.{Dot}
+use Rattle.dac_origins.specs.Dots.{dot_cmp}
+use Rattle.dac_origins.specs.laws.Dots.{exact_dots}
+use Rattle.dac_origins.specs.Keys.{IsRising, has_key}
+use Rattle.dac_origins.specs.declared.dot.Dot.{Dot}
 use Rattle.dac_store.specs.Few.{dots_of}
 use Rattle.dac_store.proofs.few.FewDots.remove.Goals as goal
 

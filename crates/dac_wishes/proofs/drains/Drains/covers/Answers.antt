@@ -1,5 +1,5 @@
 use Rattle.std.proofs.Common.{◌≡◌, sym, subst, ◌∙◌}
-use Rattle.dac_dots.specs.Dots.{IsSubset, origin_cmp}
+use Rattle.dac_origins.specs.Dots.{IsSubset, origin_cmp}
 use Rattle.dac_wishes.specs.DrainMeaning.{vote_of}
 use Rattle.dac_wishes.specs.VotesByKey.{votes_by_key}
 use Rattle.dac_wishes.specs.Covering.{drain_act, let_stand}

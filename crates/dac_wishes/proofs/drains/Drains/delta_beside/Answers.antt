@@ -1,5 +1,5 @@
 use Rattle.std.proofs.Common.{◌∙◌, ap}
-use Rattle.dac_dots.specs.laws.Dots.{origins_total, exact_origins}
+use Rattle.dac_origins.specs.laws.Dots.{origins_total, exact_origins}
 use Rattle.dac_wishes.specs.StoredDrains.{drains_of}
 use Rattle.dac_wishes.specs.DrainMeaning.{over_of, vote_of}
 use Rattle.dac_wishes.proofs.VoteStoring.{vote_held_by, votes_value_of-delta}

@@ -1,7 +1,7 @@
 use Rattle.std.proofs.Common.{◌≡◌, ◌∙◌, ap, sym}
 use Rattle.std.specs.List.{list_any}
 use Rattle.dac_lattice.specs.declared.flags.Flag.{Flag}
-use Rattle.dac_dots.specs.declared.dot.Dot.{Dot}
+use Rattle.dac_origins.specs.declared.dot.Dot.{Dot}
 use Rattle.dac_wishes.specs.DrainsValue.{origin, is_drained, says_drained}
 use Rattle.dac_wishes.specs.laws.Drained.{is_drained-is}
 use Rattle.dac_wishes.proofs.drains.Drains.drained.Goals as goal

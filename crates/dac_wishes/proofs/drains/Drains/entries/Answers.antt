@@ -1,5 +1,5 @@
 use Rattle.std.proofs.Common.{◌∙◌, ap, sym}
-use Rattle.dac_dots.specs.laws.Dots.{origins_total, exact_origins}
+use Rattle.dac_origins.specs.laws.Dots.{origins_total, exact_origins}
 use Rattle.dac_wishes.specs.DrainsValue.{DrainsValue}
 use Rattle.dac_wishes.specs.StoredDrains.{drains_by_origin}
 use Rattle.dac_wishes.specs.laws.VotesByKey.{votes_again}

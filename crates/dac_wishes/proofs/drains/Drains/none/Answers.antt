@@ -1,6 +1,6 @@
 use Rattle.std.proofs.Common.{◌∙◌, ap}
 use Rattle.std.proofs.lemmas.Bool.{false≢true}
-use Rattle.dac_dots.specs.Dots.{origin_cmp}
+use Rattle.dac_origins.specs.Dots.{origin_cmp}
 use Rattle.dac_wishes.specs.StoredDrains.{drains_of}
 use Rattle.dac_wishes.proofs.VoteStoring.{votes_of-none}
 use Rattle.dac_wishes.proofs.drains.Drains.none.Goals as goal

@@ -1,5 +1,5 @@
 use Rattle.std.proofs.Common.{◌∙◌, ap}
-use Rattle.dac_dots.specs.laws.Dots.{origins_total, exact_origins}
+use Rattle.dac_origins.specs.laws.Dots.{origins_total, exact_origins}
 use Rattle.dac_wishes.specs.StoredDrains.{drains_of}
 use Rattle.dac_wishes.proofs.VoteStoring.{votes_value_of-join}
 use Rattle.dac_wishes.proofs.drains.DrainsLattice.join.Goals as goal

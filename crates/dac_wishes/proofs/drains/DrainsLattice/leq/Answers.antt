@@ -1,4 +1,4 @@
-use Rattle.dac_dots.specs.laws.Dots.{origins_total, exact_origins}
+use Rattle.dac_origins.specs.laws.Dots.{origins_total, exact_origins}
 use Rattle.dac_wishes.proofs.VoteStoring.{below_if_stored, stored_if_below}
 use Rattle.dac_wishes.proofs.drains.DrainsLattice.leq.Goals as goal
 

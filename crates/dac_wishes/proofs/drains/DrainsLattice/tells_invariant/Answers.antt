@@ -1,4 +1,4 @@
-use Rattle.dac_dots.specs.laws.Dots.{origins_total, exact_origins}
+use Rattle.dac_origins.specs.laws.Dots.{origins_total, exact_origins}
 use Rattle.dac_wishes.proofs.VoteStoring.{stored_votes}
 use Rattle.dac_wishes.proofs.drains.DrainsLattice.tells_invariant.Goals as goal
 

@@ -1,5 +1,5 @@
 use Rattle.std.proofs.Common.{◌≡◌, sym, subst, ◌∙◌}
-use Rattle.dac_dots.specs.Dots.{IsSubset}
+use Rattle.dac_origins.specs.Dots.{IsSubset}
 use Rattle.dac_wishes.specs.Keys.{key_cmp}
 use Rattle.dac_wishes.specs.PermitMeaning.{vote_of}
 use Rattle.dac_wishes.specs.VotesByKey.{votes_by_key}

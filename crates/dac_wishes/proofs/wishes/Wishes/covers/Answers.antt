@@ -1,5 +1,5 @@
 use Rattle.std.proofs.Common.{◌≡◌, sym, ap, subst, ◌∙◌}
-use Rattle.dac_dots.specs.Dots.{IsSubset}
+use Rattle.dac_origins.specs.Dots.{IsSubset}
 use Rattle.dac_wishes.specs.StartsByKey.{starts_by_key}
 use Rattle.dac_wishes.specs.Covering.{let_wishes}
 use Rattle.dac_wishes.proofs.Covered.{wish_covered}

@@ -2,10 +2,10 @@ use Rattle.std.proofs.Common.{◌≡◌, ◌∙◌, ap, sym, refl, [], None, Som
 use Rattle.std.specs.FinSet as set
 use Rattle.std.specs.FinMap.{find}
 use Rattle.std.specs.Option.{option_copied}
-use Rattle.dac_dots.specs.Dots.{dot_cmp}
-use Rattle.dac_dots.specs.laws.Dots.{dots_total, exact_dots}
-use Rattle.dac_dots.specs.InOrder.{in_order}
-use Rattle.dac_dots.specs.laws.InOrder.{in_order-one}
+use Rattle.dac_origins.specs.Dots.{dot_cmp}
+use Rattle.dac_origins.specs.laws.Dots.{dots_total, exact_dots}
+use Rattle.dac_origins.specs.InOrder.{in_order}
+use Rattle.dac_origins.specs.laws.InOrder.{in_order-one}
 use Rattle.dac_store.specs.DotMaps.{store_at}
 use Rattle.dac_wishes.specs.Keys.{key_cmp}
 use Rattle.dac_wishes.specs.laws.StartsByKey.{dots_stored}

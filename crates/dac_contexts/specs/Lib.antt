@@ -1,5 +1,0 @@
-pub mod DotFilters
-pub mod Rows
-pub mod Spans
-pub mod Sharing
-pub mod laws

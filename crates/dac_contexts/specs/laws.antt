@@ -1,3 +1,0 @@
-pub mod CounterLaws
-pub mod RowLaws
-pub mod RowSets

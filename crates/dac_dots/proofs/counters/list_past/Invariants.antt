@@ -1,0 +1,12 @@
+use Rattle.std.proofs.Common.{◌≡◌, ◌||◌, ℕ, take}
+use Rattle.std.specs.Ordering.{nat_cmp}
+use Rattle.dac_origins.specs.Keys.{IsRising, has_key}
+use Rattle.dac_dots.specs.Spans.{any_past}
+use Rattle.dac_dots.proofs.counters.list_past.Given as goal
+
+-- of the spans so far those that begin above upto are there
+abbrev pub invariant-loop-span : goal.invariant-loop-span
+invariant-loop-span l = record {
+  rising : IsRising nat_cmp l.counters.items;
+  so_far : (n : ℕ) → has_key nat_cmp l.counters.items n ≡ (any_past l.upto (take l.span-index l.spans) n || has_key nat_cmp l.fn.counters.items n);
+}

@@ -1,8 +1,0 @@
-use Rattle.std.proofs.Common.{◌∙◌}
-use Rattle.dac_dots.proofs.KeyLemmas.{found}
-use Rattle.dac_dots.proofs.keys.holds_key.Goals as goal
-
-pub returns : goal.returns
-returns g c =
-    let facts = c.binary_search.ensures in
-    c.is_ok.ensures.value ∙ found g.met.K.Ord.total c.args.keys.now c.args.key _ c.requires facts.bound facts.position

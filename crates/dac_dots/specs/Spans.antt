@@ -1,0 +1,58 @@
+-- Counters as spans: numbers that follow one another without a gap.
+use Rattle.std.specs.Prelude.{◌≡◌, ℕ, zero, suc, ◌+◌, ◌-◌, ◌≤◌, min, max, nat_le, nat_lt, ◌&&◌, Bool, true, false, cond, List, [], ◌∷◌, length}
+use Rattle.std.specs.List.{flat_map, list_any, AllByRecursion, AllWithin}
+use Rattle.dac_dots.specs.declared.counters.Span.{Span}
+
+-- so many numbers, from the first on
+unfoldable pub from_on : ℕ → ℕ → List ℕ
+from_on first zero = []
+from_on first (suc n) = first ∷ from_on (suc first) n
+
+-- the counters of a span
+unfoldable pub counters_of_span : Span → List ℕ
+counters_of_span span = from_on span.first (span.last + 1 - span.first)
+
+-- the counters of these spans
+unfoldable pub counters_in : List Span → List ℕ
+counters_in spans = flat_map counters_of_span spans
+
+-- whether a span has the counter
+abbrev pub span_has : ℕ → Span → Bool
+span_has n span = nat_le span.first n && nat_le n span.last
+
+-- whether one of the spans has the counter
+abbrev pub any_span : List Span → ℕ → Bool
+any_span spans n = list_any (span_has n) spans
+
+-- whether one of the spans that begin above upto has the counter
+abbrev pub any_past : ℕ → List Span → ℕ → Bool
+any_past upto spans n = list_any (λ (span : Span). nat_lt upto span.first && span_has n span) spans
+
+-- Each span has a counter, the first begins at low or later, and a counter lies between a span and the next.
+abbrev pub are_apart : ℕ → List Span → Bool
+are_apart low [] = true
+are_apart low (span ∷ spans) = nat_le low span.first && (nat_le span.first span.last && are_apart (span.last + 2) spans)
+
+-- each span has a counter
+abbrev pub AreSpans : List Span → Type 0
+AreSpans spans = AllByRecursion (λ (span : Span). span.first ≤ span.last) spans
+
+-- a span's place: those before end too early for it, and those from there on don't
+pub record IsPlaceFor (spans : List Span) (place first : ℕ) : Type 0 where
+  pub within : place ≤ length spans
+  pub before : AllWithin (λ (span : Span). nat_lt (span.last + 1) first ≡ true) spans 0 place
+  pub after : AllWithin (λ (span : Span). nat_lt (span.last + 1) first ≡ false) spans place (length spans)
+
+-- the spans before the place end before the counter, and those from there on don't
+abbrev pub HaveEnded : List Span → ℕ → ℕ → Type 0
+HaveEnded spans place n = AllWithin (λ (span : Span). nat_lt span.last n ≡ true) spans 0 place
+    × AllWithin (λ (span : Span). nat_lt span.last n ≡ false) spans place (length spans)
+
+-- from where the first of both begins to where the last of both ends
+abbrev pub hull : Span → Span → Span
+hull a b = record { first = min a.first b.first; last = max a.last b.last }
+
+-- the span and those after it, the ones that it reaches joined with it
+abbrev pub absorbed : Span → List Span → List Span
+absorbed span [] = span ∷ []
+absorbed span (next ∷ spans) = cond (nat_le next.first (span.last + 1)) (absorbed (hull span next) spans) (span ∷ next ∷ spans)

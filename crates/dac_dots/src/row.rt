@@ -1,0 +1,261 @@
+//! The dots of one origin: how far its counters go without a gap, and the further ones.
+ghost use Rattle.std.specs.Prelude.{◌≡◌, ◌↔◌, ◌+◌, ◌^◌, ◌<◌, ◌≤◌, ◌||◌, ◌∷◌, [], length, false, true, IfOk, IsTrue, OnErr, OnOk};
+ghost use Rattle.std.specs.Ordering.{nat_cmp};
+ghost use Rattle.dac_dots.specs.DotFilters.{may_have};
+ghost use Rattle.dac_dots.specs.Rows.{has_counter, HasBoth, HasMore, HasSome, IsLastOf, IsOne, IsPlaceOf, HasAlso, IsWithinRow, origins, rises_on, row_has};
+ghost use Rattle.dac_origins.specs.declared.dot.Dot.{Dot};
+ghost use Rattle.dac_origins.specs.Dots.{dot_cmp, origin_cmp};
+ghost use Rattle.dac_origins.specs.Keys.{IsRising, has_key};
+
+use crate::counters::Counters;
+use crate::filter::DotFilter;
+use dac_base::NoMemory;
+use dac_origins::keys::insert_key;
+use dac_origins::{Dot, Origin};
+use std::alloc::Global;
+use std::marker::Model;
+
+/// The counters of an origin.
+#[derive(Debug, Drop)]
+pub(crate) struct OriginRow {
+    pub(crate) origin: Origin,
+    counters: Counters,
+}
+
+impl Model for OriginRow {
+    ghost use Rattle.std.specs.Ordering.{nat_cmp};
+    ghost use Rattle.dac_origins.specs.Keys.{IsRising};
+    ghost use Rattle.dac_dots.specs.Rows.{Row, coded_row, row_of};
+
+    ghost Value = { Row };
+
+    ghost coded = { coded_row };
+
+    ghost view = { λ a. row_of a.origin a.counters };
+
+    ghost invariant = { λ a. IsRising nat_cmp a.counters };
+}
+
+/// The further counters of an origin: those that aren't 1, 2, 3, .. without a gap, in rising order. It is lent
+/// from a context, and takes no memory. Contracts see it as the list of these counters.
+#[derive(Debug, Drop)]
+pub struct Further<'a> {
+    counters: &'a Counters,
+}
+
+impl<'a> Model for Further<'a> {
+    ghost use Rattle.std.specs.Prelude.{ℕ, List};
+    ghost use Rattle.std.specs.Ordering.{nat_cmp};
+    ghost use Rattle.dac_origins.specs.Keys.{IsRising};
+    ghost use Rattle.dac_dots.specs.Rows.{further_of, reach_of};
+
+    ghost Value = { List ℕ };
+
+    ghost view = { λ a. further_of (reach_of a.counters.now) a.counters.now };
+
+    ghost invariant = { λ a. IsRising nat_cmp a.counters.now };
+}
+
+impl<'a> Further<'a> {
+    /// The counters in rising order. [`NoMemory`] is the only error.
+    pub fn list(&self, alloc: Global) -> Result<Vec<u64>, NoMemory>
+        ensures { IfOk result (λ further. further.items ≡ self.now) }
+    {
+        self.counters.further(alloc)
+    }
+
+    /// How many counters there are.
+    pub fn len(&self) -> u128
+        ensures { result ≡ length self.now }
+    {
+        self.counters.len() - u128::from(self.counters.upto())
+    }
+
+    /// Whether there are no counters.
+    pub fn is_empty(&self) -> bool
+        ensures { IsTrue result ↔ (self.now ≡ []) }
+    {
+        self.len() == 0
+    }
+}
+
+impl OriginRow {
+    /// The row of one dot.
+    pub(crate) fn one(alloc: Global, dot: Dot) -> Result<Self, NoMemory>
+        ensures { IfOk result (λ row. IsOne dot row) }
+    {
+        let mut counters = Counters::empty(alloc);
+        counters.insert(dot.n)?;
+        Ok(OriginRow {
+            origin: dot.origin,
+            counters,
+        })
+    }
+
+    /// The row with the counters 1 to `upto` and these further ones, which rise from above `upto + 1`.
+    pub(crate) fn of(
+        alloc: Global,
+        origin: Origin,
+        upto: u64,
+        further: &[u64],
+    ) -> Result<Self, NoMemory>
+        requires { IsRising nat_cmp ((upto + 1) ∷ further.now) }
+        ensures { IfOk result
+            (λ row. row ≡ record { origin = origin; upto = upto; further = further.now }) }
+    {
+        let mut counters = Counters::empty(alloc);
+        counters.insert_upto(upto)?;
+        for n in further {
+            counters.insert(*n)?;
+        }
+        Ok(OriginRow { origin, counters })
+    }
+
+    /// An equal row, with memory of its own.
+    pub(crate) fn copy(&self, alloc: Global) -> Result<Self, NoMemory>
+        ensures { IfOk result (λ copied. copied ≡ self.now) }
+    {
+        Ok(OriginRow {
+            origin: self.origin,
+            counters: self.counters.copy(alloc)?,
+        })
+    }
+
+    /// Whether the row has a counter.
+    pub(crate) fn holds(&self, n: u64) -> bool
+        ensures { result ≡ has_counter self.now n }
+    {
+        self.counters.contains(n)
+    }
+
+    /// Puts a counter into the row.
+    pub(crate) fn insert(&mut self, n: u64) -> Result<(), NoMemory>
+        ensures ok { OnOk result (HasAlso self.old n self.new) }
+        ensures err { OnErr result (self.new ≡ self.old) }
+        ensures first { OnErr result (has_counter self.old n ≡ false) }
+    {
+        self.counters.insert(n)
+    }
+
+    /// Puts the counters of the other row into this one. [`NoMemory`] is the only error, and may leave some
+    /// of them there.
+    pub(crate) fn absorb(&mut self, alloc: Global, other: &Self) -> Result<(), NoMemory>
+        ensures ok { OnOk result (HasBoth self.old other.now self.new) }
+        ensures err { OnErr result (HasMore self.old self.new) }
+    {
+        if other.counters.are_few() {
+            self.counters.absorb(&other.counters)?;
+        } else {
+            self.counters = self.counters.union(alloc, &other.counters)?;
+        }
+        Ok(())
+    }
+
+    /// Whether each counter of this row is one of the other.
+    pub(crate) fn is_within(&self, other: &Self) -> bool
+        ensures { IsTrue result ↔ IsWithinRow self.now other.now }
+    {
+        self.counters.is_subset(&other.counters)
+    }
+
+    /// The greatest counter, and 0 where there is none.
+    pub(crate) fn last(&self) -> u64
+        ensures { IsLastOf self.now result }
+    {
+        self.counters.last()
+    }
+
+    /// Whether there are no counters.
+    pub(crate) fn is_empty(&self) -> bool
+        ensures { IsTrue result ↔ ¬ (HasSome self.now) }
+    {
+        self.counters.is_empty()
+    }
+
+    /// How far the counters go 1, 2, 3, .. without a gap.
+    pub(crate) fn upto(&self) -> u64
+        ensures { result ≡ self.now.upto }
+    {
+        self.counters.upto()
+    }
+
+    /// The counters besides 1 to `upto`, in rising order.
+    pub(crate) fn further(&self) -> Further<'_>
+        ensures { result ≡ self.now.further }
+    {
+        Further {
+            counters: &self.counters,
+        }
+    }
+
+    /// Whether there are counters besides 1 to `upto`.
+    pub(crate) fn has_gap(&self) -> bool
+        ensures { IsTrue result ↔ (1 ≤ length self.now.further) }
+    {
+        u128::from(self.upto()) < self.len()
+    }
+
+    /// Puts the dots of the row into a list of dots that rise.
+    pub(crate) fn put_dots(&self, alloc: Global, dots: &mut Vec<Dot>) -> Result<(), NoMemory>
+        requires { IsRising dot_cmp dots.old.items }
+        ensures rising { IsRising dot_cmp dots.new.items }
+        ensures ok { OnOk result ((q : Dot)
+            → has_key dot_cmp dots.new.items q
+            ≡ (row_has q self.now || has_key dot_cmp dots.old.items q)) }
+    {
+        let origin = self.origin;
+        let counters = self.counters.list(alloc)?;
+        for n in &counters {
+            insert_key(dots, Dot { origin, n: *n })?;
+        }
+        Ok(())
+    }
+
+    /// Sets the slot of each dot of the row.
+    pub(crate) fn fill(&self, filter: &mut DotFilter)
+        ensures own { (q : Dot) → row_has q self.now ≡ true → may_have filter.new.slots q ≡ true }
+        ensures more { (q : Dot) → may_have filter.old.slots q ≡ true
+            → may_have filter.new.slots q ≡ true }
+    {
+        self.counters.fill(self.origin, filter);
+    }
+
+    /// How many counters there are.
+    pub(crate) fn len(&self) -> u128
+        ensures value { result ≡ self.now.upto + length self.now.further }
+        ensures bound { result < 2 ^ 65 }
+    {
+        self.counters.len()
+    }
+}
+
+/// Whether 1 to `upto` and the further counters are none.
+pub(crate) fn has_no_dots(upto: u64, further: &[u64]) -> bool
+    ensures { IsTrue result ↔ (upto ≡ 0) × (length further.now ≡ 0) }
+{
+    upto == 0 && further.is_empty()
+}
+
+/// Whether numbers rise from above the one after `upto`.
+pub(crate) fn rises_from(upto: u64, numbers: &[u64]) -> bool
+    ensures { result ≡ rises_on (upto + 1) numbers.now }
+{
+    let Some(mut before) = upto.checked_add(1) else {
+        return numbers.is_empty();
+    };
+    for n in numbers {
+        if *n <= before {
+            return false;
+        }
+        before = *n;
+    }
+    true
+}
+
+/// Where the row of an origin is, or would be.
+pub(crate) fn place_of(rows: &[OriginRow], origin: Origin) -> Result<usize, usize>
+    requires { IsRising origin_cmp (origins rows.now) }
+    ensures { IsPlaceOf rows.now origin result }
+{
+    rows.binary_search_by_key(&origin, |row| row.origin)
+}

@@ -1,0 +1,31 @@
+use Rattle.std.proofs.Common.{◌≡◌, ◌++◌, ◌∷◌, [], ◌<◌, length, take, Some, None, Result, Bor, sym, ◌∙◌, arith, append-nil}
+use Rattle.dac_messages.specs.declared.reply.Reply.{Reply}
+use Rattle.dac_events.specs.declared.refusal.Refusal.{Refusal}
+use Rattle.dac_run.specs.Compared.{found}
+use Rattle.dac_live.specs.Asked.{answer_one}
+use Rattle.dac_live.proofs.Found.{found_more, taken_more}
+use Rattle.dac_live.proofs.callers.are_told.Goals as goal
+use Rattle.dac_live.proofs.callers.are_told.Goals.{in-Some+else-next-told+else-not-same_answer, in-None}
+
+pub loop-i-preserved : goal.loop-i-preserved
+loop-i-preserved c =
+    let f = answer_one c.args.seat in
+    let rs = c.args.records.now in
+    let one = c.index-records-i.result in
+    let now = λ (m : Bor (Result Reply Refusal)). m.now in
+    elim c.match-answer_of.branch [
+      | in-Some+else-next-told+else-not-same_answer w ↦
+          let m = w.in-Some.answer in
+          let wanted = w.index-told-next.result in
+          let eq : wanted.now ≡ m.now = w.same_answer.ensures.0 w.if-not-same_answer.false in
+          let lt : c.loop-i.next < length c.args.told.now = omega (arith, w.if-next-told.false) in
+          rw w.next-is (record {
+            within = omega (arith, lt);
+            same = found_more f rs c.loop-i.i one (Some m.now) c.loop-i-test.true c.index-records-i.is (sym w.in-Some.ensures) ∙ (λ j. c.loop-i.invariant.same j ++ sym eq j ∷ []) ∙ sym (taken_more now c.args.told.now c.loop-i.next wanted lt w.index-told-next.is);
+          })
+      | in-None w ↦
+          rw w.next-is (record {
+            within = c.loop-i.invariant.within;
+            same = found_more f rs c.loop-i.i one None c.loop-i-test.true c.index-records-i.is (sym w.in-None.ensures) ∙ append-nil (found f (take c.loop-i.i rs)) ∙ c.loop-i.invariant.same;
+          })
+    ]

@@ -1,0 +1,10 @@
+use Rattle.std.proofs.Common.{◌≡◌, ◌≤◌, take, map, length}
+use Rattle.dac_run.specs.Compared.{found}
+use Rattle.dac_live.specs.Asked.{answer_one}
+use Rattle.dac_live.proofs.callers.are_told.Given as goal
+
+abbrev pub invariant-loop-i : goal.invariant-loop-i
+invariant-loop-i l = record {
+  within : l.next ≤ length l.told;
+  same : found (answer_one l.seat) (take l.i l.records) ≡ take l.next (map (λ a. a.now) l.told);
+}

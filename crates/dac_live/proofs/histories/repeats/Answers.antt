@@ -1,0 +1,7 @@
+use Rattle.dac_live.proofs.Repeated.{repeated}
+use Rattle.dac_live.proofs.histories.repeats.Goals as goal
+
+pub returns : goal.returns
+returns c =
+    λ yes. repeated c.args.config.now c.args.me c.args.node.now c.step-answer.new.self c.in_ok-event.event c.args.one.now.event c.step-answer.result c.args.one.now.answer
+    c.step-answer.ensures.ok c.step-answer.ensures.refused c.in_ok-is_answered.ensures c.in_ok-event.ensures (c.same_answer.ensures.0 yes)

@@ -1,6 +1,0 @@
-use Rattle.std.proofs.Common.{◌≡◌, ◌≤◌, length, take}
-use Rattle.dac_journal.specs.Journals.{calls_of}
-use Rattle.dac_live.proofs.laws.same_calls.Given as goal
-
-abbrev pub invariant-loop-i : goal.invariant-loop-i
-invariant-loop-i l = record { within : l.next ≤ length l.calls; same : calls_of l.seat (take l.i l.records) ≡ take l.next l.calls }

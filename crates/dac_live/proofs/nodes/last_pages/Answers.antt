@@ -1,0 +1,18 @@
+use Rattle.std.proofs.Common.{◌≡◌, ℕ, [], subst, arith}
+use Rattle.std.proofs.lemmas.Grind.{common_steps}
+use Rattle.std.proofs.lemmas.List.{get_or_read}
+use borrow.Author.Count.{below_more}
+use Rattle.dac_run.specs.Journals.{nowhere}
+use Rattle.dac_live.specs.Nodes.{IsTrueOf, journal_at}
+use Rattle.dac_live.proofs.nodes.last_pages.Goals as goal
+
+pub loop-i-preserved : goal.loop-i-preserved
+loop-i-preserved c =
+    let t = c.args.config.now in
+    let js = c.args.closed.now in
+    let there : c.index-closed-i.result ≡ journal_at js c.loop-i.i = get_or_read js _ _ c.loop-i-test.true c.index-closed-i.is (record { beginning = nowhere; records = [] }) in
+    record {
+      pages = grind (arith, common_steps);
+      histories = below_more (λ (k : ℕ). IsTrueOf t (journal_at js k)) c.loop-i.i c.loop-i.invariant.histories (subst (IsTrueOf t) there c.in_ok-page.ensures.history);
+      nodes = grind (arith, common_steps);
+    }

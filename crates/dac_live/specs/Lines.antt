@@ -1,0 +1,98 @@
+-- What the lines of callers ask, and what they are answered.
+use Rattle.std.specs.Prelude.{⊤, ℕ, ◌≡◌, ◌<◌, ◌≤◌, ◌==◌, ◌&&◌, All, Bool, List, Option, Some, None, Result, flat_map, if◌then◌else◌, length, zip}
+use Rattle.std.specs.List.{AllZip}
+use Rattle.dac_messages.specs.declared.event.Event.{Event}
+use Rattle.dac_messages.specs.declared.reply.Reply.{Reply}
+use Rattle.dac_events.specs.declared.refusal.Refusal.{Refusal}
+use Rattle.dac_run.specs.Record.{Record}
+use Rattle.dac_run.specs.Journals.{JournalValue}
+use Rattle.dac_run.specs.Compared.{found, event_one}
+use Rattle.dac_run.specs.declared.phases.Ask.{Ask}
+use Rattle.dac_run.specs.declared.phases.Ask.TheVariants.{Do, Read}
+use Rattle.dac_run.specs.declared.phases.Line.{Line}
+use Rattle.dac_run.specs.declared.phases.Phase.{Phase}
+use Rattle.dac_live.specs.declared.report.LineAnswer.{LineAnswer}
+use Rattle.dac_live.specs.declared.report.LineAnswer.TheVariants.{Done, Fresh, Stale}
+use Rattle.dac_live.specs.Asked.{answer_one}
+use Rattle.dac_live.specs.Pairs.{records_at}
+
+-- ---- what a caller owes
+-- the line is one of a node that there is, and of a caller from 1 to 4
+abbrev pub IsLineOf : ℕ → Line → Type 0
+IsLineOf nodes line = (line.node.0 < nodes) × (1 ≤ line.caller) × (line.caller ≤ 4)
+
+-- all lines of the phase are
+abbrev pub HasLines : ℕ → Phase → Type 0
+HasLines nodes phase = All (IsLineOf nodes) phase.lines.items
+
+-- ---- what a caller's lines ask
+-- whether the line is this caller's of this node
+abbrev pub is_of : ℕ → ℕ → Line → Bool
+is_of node caller line = (line.node.0 == node) && (line.caller == caller)
+
+abbrev pub event_in : Ask → Option Event
+event_in (Do event) = Some event
+event_in Read = None
+
+-- the event that this caller asks by the line, if any
+abbrev pub ask_one : ℕ → ℕ → Line → Option Event
+ask_one node caller line = if is_of node caller line then event_in line.what else None
+
+-- the events that it asks over all phases, in order
+abbrev pub asks_of : ℕ → ℕ → List Phase → List Event
+asks_of node caller phases = flat_map (λ (p : Phase). found (ask_one node caller) p.lines.items) phases
+
+-- ---- what they are answered
+abbrev pub answer_in : LineAnswer → Option (Result Reply Refusal)
+answer_in (Done answer) = Some answer
+answer_in Fresh = None
+answer_in Stale = None
+
+-- the answer that this caller is given at the line, if any
+abbrev pub told_one : ℕ → ℕ → Line × LineAnswer → Option (Result Reply Refusal)
+told_one node caller told = if is_of node caller told.0 then answer_in told.1 else None
+
+-- the answers that it is given at these lines, in order
+abbrev pub told_in : ℕ → ℕ → List Line → List LineAnswer → List (Result Reply Refusal)
+told_in node caller lines answers = found (told_one node caller) (zip lines answers)
+
+-- those that it is given over all phases, in order
+abbrev pub told_of : ℕ → ℕ → List Phase → List (List LineAnswer) → List (Result Reply Refusal)
+told_of node caller phases answers =
+    flat_map (λ (p : Phase × List LineAnswer). told_in node caller p.0.lines.items p.1) (zip phases answers)
+
+-- ---- what answers what
+-- a line that asks has an answer, and one that reads has a fresh or a stale page
+abbrev pub Answers : Ask → LineAnswer → Type 0
+Answers (Do event) (Done answer) = ⊤
+Answers (Do event) Fresh = ⊥
+Answers (Do event) Stale = ⊥
+Answers Read (Done answer) = ⊥
+Answers Read Fresh = ⊤
+Answers Read Stale = ⊤
+
+-- each line of a phase is answered
+abbrev pub LinesAnswered : List Line → List LineAnswer → Type 0
+LinesAnswered lines answers = AllZip (λ (line : Line) (answer : LineAnswer). Answers line.what answer) lines answers
+
+-- each line of each phase is
+abbrev pub AreAnswered : List Phase → List (List LineAnswer) → Type 0
+AreAnswered phases answers =
+    AllZip (λ (p : Phase) (all : List LineAnswer). LinesAnswered p.lines.items all) phases answers
+
+-- ---- callers' seats
+-- the records of this caller's seat are what its lines ask, in order, and were answered as the lines are
+pub record CallerHolds (node caller : ℕ) (phases : List Phase) (answers : List (List LineAnswer))
+    (records : List Record) : Type 0 where
+  pub asked : found (event_one caller) records ≡ asks_of node caller phases
+  pub told : found (answer_one caller) records ≡ told_of node caller phases answers
+
+-- those of all callers of a node are
+abbrev pub NodeHolds : ℕ → List Phase → List (List LineAnswer) → List Record → Type 0
+NodeHolds node phases answers records =
+    (caller : ℕ) → 1 ≤ caller → caller ≤ 4 → CallerHolds node caller phases answers records
+
+-- those of all callers of all nodes are
+abbrev pub CallersHold : List Phase → List (List LineAnswer) → List JournalValue → Type 0
+CallersHold phases answers closed =
+    (node : ℕ) → node < length closed → NodeHolds node phases answers (records_at closed node)

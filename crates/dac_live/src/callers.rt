@@ -1,0 +1,187 @@
+//! What a caller's seat asked, and what it was answered.
+
+ghost use Rattle.std.specs.Prelude.{◌≡◌, ◌≤◌, ◌++◌, ◌∷◌, ◌↔◌, [], true, map, length, IfOk, OnOk, IsTrue};
+ghost use Rattle.std.specs.Option.{option_copied};
+ghost use Rattle.dac_base.specs.declared.limits.TheConstants.{MAX_NODES};
+ghost use Rattle.dac_run.specs.Compared.{found, event_one};
+ghost use Rattle.dac_live.specs.Asked.{answer_one};
+ghost use Rattle.dac_live.specs.Lines.{AreAnswered, CallerHolds, NodeHolds, CallersHold};
+
+use crate::lines::{asked_by, told_to};
+use crate::lists::AnswerList;
+use dac_base::{NoMemory, NodeId};
+use dac_messages::Event;
+use dac_run::{Answer, CALLERS, Closed, Phase, Record, event_of};
+use std::alloc::Global;
+
+/// Whether the records of this seat ask these events, in order and no others.
+pub fn are_asked(asked: &[&Event], records: &[Record], seat: u16) -> bool
+    ensures { result ≡ true → found (event_one seat) records.now ≡ map (λ e. e.now) asked.now }
+{
+    let mut next = 0;
+    for i in 0..records.len() {
+        let one = &records[i];
+        match event_of(one, seat) {
+            Some(event) => {
+                if next >= asked.len() {
+                    return false;
+                }
+                let wanted = asked[next];
+                if !wanted.equal(event) {
+                    return false;
+                }
+                next += 1;
+            }
+            None => {}
+        }
+    }
+    next == asked.len()
+}
+
+// What this seat's record was answered, if it is one.
+fn answer_of(one: &Record, seat: u16) -> Option<&Answer>
+    ensures { option_copied result ≡ answer_one seat one.now }
+{
+    if one.seat == seat {
+        Some(&one.answer)
+    } else {
+        None
+    }
+}
+
+// A copy of an answer.
+fn copy_answer(answer: &Answer) -> Result<Answer, NoMemory>
+    ensures { IfOk result (λ copy. copy ≡ answer.now) }
+{
+    match answer {
+        Ok(reply) => {
+            let reply = reply.copy()?;
+            Ok(Ok(reply))
+        }
+        Err(why) => Ok(Err(*why)),
+    }
+}
+
+// A copy of the answer goes behind the list.
+fn put_answer(all: &mut Vec<Answer>, answer: &Answer) -> Result<(), NoMemory>
+    ensures { OnOk result (all.new.items ≡ all.old.items ++ answer.now ∷ []) }
+{
+    let copy = copy_answer(answer)?;
+    all.push(copy)?;
+    Ok(())
+}
+
+/// What the records of this seat were answered, in order.
+pub fn answers_of(alloc: Global, records: &[Record], seat: u16) -> Result<Vec<Answer>, NoMemory>
+    ensures { IfOk result (λ all. all.items ≡ found (answer_one seat) records.now) }
+{
+    let mut all = Vec::new(alloc);
+    for i in 0..records.len() {
+        let one = &records[i];
+        match answer_of(one, seat) {
+            Some(answer) => put_answer(&mut all, answer)?,
+            None => {}
+        }
+    }
+    Ok(all)
+}
+
+/// Whether the two are one answer.
+pub(crate) fn same_answer(answer: &Answer, other: &Answer) -> bool
+    ensures { IsTrue result ↔ (answer.now ≡ other.now) }
+{
+    match (answer, other) {
+        (Ok(reply), Ok(other_reply)) => reply.equal(other_reply),
+        (Err(why), Err(other_why)) => why == other_why,
+        _ => false,
+    }
+}
+
+/// Whether the records of this seat were answered so, in order and no others.
+pub fn are_told(told: &[&Answer], records: &[Record], seat: u16) -> bool
+    ensures { result ≡ true → found (answer_one seat) records.now ≡ map (λ a. a.now) told.now }
+{
+    let mut next = 0;
+    for i in 0..records.len() {
+        let one = &records[i];
+        match answer_of(one, seat) {
+            Some(answer) => {
+                if next >= told.len() {
+                    return false;
+                }
+                let wanted = told[next];
+                if !same_answer(wanted, answer) {
+                    return false;
+                }
+                next += 1;
+            }
+            None => {}
+        }
+    }
+    next == told.len()
+}
+
+// Whether the records of a caller's seat are what its lines ask, and were answered as the lines are.
+fn caller_holds(
+    alloc: Global,
+    phases: &[Phase],
+    answers: &[AnswerList],
+    node: NodeId,
+    caller: u8,
+    records: &[Record],
+) -> Result<bool, NoMemory>
+    requires { AreAnswered phases.now answers.now }
+    ensures { IfOk result
+        (λ b. b ≡ true → CallerHolds node.0 caller phases.now answers.now records.now) }
+{
+    let seat = u16::from(caller);
+    let asked = asked_by(alloc, phases, node, caller)?;
+    if !are_asked(asked.as_slice(), records, seat) {
+        return Ok(false);
+    }
+    let told = told_to(alloc, phases, answers, node, caller)?;
+    Ok(are_told(told.as_slice(), records, seat))
+}
+
+// Whether those of all callers of a node are.
+fn node_holds(
+    alloc: Global,
+    phases: &[Phase],
+    answers: &[AnswerList],
+    node: NodeId,
+    records: &[Record],
+) -> Result<bool, NoMemory>
+    requires { AreAnswered phases.now answers.now }
+    ensures { IfOk result (λ b. b ≡ true → NodeHolds node.0 phases.now answers.now records.now) }
+{
+    for before in 0..CALLERS {
+        let caller = before + 1;
+        if !caller_holds(alloc, phases, answers, node, caller, records)? {
+            return Ok(false);
+        }
+    }
+    Ok(true)
+}
+
+/// Names the first node, of these journals that stand by name, where the records of a caller's seat aren't what its lines ask,
+/// or were answered otherwise than the lines. [`NoMemory`] is the only error.
+pub fn strange_node(
+    alloc: Global,
+    phases: &[Phase],
+    answers: &[AnswerList],
+    closed: &[Closed],
+) -> Result<Option<NodeId>, NoMemory>
+    requires few { length closed.now ≤ MAX_NODES }
+    requires answered { AreAnswered phases.now answers.now }
+    ensures { IfOk result
+        (λ strange. strange ≡ None → CallersHold phases.now answers.now closed.now) }
+{
+    for i in 0..closed.len() {
+        let one = &closed[i];
+        let node = NodeId(i as u8);
+        if !node_holds(alloc, phases, answers, node, one.records())? {
+            return Ok(Some(node));
+        }
+    }
+    Ok(None)
+}

@@ -1,0 +1,176 @@
+//! What the lines of callers ask, and what they are answered.
+
+ghost use Rattle.std.specs.Prelude.{◌≡◌, ◌++◌, true, map, length, IfOk};
+ghost use Rattle.std.specs.Option.{option_copied};
+ghost use Rattle.dac_run.specs.Compared.{found};
+ghost use Rattle.dac_live.specs.Lines.{is_of, ask_one, asks_of, told_one, told_in, told_of, Answers, LinesAnswered, AreAnswered};
+
+use crate::lists::AnswerList;
+use crate::report::LineAnswer;
+use dac_base::{NoMemory, NodeId};
+use dac_messages::Event;
+use dac_run::{Answer, Ask, Line, Phase};
+use std::alloc::Global;
+
+// Whether the line is this caller's of this node.
+fn is_of(line: &Line, node: NodeId, caller: u8) -> bool
+    ensures { result ≡ is_of node.0 caller line.now }
+{
+    line.node == node && line.caller == caller
+}
+
+// The event that this caller asks by the line, if it is one that asks.
+fn event_in(line: &Line, node: NodeId, caller: u8) -> Option<&Event>
+    ensures { option_copied result ≡ ask_one node.0 caller line.now }
+{
+    if !is_of(line, node, caller) {
+        return None;
+    }
+    match &line.what {
+        Ask::Do(event) => Some(event),
+        Ask::Read => None,
+    }
+}
+
+// The list, with the events behind it that this caller asks by the lines of a phase.
+fn with_events<'a>(
+    mut all: Vec<&'a Event>,
+    lines: &'a [Line],
+    node: NodeId,
+    caller: u8,
+) -> Result<Vec<&'a Event>, NoMemory>
+    ensures { IfOk result (λ more. map (λ e. e.now) more.items
+        ≡ map (λ e. e.now) all.entry.items ++ found (ask_one node.0 caller) lines.now) }
+{
+    for i in 0..lines.len() {
+        let line = &lines[i];
+        match event_in(line, node, caller) {
+            Some(event) => all.push(event)?,
+            None => {}
+        }
+    }
+    Ok(all)
+}
+
+/// The events that this caller's lines ask, over all phases, in order. [`NoMemory`] is the only error.
+pub fn asked_by(
+    alloc: Global,
+    phases: &[Phase],
+    node: NodeId,
+    caller: u8,
+) -> Result<Vec<&Event>, NoMemory>
+    ensures { IfOk result (λ all. map (λ e. e.now) all.items ≡ asks_of node.0 caller phases.now) }
+{
+    let mut all = Vec::new(alloc);
+    for i in 0..phases.len() {
+        let phase = &phases[i];
+        all = with_events(all, phase.lines.as_slice(), node, caller)?;
+    }
+    Ok(all)
+}
+
+// The answer that this caller is given at the line, if it is one that asks.
+fn answer_in<'a>(
+    line: &Line,
+    answer: &'a LineAnswer,
+    node: NodeId,
+    caller: u8,
+) -> Option<&'a Answer>
+    ensures { option_copied result ≡ told_one node.0 caller (line.now, answer.now) }
+{
+    if !is_of(line, node, caller) {
+        return None;
+    }
+    match answer {
+        LineAnswer::Done(answer) => Some(answer),
+        _ => None,
+    }
+}
+
+// The list, with the answers behind it that this caller is given at the lines of a phase.
+fn with_answers<'a>(
+    mut all: Vec<&'a Answer>,
+    lines: &[Line],
+    answers: &'a [LineAnswer],
+    node: NodeId,
+    caller: u8,
+) -> Result<Vec<&'a Answer>, NoMemory>
+    requires { length answers.now ≡ length lines.now }
+    ensures { IfOk result (λ more. map (λ a. a.now) more.items
+        ≡ map (λ a. a.now) all.entry.items ++ told_in node.0 caller lines.now answers.now) }
+{
+    for i in 0..lines.len() {
+        let line = &lines[i];
+        let answer = &answers[i];
+        match answer_in(line, answer, node, caller) {
+            Some(answer) => all.push(answer)?,
+            None => {}
+        }
+    }
+    Ok(all)
+}
+
+/// The answers that this caller is given, over all phases, in order. [`NoMemory`] is the only error.
+pub fn told_to<'a>(
+    alloc: Global,
+    phases: &[Phase],
+    answers: &'a [AnswerList],
+    node: NodeId,
+    caller: u8,
+) -> Result<Vec<&'a Answer>, NoMemory>
+    requires { AreAnswered phases.now answers.now }
+    ensures { IfOk result
+        (λ all. map (λ a. a.now) all.items ≡ told_of node.0 caller phases.now answers.now) }
+{
+    let mut all = Vec::new(alloc);
+    for i in 0..phases.len() {
+        let phase = &phases[i];
+        let given = &answers[i];
+        all = with_answers(all, phase.lines.as_slice(), given.as_slice(), node, caller)?;
+    }
+    Ok(all)
+}
+
+// Whether what came of the line is what comes of such a line.
+fn is_answered(line: &Line, answer: &LineAnswer) -> bool
+    ensures { result ≡ true → Answers line.now.what answer.now }
+{
+    match &line.what {
+        Ask::Do(_) => matches!(answer, LineAnswer::Done(_)),
+        Ask::Read => !matches!(answer, LineAnswer::Done(_)),
+    }
+}
+
+// Whether each line of a phase is answered.
+fn lines_answered(lines: &[Line], answers: &[LineAnswer]) -> bool
+    ensures { result ≡ true → LinesAnswered lines.now answers.now }
+{
+    if lines.len() != answers.len() {
+        return false;
+    }
+    for i in 0..lines.len() {
+        let line = &lines[i];
+        let answer = &answers[i];
+        if !is_answered(line, answer) {
+            return false;
+        }
+    }
+    true
+}
+
+/// Whether each line is answered: one that asks by an answer, and one that reads by a fresh or a stale page.
+pub fn are_answered(phases: &[Phase], answers: &[AnswerList]) -> bool
+    ensures { result ≡ true → AreAnswered phases.now answers.now }
+{
+    if phases.len() != answers.len() {
+        return false;
+    }
+    for i in 0..phases.len() {
+        let phase = &phases[i];
+        let given = &answers[i];
+        if !lines_answered(phase.lines.as_slice(), given.as_slice()) {
+            return false;
+        }
+    }
+    true
+}

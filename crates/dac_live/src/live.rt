@@ -1,0 +1,129 @@
+//! A run, and its report.
+
+ghost use Rattle.std.specs.Prelude.{◌≡◌, ◌<◌, ◌≤◌, All, Err, IfOk, OnOk, length};
+ghost use Rattle.dac_base.specs.declared.limits.TheConstants.{MAX_NODES};
+ghost use Rattle.dac_config.specs.Table.{node_count};
+ghost use Rattle.dac_live.specs.Lines.{HasLines, AreAnswered, CallersHold};
+ghost use Rattle.dac_live.specs.Nodes.{AreNodes, PagesHold, AreTrueOf};
+ghost use Rattle.dac_live.specs.Pairs.{LinksHold, SeatsHold};
+
+use crate::callers::strange_node;
+use crate::handing::{all_answers, mismatch};
+use crate::lines::are_answered;
+use crate::lists::{AnswerList, AnswersByPhase, ClosedList, PageList};
+use crate::nodes::last_pages;
+use crate::pairs::lost_link;
+use crate::report::LiveReport;
+use crate::seats::check_seats;
+use dac_base::NodeId;
+use dac_config::Config;
+use dac_run::{Closed, Gate, MAX_SITES, Outcome, Phase, RunFault, run_sites};
+use std::alloc::Global;
+use std::sync::Wait;
+use std::thread::Threads;
+
+// Refuses journals in which a link carried something else than it was to carry.
+fn check_links(alloc: Global, phases: usize, closed: &[Closed]) -> Result<(), RunFault>
+    requires { length closed.now ≤ MAX_NODES }
+    ensures { OnOk result (LinksHold phases closed.now) }
+{
+    match lost_link(alloc, phases, closed) {
+        Ok(None) => Ok(()),
+        Ok(Some((from, to))) => Err(RunFault::LinkLost { from, to }),
+        Err(_) => Err(RunFault::NoMemory),
+    }
+}
+
+// Refuses answers that aren't those of the lines, and journals in which a caller's seat has other records.
+fn check_callers(
+    alloc: Global,
+    phases: &[Phase],
+    answers: &[AnswerList],
+    closed: &[Closed],
+) -> Result<(), RunFault>
+    requires { length closed.now ≤ MAX_NODES }
+    ensures lines { OnOk result (AreAnswered phases.now answers.now) }
+    ensures callers { OnOk result (CallersHold phases.now answers.now closed.now) }
+{
+    if !are_answered(phases, answers) {
+        return Err(mismatch(NodeId(0)));
+    }
+    match strange_node(alloc, phases, answers, closed) {
+        Ok(None) => Ok(()),
+        Ok(Some(node)) => Err(mismatch(node)),
+        Err(_) => Err(RunFault::NoMemory),
+    }
+}
+
+// What came of a run, by its journals.
+fn report_of(
+    alloc: Global,
+    config: &Config,
+    phases: &[Phase],
+    outcome: Outcome,
+) -> Result<LiveReport, RunFault>
+    ensures nodes { IfOk result (λ r. AreNodes (node_count config.now) r.closed) }
+    ensures histories { IfOk result (λ r. AreTrueOf config.now r.closed) }
+    ensures seats { IfOk result (λ r. SeatsHold r.closed) }
+    ensures links { IfOk result (λ r. LinksHold (length phases.now) r.closed) }
+    ensures pages { IfOk result (λ r. PagesHold config.now r.closed r.pages) }
+    ensures callers { IfOk result (λ r. CallersHold phases.now r.answers r.closed) }
+    ensures lines { IfOk result (λ r. AreAnswered phases.now r.answers) }
+{
+    let Outcome {
+        closed,
+        pages,
+        seen,
+    } = outcome;
+    let pages = last_pages(alloc, config, closed.as_slice(), pages.as_slice())?;
+    check_seats(closed.as_slice())?;
+    check_links(alloc, phases.len(), closed.as_slice())?;
+    let answers = all_answers(alloc, phases, closed.as_slice(), seen)?;
+    check_callers(alloc, phases, answers.as_slice(), closed.as_slice())?;
+    Ok(LiveReport {
+        answers: AnswersByPhase::new(answers),
+        pages: PageList::new(pages),
+        closed: ClosedList::new(closed),
+    })
+}
+
+/// Runs the phases at sites of all nodes, and reports what came of them. The report is read off the closed journals, and
+/// compared with them.
+///
+/// `TooManyNodes` comes of more than four nodes, before anything runs. `NoThread`, `Open` and `Site` come of the run itself, as do
+/// `Close`, `NoPage`, `LinkLost` and `NoMemory`. `LinkLost` comes too where the journals differ on what a link carried. `NoPage`
+/// comes too where a node's journal or last page is missing, the page isn't that of the whole journal, or this is no history of
+/// the node. `Close` with a `Mismatch` comes too where a record is of a seat that no node has, at its place. It comes at place 0
+/// where the records of a caller's seat aren't what its lines ask, or a line lacks its answer.
+pub fn run_live<G: Gate, R: Threads + Wait + Sync>(
+    rt: &R,
+    alloc: Global,
+    config: &Config,
+    phases: &[Phase],
+    gate: &G,
+) -> Result<LiveReport, RunFault>
+    // Lines of nodes that there are, and of callers 1 to 4.
+    requires { All (HasLines (node_count config.now)) phases.now }
+    // A journal of each node, by name.
+    ensures nodes { IfOk result (λ r. AreNodes (node_count config.now) r.closed) }
+    // Each journal is a history of its node under the configuration, from one that was never booted.
+    ensures histories { IfOk result (λ r. AreTrueOf config.now r.closed) }
+    // Each record is of a seat of its node: of a caller's, or of one of the two for another node.
+    ensures seats { IfOk result (λ r. SeatsHold r.closed) }
+    // All that a link's worker asked is to hear what its shipper shipped, in order and each once. All that the shipper asked is to
+    // ship, five times a phase.
+    ensures links { IfOk result (λ r. LinksHold (length phases.now) r.closed) }
+    // The last page of each node is that after all records of its journal.
+    ensures pages { IfOk result (λ r. PagesHold config.now r.closed r.pages) }
+    // The records of each caller's seat are what its lines ask, in order, and were answered as the lines are.
+    ensures callers { IfOk result (λ r. CallersHold phases.now r.answers r.closed) }
+    // Each line is answered: one that asks by an answer, and one that reads by a fresh or a stale page.
+    ensures lines { IfOk result (λ r. AreAnswered phases.now r.answers) }
+    ensures many { 4 < node_count config.now → result ≡ Err RunFault.TooManyNodes }
+{
+    if config.nodes() > MAX_SITES {
+        return Err(RunFault::TooManyNodes);
+    }
+    let outcome = run_sites(rt, alloc, config, phases, gate)?;
+    report_of(alloc, config, phases, outcome)
+}

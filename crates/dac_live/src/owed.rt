@@ -1,0 +1,40 @@
+//! What a caller of a run owes.
+
+ghost use Rattle.std.specs.Prelude.{◌≡◌, true, All};
+ghost use Rattle.dac_config.specs.Table.{node_count};
+ghost use Rattle.dac_live.specs.Lines.{IsLineOf, HasLines};
+
+use dac_config::Config;
+use dac_run::{CALLERS, Line, Phase};
+
+// Whether the line is one of a node below this number, and of a caller from 1 to 4.
+fn is_line(nodes: u8, line: &Line) -> bool
+    ensures { result ≡ true → IsLineOf nodes line.now }
+{
+    line.node.0 < nodes && 1 <= line.caller && line.caller <= CALLERS
+}
+
+// Whether all lines of the phase are.
+fn has_lines(nodes: u8, phase: &Phase) -> bool
+    ensures { result ≡ true → HasLines nodes phase.now }
+{
+    for line in &phase.lines {
+        if !is_line(nodes, line) {
+            return false;
+        }
+    }
+    true
+}
+
+/// Whether all lines are of nodes of the configuration and of callers 1 to 4, as [`run_live`](crate::run_live) asks.
+pub fn are_runnable(config: &Config, phases: &[Phase]) -> bool
+    ensures { result ≡ true → All (HasLines (node_count config.now)) phases.now }
+{
+    let nodes = config.nodes();
+    for phase in phases {
+        if !has_lines(nodes, phase) {
+            return false;
+        }
+    }
+    true
+}

@@ -1,0 +1,4 @@
+pub mod Dots
+pub mod InOrder
+pub mod Keys
+pub mod laws

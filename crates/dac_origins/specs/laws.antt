@@ -1,0 +1,3 @@
+pub mod KeyLaws
+pub mod Dots
+pub mod InOrder

@@ -1,4 +1,0 @@
-mod Found
-mod Repeated
-mod Shipped
-mod Spoken

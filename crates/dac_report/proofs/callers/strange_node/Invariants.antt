@@ -1,7 +1,0 @@
-use Rattle.std.proofs.Common.{ℕ, ◌<◌}
-use Rattle.dac_report.specs.Lines.{NodeHolds}
-use Rattle.dac_report.specs.Pairs.{records_at}
-use Rattle.dac_report.proofs.callers.strange_node.Given as goal
-
-abbrev pub invariant-loop-i : goal.invariant-loop-i
-invariant-loop-i l = (n : ℕ) → n < l.i → NodeHolds n l.phases l.answers (records_at l.closed n)

@@ -1,6 +1,0 @@
-use Rattle.std.proofs.Common.{take}
-use Rattle.dac_report.specs.Lines.{LinesAnswered}
-use Rattle.dac_report.proofs.lines.lines_answered.Given as goal
-
-abbrev pub invariant-loop-i : goal.invariant-loop-i
-invariant-loop-i l = LinesAnswered (take l.i l.lines) (take l.i l.answers)

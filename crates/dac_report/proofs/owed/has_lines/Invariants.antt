@@ -1,6 +1,0 @@
-use Rattle.std.proofs.Common.{take, All}
-use Rattle.dac_report.specs.Lines.{IsLineOf}
-use Rattle.dac_report.proofs.owed.has_lines.Given as goal
-
-abbrev pub invariant-loop-line : goal.invariant-loop-line
-invariant-loop-line l = All (IsLineOf l.nodes) (take l.line-index l.phase.lines.items)

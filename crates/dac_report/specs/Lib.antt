@@ -1,9 +1,0 @@
-pub mod Asked
-pub mod Lines
-pub mod Nodes
-pub mod Pairs
-pub use Rattle.dac_run.specs.RunFault
-pub use Rattle.dac_run.specs.RunFaults
-pub use Rattle.dac_run.specs.declared.phases.Ask
-pub use Rattle.dac_run.specs.declared.phases.Line
-pub use Rattle.dac_run.specs.declared.phases.Phase

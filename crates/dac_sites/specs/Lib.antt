@@ -1,0 +1,10 @@
+pub mod Behind
+pub mod Paged
+pub mod Replayed
+pub mod Seats
+pub mod Sites
+pub mod Added
+pub use Rattle.dac_journal.specs.Journals
+pub use Rattle.dac_journal.specs.declared.record.Call
+pub use Rattle.dac_journal.specs.declared.record.Record
+pub mod laws

@@ -1,0 +1,83 @@
+//! What a call of a site and its end do to a journal, said without the lock.
+//!
+//! [`add_record`] is what a call of a site runs under its lock. [`same_calls`] is what [`Site::close`](crate::Site::close)
+//! compares each seat by.
+
+ghost use Rattle.std.specs.Prelude.{◌≡◌, ◌≢◌, ◌↔◌, ◌⊎◌, ◌+◌, ◌++◌, ◌∷◌, [], length, IfOk, IfErr, OnErr, Err, MatchOption};
+ghost use Rattle.dac_journal.specs.declared.limits.TheConstants.{MAX_RECORDS};
+ghost use Rattle.dac_journal.specs.Journals.{AreHistory, call_of, calls_of, record_of, DifferAt};
+ghost use Rattle.dac_sites.specs.Paged.{page_after};
+
+use crate::desk::Desk;
+use crate::faults::LiveFault;
+use crate::same::is_record;
+use dac_events::Refusal;
+use dac_journal::{Answer, Call, Record};
+use dac_messages::Event;
+use std::sync::Wait;
+
+/// Asks the node of a journal for this seat, adds the record, and publishes the page after it. It gives what the seat keeps
+/// of it, the place from 1 among that, and the node's answer.
+///
+/// `JournalFull` comes exactly where the journal has [`MAX_RECORDS`](dac_journal::MAX_RECORDS) records. A refusal of the node
+/// is no error here: it is a record too. `NoMemory` comes after the one and before the other. At both nothing changes.
+/// Readers take the number of records, the incarnation, and the summary of the state that it leaves, or of the one that
+/// knows nothing where the node is off.
+pub fn add_record<R: Wait>(
+    rt: &R,
+    desk: &mut Desk,
+    seat: u16,
+    event: Event,
+) -> Result<(Call, Answer), LiveFault>
+    ensures beginning { desk.new.journal.beginning ≡ desk.old.journal.beginning }
+    ensures ok { IfOk result (λ r. desk.new.journal.records
+        ≡ desk.old.journal.records ++ record_of seat event r.1 ∷ []) }
+    ensures call { IfOk result
+        (λ r. r.0 ≡ call_of (length desk.old.journal.records + 1) event r.1) }
+    ensures answered { IfOk result (λ r. IfErr r.1 (λ why. why ≢ Refusal.NoMemory)) }
+    ensures history { IfOk result
+        (λ _. AreHistory desk.new.journal.beginning desk.new.journal.records) }
+    ensures full { (length desk.old.journal.records ≡ MAX_RECORDS)
+        ↔ (result ≡ Err LiveFault.JournalFull) }
+    ensures page { desk.new.page ≡ page_after desk.new.journal.beginning desk.new.journal.records }
+    ensures unchanged { OnErr result (desk.new ≡ desk.old) }
+    ensures recorded { IfErr result
+        (λ fault. (fault ≡ LiveFault.JournalFull) ⊎ (fault ≡ LiveFault.NoMemory)) }
+{
+    if desk.journal().is_full() {
+        return Err(LiveFault::JournalFull);
+    }
+    match desk.ask(rt, seat, event) {
+        Ok(recorded) => Ok(recorded),
+        Err(_) => Err(LiveFault::NoMemory),
+    }
+}
+
+/// Whether the seat's records, with their places and in the journal's order, are the list of calls. `None` where they
+/// are. Else the place at which the two first differ. It is the lesser of the two places there, or the one place
+/// where the other list has ended. Places count from 1. It takes no memory.
+pub fn same_calls(records: &[Record], seat: u16, calls: &[Call]) -> Option<u64>
+    ensures { MatchOption result (calls_of seat records.now ≡ calls.now)
+        (λ p. DifferAt p (calls_of seat records.now) calls.now) }
+{
+    let mut next = 0;
+    for i in 0..records.len() {
+        let one = &records[i];
+        if one.seat == seat {
+            let place = i as u64 + 1;
+            if next >= calls.len() {
+                return Some(place);
+            }
+            let wanted = &calls[next];
+            if !is_record(wanted, place, one) {
+                return Some(place.min(wanted.place));
+            }
+            next += 1;
+        }
+    }
+    if next < calls.len() {
+        let wanted = &calls[next];
+        return Some(wanted.place);
+    }
+    None
+}

@@ -1,0 +1,59 @@
+//! The page after some records, by replaying them.
+
+ghost use Rattle.std.specs.Prelude.{◌≡◌, ◌≢◌, IfOk, IfErr, OnOk};
+ghost use Rattle.dac_journal.specs.Journals.{beginning_of};
+ghost use Rattle.dac_sites.specs.Paged.{page_after};
+ghost use Rattle.dac_sites.specs.Replayed.{GoesOn};
+
+use crate::desk::page_of;
+use dac_base::{NoMemory, NodeId};
+use dac_config::Config;
+use dac_events::Refusal;
+use dac_journal::{Node, Record};
+use dac_messages::{Event, Reply};
+use dac_pages::Page;
+use std::alloc::Global;
+
+// Refuses an answer that memory was refused: nothing was answered.
+fn is_answered(answer: &Result<Reply, Refusal>) -> Result<(), NoMemory>
+    ensures { OnOk result (IfErr answer.now (λ why. why ≢ Refusal.NoMemory)) }
+{
+    match answer {
+        Ok(_) => Ok(()),
+        Err(why) => {
+            if *why == Refusal::NoMemory {
+                Err(NoMemory)
+            } else {
+                Ok(())
+            }
+        }
+    }
+}
+
+// The node goes on by the event, whatever it answers.
+fn go_on(config: &Config, me: NodeId, node: &mut Node, event: &Event) -> Result<(), NoMemory>
+    ensures { OnOk result (GoesOn config.now me node.old event.now node.new) }
+{
+    let event = event.copy()?;
+    let answer = node.step(config, me, event);
+    is_answered(&answer)?;
+    Ok(())
+}
+
+/// The page after these records of a node that had so many incarnations before them.
+pub fn replay(
+    alloc: Global,
+    config: &Config,
+    me: NodeId,
+    last: u64,
+    records: &[Record],
+) -> Result<Page, NoMemory>
+    ensures { IfOk result (λ page. page ≡ page_after (beginning_of config.now me last) records.now) }
+{
+    let mut node = Node::off(alloc, last);
+    for i in 0..records.len() {
+        let one = &records[i];
+        go_on(config, me, &mut node, &one.event)?;
+    }
+    Ok(page_of(alloc, config, records.len() as u64, &node))
+}

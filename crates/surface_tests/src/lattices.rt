@@ -1,0 +1,87 @@
+//! `dac_dots` and `dac_lattice`.
+use dac_config::{NoMemory, NodeId};
+use dac_dots::{Context, Dot, Origin};
+use dac_lattice::{Bottom, Flag, Lattice, MapOf, Max, Pair};
+use std::alloc::Global;
+
+/// The first incarnation of the first node.
+pub const ORIGIN: Origin = Origin {
+    node: NodeId(0),
+    inc: 1,
+};
+
+/// A dot of it.
+pub const FIRST: Dot = Dot {
+    origin: ORIGIN,
+    n: 1,
+};
+
+/// The dot behind that.
+pub const SECOND: Dot = Dot {
+    origin: ORIGIN,
+    n: 2,
+};
+
+/// A context of the first dot.
+pub fn first_alone(alloc: Global) -> Result<Context, NoMemory> {
+    let mut context = Context::empty(alloc);
+    context.insert(FIRST)?;
+    Ok(context)
+}
+
+/// Whether a context and its union with itself are told alike.
+fn is_united(alloc: Global) -> Result<bool, NoMemory> {
+    let context = first_alone(alloc)?;
+    let both: Context = context.union(&context)?.copy()?;
+    let dots: Vec<Dot> = both.dots()?;
+    Ok(
+        context.is_subset(&both)
+            && both.contains(FIRST)
+            && both.next(ORIGIN) == Some(SECOND)
+            && both.is_vector()
+            && both.len() == 1
+            && dots.as_slice() == [FIRST].as_slice(),
+    )
+}
+
+/// Whether a row is put behind none, and read again.
+fn is_row_read(alloc: Global) -> Result<bool, NoMemory> {
+    let mut context = Context::empty(alloc);
+    let is_put: bool = context.push_row(ORIGIN, 3, &[5])?;
+    let row = match context.row(0) {
+        Some((origin, upto, further)) => {
+            origin == ORIGIN && upto == 3 && further.list(alloc)?.as_slice() == [5u64].as_slice()
+        }
+        None => false,
+    };
+    Ok(is_put && row)
+}
+
+/// Whether a value joined with the least one is itself, through the bounds.
+fn is_above_bottom<L: Bottom>(alloc: Global, value: &L) -> Result<bool, NoMemory> {
+    let joined: L = L::bottom(alloc).join(value)?.copy()?;
+    Ok(value.leq(&joined) && joined.equal(value))
+}
+
+/// A pair of a number and of a map of numbers.
+fn pair_of(alloc: Global) -> Result<Pair<Flag, MapOf<u64, Max<u64>>>, NoMemory> {
+    let map: MapOf<u64, Max<u64>> = MapOf::one(alloc, 7u64, Max::new(3u64))?;
+    Ok(Pair::new(Flag::Down, map))
+}
+
+/// Whether it is above the least pair.
+fn is_pair_above(alloc: Global) -> Result<bool, NoMemory> {
+    is_above_bottom(alloc, &pair_of(alloc)?)
+}
+
+#[test]
+fn contexts(rt: HostRuntime) {
+    assert!(rt; matches!(is_united(rt.alloc()), Ok(true)));
+    assert!(rt; matches!(is_row_read(rt.alloc()), Ok(true)));
+}
+
+#[test]
+fn lattices(rt: HostRuntime) {
+    assert!(rt; matches!(is_pair_above(rt.alloc()), Ok(true)));
+    assert!(rt; Flag::Up.leq(&Flag::Down));
+}

@@ -1,0 +1,141 @@
+//! `dac_chains`, `dac_wishes` and `dac_state`.
+use crate::lattices::{FIRST, ORIGIN, SECOND};
+use crate::texts::TWO;
+use dac_chains::{Claim, Claims, How, Lives};
+use dac_config::{AppId, Config, NoMemory, NodeId, read_config};
+use dac_dots::{Context, Dot};
+use dac_lattice::{Bottom, Flag, Lattice, Piece};
+use dac_state::{Act, DotList, Op, OpFault, State, StateFault, StateFaultKind};
+use dac_wishes::{Drains, Key, Permissions, Wishes};
+use std::alloc::Global;
+
+/// The first application at the first node.
+const KEY: Key = Key {
+    app: AppId(0),
+    node: NodeId(0),
+    inc: 1,
+};
+
+/// What an operation adds to a piece, through the bound.
+pub fn delta_of<P: Piece>(alloc: Global, dot: Dot, act: &P::Act) -> Result<P, NoMemory> {
+    P::delta(alloc, dot, act)
+}
+
+/// The state after the first node came up.
+pub fn up(alloc: Global) -> Option<State> {
+    let op: Op = Op::new(FIRST, Act::Up).ok()?;
+    let op: Op = op.copy().ok()?;
+    State::delta_of(alloc, &op).ok()
+}
+
+/// Whether the parts say that the node is up, and nothing of its application.
+fn is_up_alone(lives: &Lives, claims: &Claims, permissions: &Permissions, wishes: &Wishes) -> bool {
+    let life: Option<(u64, Flag)> = lives.life(NodeId(0));
+    let claim: Option<Claim> = claims.greatest(AppId(0));
+    life == Some((1, Flag::Up))
+        && lives.live(NodeId(0)) == Some(1)
+        && claim.is_none()
+        && permissions.permitted(KEY, true)
+        && permissions.dots(KEY).is_empty()
+        && !wishes.wished(KEY)
+        && wishes.dots(KEY).is_empty()
+}
+
+/// Whether nothing says that the node is drained.
+fn is_not_drained(drains: &Drains) -> bool {
+    !drains.drained(NodeId(0), 1) && drains.dots(NodeId(0), 1).is_empty()
+}
+
+/// Whether the state heard and knows the node's first operation alone.
+fn heard_one(state: &State) -> bool {
+    let heard: &Context = state.heard();
+    let known: &Context = state.known();
+    heard.len() == 1 && known.contains(FIRST)
+}
+
+/// Whether a state is read from its bytes, and not from bytes of the older version.
+fn is_read(alloc: Global, config: &Config, state: &State) -> Option<bool> {
+    let bytes: Vec<u8> = state.encode().ok()?;
+    let read: State = State::decode(alloc, config, bytes.as_slice()).ok()?;
+    let fault: Option<StateFault> = State::decode_1(alloc, config, bytes.as_slice()).err();
+    let kind: Option<StateFaultKind> = fault.map(|fault| fault.kind);
+    Some(read.equal(state) && kind.is_some())
+}
+
+/// Whether the state after the first operation is told by all its readers.
+fn is_told(alloc: Global) -> Option<bool> {
+    let config = read_config(alloc, TWO).ok()?;
+    let state = State::bottom(alloc).join(&up(alloc)?).ok()?.copy().ok()?;
+    let parts = is_up_alone(
+        state.lives(),
+        state.claims(),
+        state.permissions(),
+        state.wishes(),
+    );
+    Some(
+        parts
+            && is_not_drained(state.drains())
+            && heard_one(&state)
+            && is_read(alloc, &config, &state)?,
+    )
+}
+
+/// Why an act that replaces its own dot is no operation.
+fn fault_of(alloc: Global) -> Option<OpFault> {
+    let over = DotList::new(Vec::from_slice(alloc, &[SECOND]).ok()?);
+    Op::new(SECOND, Act::Start { key: KEY, over }).err()
+}
+
+/// The other acts, each of the first node.
+fn acts(alloc: Global) -> [Act; 5] {
+    let none = || DotList::new(Vec::new(alloc));
+    [
+        Act::Down {
+            node: NodeId(1),
+            inc: 1,
+        },
+        Act::Permit {
+            key: KEY,
+            value: true,
+            over: none(),
+        },
+        Act::Stop {
+            key: KEY,
+            over: none(),
+        },
+        Act::Drain {
+            node: NodeId(0),
+            inc: 1,
+            value: true,
+            over: none(),
+        },
+        Act::Claim {
+            app: AppId(0),
+            term: 1,
+            how: How::Normal,
+            from: None,
+        },
+    ]
+}
+
+/// Whether each of them is an operation.
+fn are_operations(alloc: Global) -> bool {
+    let [down, permit, stop, drain, claim] = acts(alloc);
+    Op::new(SECOND, down).is_ok()
+        && Op::new(SECOND, permit).is_ok()
+        && Op::new(SECOND, stop).is_ok()
+        && Op::new(SECOND, drain).is_ok()
+        && Op::new(SECOND, claim).is_ok()
+}
+
+#[test]
+fn states(rt: HostRuntime) {
+    assert!(rt; is_told(rt.alloc()) == Some(true));
+    assert!(rt; ORIGIN == FIRST.origin);
+}
+
+#[test]
+fn operations(rt: HostRuntime) {
+    assert!(rt; fault_of(rt.alloc()) == Some(OpFault::OwnDot));
+    assert!(rt; are_operations(rt.alloc()));
+}

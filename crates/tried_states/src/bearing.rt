@@ -1,0 +1,141 @@
+//! States that may be forged: well-formed ones that no operations of a world mean. They are joined, compared, spelled, decided
+//! on and printed, and heard by each of three nodes, which then ticks, ships and takes every command.
+use dac_base::{AppId, NodeId};
+use dac_config::Config;
+use dac_core::{Body, Command, Event, Message, Node, Refusal, Reply};
+use dac_decide::{Waits, gate};
+use dac_lattice::{Bottom, Lattice};
+use dac_origins::Origin;
+use dac_placement::{eligible, load, verdict};
+use dac_state::State;
+use dac_status::{Summary, page};
+use dac_wire::{Packet, decode, encode};
+use std::alloc::Global;
+
+/// Whether the states are joined and compared as values of a lattice.
+fn are_ordered(alloc: Global, state: &State, other: &State) -> Option<bool> {
+    let both = state.join(other).ok()?;
+    let turned = other.join(state).ok()?;
+    let again = both.join(state).ok()?;
+    Some(
+        both.equal(&turned)
+            && again.equal(&both)
+            && state.leq(&both)
+            && other.leq(&both)
+            && State::bottom(alloc).leq(state),
+    )
+}
+
+/// Whether the state is read from its bytes.
+fn is_spelled(alloc: Global, config: &Config, state: &State) -> Option<bool> {
+    let bytes = state.encode().ok()?;
+    let read = State::decode(alloc, config, bytes.as_slice()).ok()?;
+    Some(read.equal(state))
+}
+
+/// Decides about an application, now and later, if the configuration has it.
+fn decides(config: &Config, state: &State, waits: &Waits, app: AppId) {
+    if app.0 >= config.apps() {
+        return;
+    }
+    let _verdict = verdict(config, state, app);
+    let _due = waits.due(config, state, app, 9_000);
+    for node in 0..config.nodes() {
+        let _eligible = eligible(config, state, app, NodeId(node));
+        let _load = load(config, state, app, NodeId(node));
+    }
+}
+
+/// Whether the state is decided on and printed.
+fn is_shown(alloc: Global, config: &Config, state: &State) -> Option<bool> {
+    let mut waits = Waits::new(alloc, config).ok()?;
+    waits.note(config, state, 3);
+    for app in 0..config.apps() {
+        decides(config, state, &waits, AppId(app));
+    }
+    let _opening = gate(config, state, 0, 9);
+    let text = page(alloc, config, &Summary::of(config, state)).ok()?;
+    Some(!text.as_slice().is_empty())
+}
+
+/// Whether a step is answered, whatever it is, and not for want of memory.
+fn is_answered(config: &Config, node: &mut Node, me: NodeId, event: Event) -> bool {
+    node.step(config, me, event).err() != Some(Refusal::NoMemory)
+}
+
+/// Whether every command about a node and an application is answered.
+fn takes_commands(config: &Config, node: &mut Node, me: NodeId, app: AppId, about: NodeId) -> bool {
+    [
+        Command::Permit {
+            app,
+            node: about,
+            value: false,
+        },
+        Command::Start { app, node: about },
+        Command::Takeover { app },
+        Command::Stop { app, node: about },
+        Command::Drain {
+            node: about,
+            value: true,
+        },
+        Command::Down { node: about },
+    ]
+    .iter()
+    .all(|command| is_answered(config, node, me, Event::Command(*command)))
+}
+
+/// Whether what the node ships to another, if anything, is read from its bytes.
+fn ships(alloc: Global, config: &Config, node: &mut Node, me: NodeId, to: NodeId) -> Option<bool> {
+    match node.step(config, me, Event::Ship { to }) {
+        Ok(Reply::Shipped(message)) => {
+            let bytes = encode(alloc, config, &Packet::Msg(message)).ok()?;
+            Some(decode(alloc, config, bytes.as_slice()).is_ok())
+        }
+        Ok(_reply) => Some(false),
+        Err(why) => Some(why != Refusal::NoMemory),
+    }
+}
+
+/// A message that brings the state to a node.
+fn message(state: &State, to: NodeId) -> Option<Message> {
+    Some(Message {
+        from: Origin {
+            node: NodeId(to.0.wrapping_add(1) % 3),
+            inc: 1,
+        },
+        to,
+        only: None,
+        up_to: 7,
+        body: Body::Whole(state.copy().ok()?),
+        ack: Some((Origin { node: to, inc: 1 }, 1)),
+    })
+}
+
+/// Whether a node hears the state, and answers all that it is asked then.
+fn hears(alloc: Global, config: &Config, state: &State, me: NodeId) -> Option<bool> {
+    let mut node = Node::off(alloc, 0);
+    let _up = node.step(config, me, Event::Boot { now: 0 }).ok()?;
+    let heard = node.step(config, me, Event::Hear(message(state, me)?));
+    let mut all = heard.is_ok();
+    for now in [10u64, 20, 9_000] {
+        all = all && is_answered(config, &mut node, me, Event::Tick { now });
+    }
+    for about in 0..3u8 {
+        let about = NodeId(about);
+        all = all && ships(alloc, config, &mut node, me, about)?;
+        all = all && takes_commands(config, &mut node, me, AppId(0), about);
+        all = all && takes_commands(config, &mut node, me, AppId(1), about);
+    }
+    Some(all && is_spelled(alloc, config, node.state()?)?)
+}
+
+/// Whether a state is borne beside another one, under a configuration of three nodes and two applications. `None` where memory
+/// ran out.
+pub fn is_borne(alloc: Global, config: &Config, state: &State, other: &State) -> Option<bool> {
+    let mut all = are_ordered(alloc, state, other)? && is_spelled(alloc, config, state)?;
+    all = all && is_shown(alloc, config, state)?;
+    for me in 0..3u8 {
+        all = all && hears(alloc, config, state, NodeId(me))?;
+    }
+    Some(all)
+}
