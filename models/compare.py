@@ -5,6 +5,7 @@ Usage: python3 compare.py PROGRAM [--seed S] [--count N] [--scripts M] [--live L
 
 PROGRAM may be a command of several words in one argument, as of a loader with its arguments. The word `check`, `sim` or `live`
 is added to it. A live run that hasn't ended after some minutes is a difference too. Packets are fed to `sim`, 500 by a script.
+The last line counts, and says whether PROGRAM is the proved program. Of a program elsewhere, as a copy, it says that it isn't.
 """
 
 from __future__ import annotations
@@ -19,6 +20,7 @@ from dataclasses import dataclass
 
 import check
 import live
+import programs
 import random_live
 import random_scripts
 import random_texts
@@ -124,8 +126,9 @@ def main() -> int:
     found = compare_all(words.program, words.seed, counts, words.jobs)
     if found:
         show(found[0])
-    packets = feeds * random_scripts.PACKETS
-    print(f"{words.count} texts, {words.scripts} scripts, {words.live} live scripts, {packets} packets, {len(found)} differences")
+    state = "proved" if programs.is_proved(words.program) else "not proved"
+    made = f"{words.count} texts, {words.scripts} scripts, {words.live} live scripts, {feeds * random_scripts.PACKETS} packets"
+    print(f"{made}, {len(found)} differences; the program is {state}")
     return 1 if found else 0
 
 

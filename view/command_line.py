@@ -7,7 +7,7 @@ import sys
 from typing import Callable
 
 from view.config_warnings import warnings_on
-from view.distac import Distac, found_distac
+from view.distac import MODELS, Distac, found_distac
 from view.loading import Faulty, Loaded, answers_of, load_config, load_script
 from view.looking import seen_lines
 from view.output import Output, Progress, drop_output, say
@@ -26,7 +26,8 @@ exit status:
   1  the file has a fault; with --strict, it has a warning
   2  wrong use, a file that can't be read or written, or no answer from distac
 
-The program distac is taken from --distac PATH, else from the environment variable DISTAC, else from beside this one.
+The program distac is taken from --distac PATH, else from the environment variable DISTAC, else from beside this one: the
+proved one, else one without proof, which is compiled first where there is none. --models asks the models in its place.
 A FILE that is a dash is standard input."""
 
 
@@ -112,7 +113,10 @@ Subcommand = Callable[[Distac, argparse.Namespace, Output], Status]
 def parser_of_words() -> argparse.ArgumentParser:
     """The parser of the command line."""
     shared = argparse.ArgumentParser(add_help=False)
-    shared.add_argument("--distac", metavar="PATH", help="the program distac that is asked")
+    asked = shared.add_mutually_exclusive_group()
+    asked.add_argument("--distac", metavar="PATH", help="the program distac that is asked")
+    more = "ask the models in its place: they need Python 3.10, and nothing of them is proved"
+    asked.add_argument("--models", dest="distac", action="store_const", const=MODELS, help=more)
     description = "For people around distac: where a fault is, what a script did, and what happens if a node goes down."
     parser = argparse.ArgumentParser("distac-view", description=description, epilog=EPILOG, formatter_class=Formatter)
     parser.add_argument("--version", action="version", version=VERSION)

@@ -9,10 +9,13 @@ from dataclasses import dataclass
 from pathlib import Path
 from typing import Callable
 
+from view.by_models import asked_of_models
+from view.output import say
 from view.problems import Problem
 from view.texts import bytes_of, text_of
 
 BESIDE = Path(__file__).resolve().parent.parent / "distac"
+MODELS = "--models"
 MOST_INPUT = 2_097_152
 
 Asked = Callable[[str, bytes], "tuple[bytes, int]"]
@@ -73,14 +76,52 @@ def joined(config: bytes, script: list[str]) -> bytes:
 
 
 def found_distac(named: str | None) -> Distac:
-    """The program by the command line, by the environment, or beside this one."""
-    path = named or os.environ.get("DISTAC") or str(BESIDE)
+    """The program by the command line, by the environment, or beside this one; or the models."""
+    if named == MODELS:
+        say("distac-view: the models answer, and nothing of them is proved")
+        return Distac(asked_of_models())
+    path = named or os.environ.get("DISTAC")
+    program = runnable(path) if path else program_beside()
+    return Distac(lambda word, source: run(program, word, source))
+
+
+def runnable(path: str) -> str:
+    """The program of this name or at this path."""
     program = shutil.which(path) if os.sep not in path else path
     if program is None or not os.path.isfile(program):
         raise Problem(f"no program distac at {path}: name one by --distac PATH or by the environment variable DISTAC")
     if not os.access(program, os.X_OK):
         raise Problem(f"{path} can't be run: it isn't executable")
-    return Distac(lambda word, source: run(program, word, source))
+    return program
+
+
+def program_beside() -> str:
+    """The program beside this one: the proved one, else one without proof, which is compiled first where there is none."""
+    state, path = which_answers()
+    if state not in ("proved", "not proved"):
+        say("distac-view: the program distac is compiled first, without proof, in a minute or two; --models asks the models instead")
+        launch("--unproved", "--help")
+        state, path = which_answers()
+    if state == "not proved":
+        say("distac-view: the program distac is NOT PROVED; ./distac prove proves it")
+    elif state != "proved":
+        raise Problem("the program distac couldn't be compiled: name one by --distac PATH, or ask the models by --models")
+    return path
+
+
+def which_answers() -> tuple[str, str]:
+    """What `./distac --which` says: the state of the program, and its path."""
+    state, _, path = text_of(launch("--which")).strip().partition(": ")
+    return state, path
+
+
+def launch(*words: str) -> bytes:
+    """What the script beside this one prints, with nothing to read."""
+    runnable(str(BESIDE))
+    try:
+        return subprocess.run([str(BESIDE), *words], stdin=subprocess.DEVNULL, stdout=subprocess.PIPE, check=False).stdout
+    except OSError as error:
+        raise Problem(f"{BESIDE} can't be run: {error.strerror or error}") from error
 
 
 def run(program: str, word: str, source: bytes) -> tuple[bytes, int]:

@@ -1,5 +1,5 @@
 #!/usr/bin/env python3
-"""A stand-in for `distac`, made of the models: for tests, and to try `distac-view` before the program is built."""
+"""A stand-in for `distac`, made of the models: what the tests ask where the environment names no program."""
 
 import sys
 from pathlib import Path

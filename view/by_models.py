@@ -1,0 +1,31 @@
+"""The models in place of the program `distac`: Python, and no proof."""
+
+from __future__ import annotations
+
+import sys
+from importlib import import_module
+from pathlib import Path
+from typing import Callable
+
+from view.problems import Problem
+
+FOLDER = Path(__file__).resolve().parent.parent / "models"
+OLDEST = (3, 10)
+
+
+def asked_of_models() -> Callable[[str, bytes], "tuple[bytes, int]"]:
+    """What answers as the program does: a function from a subcommand and its input to what is printed and the exit status."""
+    if sys.version_info < OLDEST:
+        raise Problem("the models need Python 3.10 or later")
+    sys.path.insert(0, str(FOLDER))
+    models = {"check": import_module("check").check, "sim": import_module("sim").simulate}
+
+    def asked(word: str, source: bytes) -> tuple[bytes, int]:
+        """The answer of a model."""
+        try:
+            printed, status = models[word](source)
+        except Exception as error:
+            raise Problem(f"the model of distac {word} gave no answer: {error or type(error).__name__}") from error
+        return printed, status
+
+    return asked
