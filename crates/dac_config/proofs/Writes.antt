@@ -130,7 +130,7 @@ words_spelled at depth (word ∷ words) h = (
     gap = [];
     parts = append_assoc (spelling_of word) (spelled_words words) (codes "\n");
     is_gap = Nothing;
-    place = omega arith;
+    offset = omega arith;
     spelled = word_spelled word words h.0;
   },
   words_spelled (at + length (spelling_of word)) (depth_behind depth word) words h.2,

@@ -16,7 +16,7 @@ use Rattle.dac_shapes.specs.Written.{Section}
 use Rattle.dac_shapes.specs.Grammar.{IsFile}
 use Rattle.dac_first_fault.specs.FirstFault.{StandsAt, Itself, InList, InTuple, CanBring, words, IsWell, IsFileWithinLimits, IsNoName, Only, Before, IsOfName, Breaks, rank, BeginsWith, IsFaultOf, Long, NoToken, Token, Ends, Nobody, CanBeginLoosely, Spoils, Brings, apps_in}
 use Rattle.dac_first_fault.proofs.Order.{words_append, well_so_far}
-use Rattle.dac_first_fault.proofs.Places.{name_or_not}
+use Rattle.dac_first_fault.proofs.Offsets.{name_or_not}
 use Rattle.dac_first_fault.proofs.Fewer.{keeps_fewer}
 
 -- ---- one name brings one fault

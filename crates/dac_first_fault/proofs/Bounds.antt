@@ -8,7 +8,7 @@ use Rattle.dac_shapes.specs.Written.{App, Param, Distributed, Permissions, Manda
 use Rattle.dac_shapes.specs.Limits.{Seen, nothing, AllMay, with_node, MayNode, with_nodes, MayNodes, MayGroups, listing, with_app, MayApp, with_permission, MayPermission, with_param, MayValue, MayParam, with_section, MaySection, MaySections}
 use Rattle.dac_first_fault.specs.Keeps.{NodeKeeps, NodesKeep, GroupsKeep, AppKeeps, PermissionKeeps, ValueKeeps, ParamKeeps, SectionKeeps, Keeps}
 use Rattle.dac_first_fault.proofs.Held.{IsQuiet, QuietBehind, Lone}
-use Rattle.dac_first_fault.proofs.Places.{Clear}
+use Rattle.dac_first_fault.proofs.Offsets.{Clear}
 
 -- ---- every limit
 

@@ -36,7 +36,7 @@ use Rattle.dac_first_fault.proofs.Loosely.{file_loose, sections_strict, file_str
 use Rattle.dac_first_fault.proofs.Order.{words_append}
 use Rattle.dac_first_fault.proofs.Fewer.{keeps_fewer}
 use Rattle.dac_first_fault.proofs.Bounds.{Every, sections_may, beyond, lone_beyond, lone_last, lone_two}
-use Rattle.dac_first_fault.proofs.Places.{At, Nowhere, Strictly, Clear, name_of_it, stops_so, fine_both, fine_nowhere, not_name, not_kept, name_or_not, last_named, spelled_fine, text_clear, text_fine, begins_front}
+use Rattle.dac_first_fault.proofs.Offsets.{At, Nowhere, Strictly, Clear, name_of_it, stops_so, fine_both, fine_nowhere, not_name, not_kept, name_or_not, last_named, spelled_fine, text_clear, text_fine, begins_front}
 use Rattle.dac_first_fault.proofs.HeldFile.{file_kept}
 
 brings_by : (w : Word) (ws : List Word) (k : FaultKind) → Breaks ws k → (IsNoName w → Spoils ws k) → Brings w ws k

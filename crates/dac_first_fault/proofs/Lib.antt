@@ -18,7 +18,7 @@ pub mod Past
 pub mod PastReaders
 pub mod PastSections
 pub mod Spared
-pub mod Places
+pub mod Offsets
 pub mod Bounds
 pub mod Fewer
 pub mod Order
