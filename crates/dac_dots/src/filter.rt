@@ -8,8 +8,8 @@ use dac_origins::Dot;
 /// How many slots there are: 32 by counter for each of 8 nodes.
 const SLOTS: usize = 256;
 
-/// A filter of dots, as a Bloom filter with one hash. Many dots have one slot, so one that is set tells nothing of a dot. One that isn't tells that none of
-/// its dots was put.
+/// A filter of dots, as a Bloom filter with one hash. Many dots have one slot: one that is set tells nothing of a dot,
+/// and one that isn't tells that none of its dots was put.
 #[derive(Clone, Copy, Debug)]
 pub(crate) struct DotFilter {
     pub(crate) slots: [bool; SLOTS],
