@@ -176,7 +176,8 @@ impl Journal {
     /// the answer. [`NoMemory`] is the only error, and leaves all as it was.
     pub fn commit(&mut self, next: Next) -> Result<(Call, Answer), NoMemory>
         requires room { length self.old.records < MOST }
-        requires follows { EndsAt self.old.beginning (self.old.records ++ next.entry ∷ []) next.node }
+        requires follows { EndsAt self.old.beginning (self.old.records ++ next.entry ∷ [])
+            next.node }
         ensures beginning { self.new.beginning ≡ self.old.beginning }
         ensures ok { IfOk result (λ _. self.new.records ≡ self.old.records ++ next.entry ∷ []) }
         ensures said { IfOk result (λ r. (r.0 ≡ next.call) × (r.1 ≡ next.entry.answer)) }

@@ -63,7 +63,8 @@ coded_running =
 
 -- the whole node
 abbrev pub coded_node_value : Coded NodeValue
-coded_node_value = code_by (ℕ × Option RunningValue) (coded× coded_ℕ (coded_option coded_running)) (λ v. (v.last, v.running))
+coded_node_value =
+    code_by (ℕ × Option RunningValue) (coded× coded_ℕ (coded_option coded_running)) (λ v. (v.last, v.running))
     (λ p. record { last = p.0; running = p.1 }) (λ _. refl)
 
 -- ---- a node as it is

@@ -98,7 +98,8 @@ Lacks t r _ = ⊥
 
 -- the node has acknowledged all deltas, and is owed no answer
 abbrev pub IsUpToDate : RunningValue → NodeId → Type 0
-IsUpToDate r to = (p : Position) × (IsPosition r to p × ((r.kept.count ≤ p.number) × (set.contains r.peers.owed to ≡ false)))
+IsUpToDate r to =
+    (p : Position) × (IsPosition r to p × ((r.kept.count ≤ p.number) × (set.contains r.peers.owed to ≡ false)))
 
 -- no incarnation of the node is live
 abbrev pub IsNotLive : StateValue → NodeId → Type 0

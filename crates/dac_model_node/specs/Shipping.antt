@@ -29,7 +29,8 @@ pub record IsPosition (r : RunningValue) (to : NodeId) (p : Position) : Type 0 w
 -- The whole state, for any incarnation, exactly where there is no such position. Else the body is for the incarnation
 -- of the position alone. It is what the log got from the position on, or nothing where the log ends there.
 abbrev pub IsBody : Table → ModelRunning → NodeId → Option ℕ → Body → Type 0
-IsBody t r to only (Whole s) = (only ≡ None) × ((s ≡ joined r.log) × ((p : Position) → ¬ IsPosition (running_shown t r) to p))
+IsBody t r to only (Whole s) =
+    (only ≡ None) × ((s ≡ joined r.log) × ((p : Position) → ¬ IsPosition (running_shown t r) to p))
 IsBody t r to only (Interval s) = (p : Position)
     × (IsPosition (running_shown t r) to p
     × ((only ≡ Some p.inc) × ((p.number < length r.log) × (s ≡ joined (drop p.number r.log)))))

@@ -174,11 +174,11 @@ impl Change {
 
     /// What an operation that comes by itself does at a running controller.
     pub(crate) fn hear_op(last: u64, running: &Running, operation: &Op) -> Result<Self, NoMemory>
-        ensures effect { IfOk result
-            (λ change. (t : Table) → Effect t last running.now (Event.HearOp operation.now) change) }
+        ensures effect { IfOk result (λ change. (t : Table)
+            → Effect t last running.now (Event.HearOp operation.now) change) }
         ensures after { IfOk result (λ change. change.after
-            ≡ After.GoesOn
-            (hearing (knowledge_of running.now) (meaning_of (operation.now ∷ [])) running.now.peers)) }
+            ≡ After.GoesOn (hearing (knowledge_of running.now) (meaning_of (operation.now ∷ []))
+            running.now.peers)) }
         ensures reply { IfOk result (λ change. change.reply
             ≡ Reply.Heard (not (is_below (meaning_of (operation.now ∷ [])) running.now.state))) }
     {

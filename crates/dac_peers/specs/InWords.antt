@@ -148,6 +148,8 @@ pub record AcksAreWithin : Type 0 where
   pub none : AcknowledgesAtMost 0 no_peers
   pub heard : (own : Origin) (count : ℕ) (p : PeersValue) (m : Message) → AcknowledgesAtMost count p
       → AcknowledgesAtMost count (heard_from own count p m)
-  pub shipped : (count : ℕ) (p : PeersValue) (to : NodeId) → AcknowledgesAtMost count p → AcknowledgesAtMost count (shipped_to p to)
-  pub begun : (count : ℕ) (p : PeersValue) (s : StateValue) (base : ℕ) (to : NodeId) (position : Position) → AcknowledgesAtMost count p
+  pub shipped : (count : ℕ) (p : PeersValue) (to : NodeId) → AcknowledgesAtMost count p
+      → AcknowledgesAtMost count (shipped_to p to)
+  pub begun : (count : ℕ) (p : PeersValue) (s : StateValue) (base : ℕ) (to : NodeId) (position : Position)
+      → AcknowledgesAtMost count p
       → begins p s base to ≡ Some position → position.number ≤ count

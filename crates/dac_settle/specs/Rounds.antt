@@ -44,7 +44,8 @@ pub record IsGrown (p : Placement) (s x : List Operation) : Type 0 where
 -- what is used of placement
 pub record IsPlacement (p : Placement) : Type 0 where
   -- the same set gives the same candidates
-  pub alike : (x y : List Operation) (app : AppId) → AreOperationsOf x y → AreOperationsOf y x → p.candidate x app ≡ p.candidate y app
+  pub alike : (x y : List Operation) (app : AppId) → AreOperationsOf x y → AreOperationsOf y x
+      → p.candidate x app ≡ p.candidate y app
   -- a candidate is live
   pub live : (x : List Operation) (app : AppId) (n : NodeId) → p.candidate x app ≡ Some n → p.IsLive x n
   -- claims make nobody live
@@ -54,7 +55,8 @@ pub record IsPlacement (p : Placement) : Type 0 where
   -- only what isn't settled is claimed well
   pub unsettled : (s : List Operation) (app : AppId) (o : Operation) → p.IsWell s app o → IsSome (p.candidate s app)
   -- a claim that is well made settles its application
-  pub settles : (s x : List Operation) (app : AppId) (o : Operation) → IsGrown p s x → IsOperationOf o x → p.IsWell s app o
+  pub settles : (s x : List Operation) (app : AppId) (o : Operation) → IsGrown p s x → IsOperationOf o x
+      → p.IsWell s app o
       → p.candidate x app ≡ None
   -- who is to make a claim makes it well
   pub well : (s x : List Operation) (app : AppId) (n : NodeId) → IsGrown p s x → p.candidate x app ≡ Some n

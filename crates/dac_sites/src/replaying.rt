@@ -48,7 +48,8 @@ pub fn replay(
     last: u64,
     records: &[Record],
 ) -> Result<Page, NoMemory>
-    ensures { IfOk result (λ page. page ≡ page_after (beginning_of config.now me last) records.now) }
+    ensures { IfOk result
+        (λ page. page ≡ page_after (beginning_of config.now me last) records.now) }
 {
     let mut node = Node::off(alloc, last);
     for i in 0..records.len() {

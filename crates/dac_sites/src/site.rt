@@ -56,8 +56,8 @@ impl<L: SiteName> Locked<L> {
         event: Event,
     ) -> Result<Receipt<L>, LiveFault>
         ensures number { seat.new.number ≡ seat.old.number }
-        ensures ok { IfOk result (λ r. CallAdded seat.old.calls seat.new.calls r.place event (Ok r.reply)
-            × (r.is_new ≡ true)) }
+        ensures ok { IfOk result (λ r. CallAdded seat.old.calls seat.new.calls r.place event
+            (Ok r.reply) × (r.is_new ≡ true)) }
         ensures err { IfErr result (λ e. CallRefused e seat.old.calls seat.new.calls event) }
         // The journal gets the same: what the seat keeps of the call is the record.
         ensures added { IfOk result (λ r. Added self.old.desk.journal.records
@@ -249,8 +249,8 @@ impl<L: SiteName> Site<L> {
         event: Event,
     ) -> Result<Receipt<L>, LiveFault>
         ensures number { seat.new.number ≡ seat.old.number }
-        ensures ok { IfOk result (λ r. CallAdded seat.old.calls seat.new.calls r.place event (Ok r.reply)
-            × (r.is_new ≡ true)) }
+        ensures ok { IfOk result (λ r. CallAdded seat.old.calls seat.new.calls r.place event
+            (Ok r.reply) × (r.is_new ≡ true)) }
         ensures err { IfErr result (λ e. CallRefused e seat.old.calls seat.new.calls event) }
         // The answer is the model node's after some history of the site's node, and its record is the next one.
         ensures taken { IfOk result
