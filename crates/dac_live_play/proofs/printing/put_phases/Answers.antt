@@ -29,7 +29,7 @@ loop-place-preserved c =
     c.index-answers-place.is
     c.loop-place.invariant
     (c.in_ok-extend_from_slice.ensures.items ∙ ap (λ lines. c.loop-place.text.items ++ lines)
-    (c.deref-in-loop-place.ensures.value ∙ c.in_ok-lines.ensures ∙ ap (phase_text c.args.config.now (c.loop-place.place + 1) c.index-parts-place.result.now) c.as_slice.ensures))
+    (c.deref-in-loop-place.ensures.value ∙ c.in_ok-lines.ensures ∙ ap (phase_text c.args.config.now (c.loop-place.place + 1) c.index-parts-place.result.now) c.as_slice-told.ensures))
 
 pub returns : goal.returns
 returns c =
