@@ -31,7 +31,7 @@ pub fn runs_converge()
 /// What the model's run of any list of events leaves, where memory is never refused. It is a run. All that every run
 /// leaves holds of the events, of their answers, and of what the world after them shows as.
 pub fn every_list_converges()
-    ensures running { RunsEachList }
+    ensures run { RunsEachList }
     ensures enough { OfEachList (λ t events answers v. IsEnough answers) }
     ensures shown { OfEachList RanAs }
     ensures converges { OfEachList Converges }
