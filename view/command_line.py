@@ -8,6 +8,7 @@ from typing import Callable
 
 from view.config_warnings import warnings_on
 from view.distac import Distac, found_distac
+from view.json_answers import what_if_answer
 from view.loading import Faulty, Loaded, answers_of, load_config, load_script
 from view.looking import seen_lines
 from view.output import Output, Progress, drop_output, say
@@ -16,7 +17,7 @@ from view.problems import Problem, Status
 from view.timeline import Drafting
 from view.web_page import page_text
 from view.what_if import Question, reply_to
-from view.what_if_texts import json_of, table_of
+from view.what_if_texts import otp_notes, table_of
 
 VERSION = "distac-view 1"
 MOST_DRAWN = 1_000
@@ -101,7 +102,7 @@ def write_page(path: str, text: str, output: Output) -> None:
 def what_if(distac: Distac, words: argparse.Namespace, output: Output) -> Status:
     """Prints what becomes of each application if nodes go down."""
     reply = reply_to(distac, Question(words.config, words.down, words.not_started, words.after))
-    for line in [json_of(reply)] if words.json else table_of(reply):
+    for line in [what_if_answer(reply, otp_notes(reply))] if words.json else table_of(reply):
         output.line(line)
     return Status.FINE
 

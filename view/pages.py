@@ -13,6 +13,7 @@ HELD = re.compile(
     rf"app (?P<app>{NAME}) holder (?:none|(?P<holder>{NAME}) (?P<inc>\d+) term (?P<term>\d+) (?P<how>{HOW}))"
     rf" verdict (?P<verdict>\w+)(?: (?P<at>{NAME}))?\Z"
 )
+MARK = re.compile(rf"(?P<node>{NAME})=(?P<mark>\w+)")
 CLAIM = re.compile(rf"claim \d+ (?P<app>{NAME}) term (?P<term>\d+) (?P<how>{HOW})\Z")
 
 
@@ -68,3 +69,8 @@ def held_of(found: "re.Match[str]", marks: str) -> Held:
     inc, term = int(found["inc"] or 0), int(found["term"] or 0)
     how, list_marks = found["how"] or "", marks[len("list ") :]
     return Held(found["app"], found["holder"], inc, term, how, found["verdict"], found["at"], list_marks)
+
+
+def marks_in(marks: str) -> list[tuple[str, str]]:
+    """The nodes of an application's list with their marks."""
+    return [(found["node"], found["mark"]) for found in MARK.finditer(marks)]
