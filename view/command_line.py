@@ -4,20 +4,21 @@ from __future__ import annotations
 
 import argparse
 import sys
-from typing import Callable
+from typing import IO, Callable
 
 from view.config_warnings import warnings_on
 from view.distac import Distac, found_distac
 from view.json_answers import what_if_answer
 from view.loading import Faulty, Loaded, answers_of, load_config, load_script
 from view.looking import seen_lines
-from view.output import Output, Progress, drop_output, say
+from view.output import Output, Progress, drop, open_streams, say, why_not_written
 from view.playing import answers_in, rows_of, unknown_names
 from view.problems import Problem, Status
 from view.timeline import Drafting
 from view.web_page import page_text
 from view.what_if import Question, reply_to
 from view.what_if_texts import otp_notes, table_of
+from view.writing import PIPE, write_whole
 
 VERSION = "distac-view 1"
 MOST_DRAWN = 1_000
@@ -68,7 +69,7 @@ def timeline(distac: Distac, words: argparse.Namespace, output: Output) -> Statu
     drafting = Drafting(loaded.configuration)
     for seen in seen_lines(distac, loaded, drawn.start, drawn.stop):
         drafting.add(seen)
-    write_page(words.output, page_text(words.script, drafting.finished(), left_out), output)
+    write_page(words.output, page_text(words.script, drafting.finished(), left_out), output, words.script)
     if left_out:
         say(f"distac-view: {left_out}")
     return Status.FINE
@@ -86,17 +87,13 @@ def drawn_lines(loaded: Loaded, first: int, most: int) -> tuple[range, str]:
     return range(start, stop), f"{numbers} are drawn: --from LINE and --lines N choose others"
 
 
-def write_page(path: str, text: str, output: Output) -> None:
+def write_page(path: str, text: str, output: Output, script: str) -> None:
     """Writes a page to a file, or to standard output for a dash."""
     data = text.encode("utf-8", "replace")
-    if path == "-":
+    if path == PIPE:
         output.raw(data)
-        return
-    try:
-        with open(path, "wb") as file:
-            file.write(data)
-    except (OSError, ValueError) as error:
-        raise Problem(f"{path} can't be written: {getattr(error, 'strerror', None) or error}") from error
+    else:
+        write_whole(path, data, [script])
 
 
 def what_if(distac: Distac, words: argparse.Namespace, output: Output) -> Status:
@@ -112,10 +109,10 @@ Subcommand = Callable[[Distac, argparse.Namespace, Output], Status]
 
 def parser_of_words() -> argparse.ArgumentParser:
     """The parser of the command line."""
-    shared = argparse.ArgumentParser(add_help=False)
+    shared = Parser(add_help=False)
     shared.add_argument("--distac", metavar="PATH", help="the program distac that is asked")
     description = "For people around distac: where a fault is, what a script did, and what happens if a node goes down."
-    parser = argparse.ArgumentParser("distac-view", description=description, epilog=EPILOG, formatter_class=Formatter)
+    parser = Parser("distac-view", description=description, epilog=EPILOG, formatter_class=Formatter)
     parser.add_argument("--version", action="version", version=VERSION)
     commands = parser.add_subparsers(title="subcommands", dest="command", metavar="check | play | timeline | what-if")
     for name, about, subcommand, add_words in SUBCOMMANDS:
@@ -123,6 +120,17 @@ def parser_of_words() -> argparse.ArgumentParser:
         own.set_defaults(subcommand=subcommand)
         add_words(own)
     return parser
+
+
+class Parser(argparse.ArgumentParser):
+    """A parser that tells where its help can't be written."""
+
+    def _print_message(self, message: str, file: IO[str] | None = None) -> None:
+        """Prints help, a version or a usage. What goes to standard output has to arrive."""
+        if file is sys.stdout:
+            file.write(message)
+        else:
+            say(message.rstrip("\n"))
 
 
 class Formatter(argparse.RawDescriptionHelpFormatter):
@@ -205,15 +213,25 @@ def watched(distac: Distac, progress: Progress) -> Distac:
 
 def main() -> int:
     """The whole program: nothing that comes of its input or of its surroundings is a traceback."""
+    open_streams()
     try:
-        return run(sys.argv[1:])
+        return ended(sys.argv[1:])
     except BrokenPipeError:
-        drop_output()
+        drop(sys.stdout)
         return Status.FINE
     except OSError as error:
-        drop_output()
-        say(f"distac-view: standard output can't be written: {error.strerror or error}")
+        drop(sys.stdout)
+        say(f"distac-view: standard output can't be written: {why_not_written(error)}")
         return Status.WRONG_USE
     except KeyboardInterrupt:
-        drop_output()
+        drop(sys.stdout)
         return 130
+
+
+def ended(arguments: list[str]) -> int:
+    """The exit status, once all is written. Help and wrong use end the program too."""
+    try:
+        return run(arguments)
+    except SystemExit as end:
+        sys.stdout.flush()
+        return int(end.code or 0)
