@@ -27,11 +27,16 @@ class Answer:
 
 
 class Distac:
-    """The program, asked by a function from its subcommand and its input to what it printed and its exit status."""
+    """The program, asked by a function from its subcommand and its input to what it printed and its exit status.
+
+    It counts the cases of a question, and those of them that are done, for the progress that is shown.
+    """
 
     def __init__(self, asked: Asked) -> None:
         self.asked = asked
         self.is_asked: Callable[[], None] = lambda: None
+        self.cases = 0
+        self.cases_done = 0
 
     def check(self, config: bytes) -> Answer:
         """What `distac check` says of a configuration."""
