@@ -17,7 +17,8 @@ from view.problems import Problem, Status
 from view.timeline import Drafting
 from view.web_page import page_text
 from view.what_if import Question, reply_to
-from view.what_if_texts import otp_notes, table_of
+from view.what_if_notes import notes_on
+from view.what_if_texts import table_of
 from view.writing import PIPE, write_whole
 
 VERSION = "distac-view 1"
@@ -98,8 +99,8 @@ def write_page(path: str, text: str, output: Output, script: str) -> None:
 
 def what_if(distac: Distac, words: argparse.Namespace, output: Output) -> Status:
     """Prints what becomes of each application if nodes go down."""
-    reply = reply_to(distac, Question(words.config, words.down, words.not_started, words.after))
-    for line in [what_if_answer(reply, otp_notes(reply))] if words.json else table_of(reply):
+    reply = reply_to(distac, Question(words.config, words.down, words.not_started, words.after, words.back))
+    for line in [what_if_answer(reply, notes_on(reply))] if words.json else table_of(reply, words.all):
         output.line(line)
     return Status.FINE
 
@@ -170,6 +171,8 @@ def what_if_words(parser: argparse.ArgumentParser) -> None:
     more = "nodes that come up without any application being started there"
     parser.add_argument("--not-started", metavar="NODE", nargs="+", action="extend", default=[], help=more)
     parser.add_argument("--after", metavar="SCRIPT", help="begin where this script ends, not with a cluster that just came up")
+    parser.add_argument("--back", metavar="NODE", nargs="+", action="extend", default=[], help="those of --down that come back, all if absent")
+    parser.add_argument("--all", action="store_true", help="show the rows of applications that stay too")
     parser.add_argument("--json", action="store_true", help="print the answer as JSON")
 
 

@@ -16,6 +16,7 @@ from view.cluster import Waiter
 from view.configuration import Configuration, name_order
 from view.distac import Distac
 from view.loading import Checked, load_config
+from view.noticing import USUAL_SECONDS, tick_time_of
 from view.openings import Side, opened, opened_after
 from view.pages import Held, Page
 from view.problems import Problem
@@ -80,6 +81,7 @@ class Reply:
     configuration: Configuration
     question: Question
     sides: list[Answers]
+    tick_time: int = USUAL_SECONDS
 
     @property
     def cases(self) -> list[Case]:
@@ -102,7 +104,7 @@ def reply_on(distac: Distac, checked: Checked, question: Question) -> Reply:
         groups = [[node for node in down if node in side.members]] if down else [[node] for node in side.members]
         losses = [Loss(group, [node for node in group if node in back or not back], not_started) for group in groups if group]
         found.append(Answers(side, cases_of(distac, side, losses)))
-    return Reply(checked.configuration, question, found)
+    return Reply(checked.configuration, question, found, tick_time_of(checked.text))
 
 
 def sides_of(distac: Distac, checked: Checked, question: Question, not_started: list[str]) -> list[Side]:

@@ -67,8 +67,9 @@ class Answers(unittest.TestCase):
         def ids_of(*words: str) -> Tuple[str, ...]:
             return tuple(note["id"] for note in self.expect("what-if", *words)["notes"])
 
-        self.assertEqual(ids_of(MANUAL), ("FirstTick", "TupleLoad", "StartedAgain"))
-        both = ids_of(MANUAL, "--not-started", "cp3@cave", "--down", "cp1@cave", "cp2@cave")
+        self.assertEqual(ids_of(MANUAL), ("Outage", "FirstTick", "TupleLoad", "StartedAgain"))
+        both = ids_of(MANUAL, "--not-started", "cp2@cave", "--down", "cp1@cave")
+        both += ids_of(MANUAL, "--down", "cp1@cave", "cp2@cave")
         self.assertTrue({"NotStarted", "NoSplit"} <= set(both), both)
 
 
