@@ -31,17 +31,19 @@ class Waiter:
 class Cluster:
     """Nodes that are up, can act and hear each other, by name, and the script that brought them here.
 
-    Beside them stand the nodes that gave up at their start gate, and those that still wait there.
+    Beside them stand the nodes that gave up at their start gate, those that still wait there, and the applications that are never
+    started.
     """
 
     story: Story
     nodes: list[str]
     ended: list[Waiter] = field(default_factory=list)
     waiting: list[Waiter] = field(default_factory=list)
+    unused: list[str] = field(default_factory=list)
 
     def copy(self) -> Cluster:
         """The same cluster, to be gone on with apart."""
-        return Cluster(self.story.copy(), list(self.nodes), list(self.ended), list(self.waiting))
+        return Cluster(self.story.copy(), list(self.nodes), list(self.ended), list(self.waiting), self.unused)
 
     @property
     def hub(self) -> str:
@@ -66,8 +68,12 @@ class Cluster:
     def start(self, nodes: Iterable[str]) -> None:
         """Everything that some nodes may run is started there. The hub says it."""
         for node in nodes:
-            names = [each.name for each in self.configuration.applications if node in each.nodes]
-            self.story.command(*(f"start {self.hub} {name} {node}" for name in names))
+            names = [each.name for each in self.configuration.applications if node in each.nodes and each.name not in self.unused]
+            self.start_at((name, node) for name in names)
+
+    def start_at(self, places: Iterable[tuple[str, str]]) -> None:
+        """Applications are started at nodes."""
+        self.story.command(*(f"start {self.hub} {name} {node}" for name, node in places))
 
     def crash(self, nodes: list[str]) -> None:
         """Nodes go down, and the first one of those that are left is told."""

@@ -99,7 +99,7 @@ def write_page(path: str, text: str, output: Output, script: str) -> None:
 
 def what_if(distac: Distac, words: argparse.Namespace, output: Output) -> Status:
     """Prints what becomes of each application if nodes go down."""
-    reply = reply_to(distac, Question(words.config, words.down, words.not_started, words.after, words.back))
+    reply = reply_to(distac, Question(words.config, words.down, words.not_started, words.after, words.back, words.now))
     for line in [what_if_answer(reply, notes_on(reply))] if words.json else table_of(reply, words.all):
         output.line(line)
     return Status.FINE
@@ -171,9 +171,16 @@ def what_if_words(parser: argparse.ArgumentParser) -> None:
     more = "nodes that come up without any application being started there"
     parser.add_argument("--not-started", metavar="NODE", nargs="+", action="extend", default=[], help=more)
     parser.add_argument("--after", metavar="SCRIPT", help="begin where this script ends, not with a cluster that just came up")
+    add_now(parser)
     parser.add_argument("--back", metavar="NODE", nargs="+", action="extend", default=[], help="those of --down that come back, all if absent")
     parser.add_argument("--all", action="store_true", help="show the rows of applications that stay too")
     parser.add_argument("--json", action="store_true", help="print the answer as JSON")
+
+
+def add_now(parser: argparse.ArgumentParser) -> None:
+    """The words that say where applications run now."""
+    where = "where applications run now: a file with a line NODE APP APP .. for each node that is up, or APP=NODE .."
+    parser.add_argument("--now", metavar="FILE", nargs="+", action="extend", default=[], help=where)
 
 
 SUBCOMMANDS: "list[tuple[str, str, Subcommand, Callable[[argparse.ArgumentParser], None]]]" = [

@@ -20,6 +20,7 @@ from view.noticing import USUAL_SECONDS, tick_time_of
 from view.openings import Side, opened, opened_after
 from view.pages import Held, Page
 from view.problems import Problem
+from view.running_now import opened_now, placed_by
 from view.texts import shown
 from view.tokens import BARE_ATOM, name_of
 
@@ -28,13 +29,17 @@ MOST_AT_ONCE = 8
 
 @dataclass(frozen=True)
 class Question:
-    """What is asked: the configuration, which nodes go down together and come back, where nothing is started, and after which script."""
+    """What is asked: the configuration, which nodes go down together and come back, where nothing is started, and how it begins.
+
+    It begins after a script, or with applications where they run now, or with a cluster that just came up.
+    """
 
     config: str
     down: list[str] = field(default_factory=list)
     not_started: list[str] = field(default_factory=list)
     after: str | None = None
     back: list[str] = field(default_factory=list)
+    now: list[str] = field(default_factory=list)
 
 
 @dataclass(frozen=True)
@@ -109,6 +114,10 @@ def reply_on(distac: Distac, checked: Checked, question: Question) -> Reply:
 
 def sides_of(distac: Distac, checked: Checked, question: Question, not_started: list[str]) -> list[Side]:
     """How the question begins."""
+    if question.now:
+        if question.after or not_started:
+            raise Problem("--now can't stand beside --after or --not-started: it says itself what runs where")
+        return [opened_now(distac, checked, placed_by(question.now, checked.configuration))]
     if question.after:
         return opened_after(distac, checked, question.after)
     return [opened(distac, checked, not_started)]

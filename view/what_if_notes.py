@@ -19,7 +19,7 @@ MOST_NAMED = 8
 
 def notes_on(reply: Reply) -> list[Note]:
     """All notes, each sentence once."""
-    found = [*opening_notes(reply), *gate_notes(reply), *time_notes(reply), *otp_notes(reply)]
+    found = [*opening_notes(reply), *now_notes(reply), *gate_notes(reply), *time_notes(reply), *otp_notes(reply)]
     return list(dict.fromkeys(found))
 
 
@@ -31,6 +31,20 @@ def opening_notes(reply: Reply) -> Iterator[Note]:
         yield Note("EndsInSplit", shown(f"--after ends in a split: {parts}. Each side is asked by itself, and both may run an application."))
     for side in sides:
         yield from side_notes(side)
+
+
+def now_notes(reply: Reply) -> Iterator[Note]:
+    """What distac moves at once from where it runs now, and what runs nowhere."""
+    if not reply.question.now:
+        return
+    for answers in reply.sides:
+        for held in answers.side.page.held.values():
+            if held.verdict == "takeover":
+                text = f"Here {held.at} takes over {held.app} at once: OTP leaves it at {held.holder} until {held.at} starts it."
+                yield Note("MovesAtOnce", shown(text))
+        unused = answers.side.cluster.unused
+        if unused:
+            yield Note("NotRunning", shown(f"By --now {few_of(unused)} {'runs' if len(unused) == 1 else 'run'} nowhere: no node starts it."))
 
 
 def side_notes(side: Side) -> Iterator[Note]:
@@ -142,4 +156,4 @@ def is_of_tuple(reply: Reply, fate: Fate) -> bool:
 def is_guessed(reply: Reply) -> bool:
     """Whether nobody said where applications run, and the load of a tuple's nodes decides it."""
     is_chosen = any(len(each.groups[0]) > 1 for each in reply.configuration.applications)
-    return not reply.question.after and is_chosen and len(reply.configuration.applications) > 1
+    return not reply.question.after and not reply.question.now and is_chosen and len(reply.configuration.applications) > 1
