@@ -9,6 +9,9 @@ from typing import IO, Callable
 from view.config_warnings import warnings_on
 from view.distac import Distac, found_distac
 from view.json_answers import what_if_answer
+from view.load import load_of
+from view.load_texts import budget_faults
+from view.load_texts import table_of as load_table
 from view.loading import Faulty, Loaded, answers_of, load_config, load_script
 from view.looking import seen_lines
 from view.output import Output, Progress, drop, open_streams, say, why_not_written
@@ -105,6 +108,23 @@ def what_if(distac: Distac, words: argparse.Namespace, output: Output) -> Status
     return Status.FINE
 
 
+def load(distac: Distac, words: argparse.Namespace, output: Output) -> Status:
+    """Prints how many applications each node has under each loss, and holds them to a budget."""
+    fail_on = [part for word in words.fail_on for part in word.split(",") if part]
+    if not set(fail_on) <= {"lost", "load"}:
+        raise Problem("--fail-on takes lost, load, or both parted by a comma")
+    if "load" in fail_on and words.most is None:
+        raise Problem("--fail-on load wants --most N: how many applications a node may have")
+    found = load_of(distac, Question(words.config, now=words.now), words.pairs)
+    for line in load_table(found, words.most):
+        output.line(line)
+    output.flush()
+    faults = list(budget_faults(found, fail_on, words.most))
+    for fault in faults:
+        say(f"distac-view: {fault}")
+    return Status.FAULT if faults else Status.FINE
+
+
 Subcommand = Callable[[Distac, argparse.Namespace, Output], Status]
 
 
@@ -115,7 +135,7 @@ def parser_of_words() -> argparse.ArgumentParser:
     description = "For people around distac: where a fault is, what a script did, and what happens if a node goes down."
     parser = Parser("distac-view", description=description, epilog=EPILOG, formatter_class=Formatter)
     parser.add_argument("--version", action="version", version=VERSION)
-    commands = parser.add_subparsers(title="subcommands", dest="command", metavar="check | play | timeline | what-if")
+    commands = parser.add_subparsers(title="subcommands", dest="command", metavar=" | ".join(row[0] for row in SUBCOMMANDS))
     for name, about, subcommand, add_words in SUBCOMMANDS:
         own = commands.add_parser(name, parents=[shared], help=about, description=about, epilog=EPILOG, formatter_class=Formatter)
         own.set_defaults(subcommand=subcommand)
@@ -177,6 +197,16 @@ def what_if_words(parser: argparse.ArgumentParser) -> None:
     parser.add_argument("--json", action="store_true", help="print the answer as JSON")
 
 
+def load_words(parser: argparse.ArgumentParser) -> None:
+    """The words of `load`."""
+    parser.add_argument("config", metavar="CONFIG", help="a configuration, as erl -config takes it")
+    add_now(parser)
+    parser.add_argument("--pairs", action="store_true", help="ask about each two nodes that go down together too")
+    parser.add_argument("--most", metavar="N", type=int, help="how many applications a node may have")
+    budget = "make the exit status 1 if an application is lost, or if a node has more than --most: lost, load or lost,load"
+    parser.add_argument("--fail-on", metavar="WHAT", nargs="+", action="extend", default=[], help=budget)
+
+
 def add_now(parser: argparse.ArgumentParser) -> None:
     """The words that say where applications run now."""
     where = "where applications run now: a file with a line NODE APP APP .. for each node that is up, or APP=NODE .."
@@ -188,6 +218,7 @@ SUBCOMMANDS: "list[tuple[str, str, Subcommand, Callable[[argparse.ArgumentParser
     ("play", "Plays a script and prints each answer beside its line.", play, play_words),
     ("timeline", "Draws what a script did, as one page for a browser.", timeline, timeline_words),
     ("what-if", "Says where each application goes if a node goes down, and once the node is back.", what_if, what_if_words),
+    ("load", "Says how many applications each node has if a node goes down, and what is lost then.", load, load_words),
 ]
 
 
