@@ -17,6 +17,8 @@ from view.looking import seen_lines
 from view.output import Output, Progress, drop, open_streams, say, why_not_written
 from view.playing import answers_in, rows_of, unknown_names
 from view.problems import Problem, Status
+from view.rolling import rolling_of
+from view.rolling_texts import lines_of
 from view.timeline import Drafting
 from view.web_page import page_text
 from view.what_if import Question, reply_to
@@ -125,6 +127,14 @@ def load(distac: Distac, words: argparse.Namespace, output: Output) -> Status:
     return Status.FAULT if faults else Status.FINE
 
 
+def rolling(distac: Distac, words: argparse.Namespace, output: Output) -> Status:
+    """Prints the steps of a rolling restart, in a given order or in the best one."""
+    found = rolling_of(distac, Question(words.config, now=words.now), words.order, words.drain)
+    for line in lines_of(found, words.drain):
+        output.line(line)
+    return Status.FAULT if found.is_barred else Status.FINE
+
+
 Subcommand = Callable[[Distac, argparse.Namespace, Output], Status]
 
 
@@ -207,6 +217,15 @@ def load_words(parser: argparse.ArgumentParser) -> None:
     parser.add_argument("--fail-on", metavar="WHAT", nargs="+", action="extend", default=[], help=budget)
 
 
+def rolling_words(parser: argparse.ArgumentParser) -> None:
+    """The words of `rolling`."""
+    parser.add_argument("config", metavar="CONFIG", help="a configuration, as erl -config takes it")
+    add_now(parser)
+    order = "restart these nodes in this order; if absent, the best order of all nodes is looked for"
+    parser.add_argument("--order", metavar="NODE", nargs="+", action="extend", default=[], help=order)
+    parser.add_argument("--drain", action="store_true", help="drain each node before it goes down, so that nothing waits")
+
+
 def add_now(parser: argparse.ArgumentParser) -> None:
     """The words that say where applications run now."""
     where = "where applications run now: a file with a line NODE APP APP .. for each node that is up, or APP=NODE .."
@@ -218,6 +237,7 @@ SUBCOMMANDS: "list[tuple[str, str, Subcommand, Callable[[argparse.ArgumentParser
     ("play", "Plays a script and prints each answer beside its line.", play, play_words),
     ("timeline", "Draws what a script did, as one page for a browser.", timeline, timeline_words),
     ("what-if", "Says where each application goes if a node goes down, and once the node is back.", what_if, what_if_words),
+    ("rolling", "Says what moves in each step of a rolling restart, and finds the best order.", rolling, rolling_words),
     ("load", "Says how many applications each node has if a node goes down, and what is lost then.", load, load_words),
 ]
 
