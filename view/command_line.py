@@ -6,6 +6,8 @@ import argparse
 import sys
 from typing import IO, Callable
 
+from view.changes import changes_by
+from view.changes_texts import lines_of as changes_lines
 from view.config_warnings import warnings_on
 from view.distac import Distac, found_distac
 from view.json_answers import what_if_answer
@@ -18,7 +20,7 @@ from view.output import Output, Progress, drop, open_streams, say, why_not_writt
 from view.playing import answers_in, rows_of, unknown_names
 from view.problems import Problem, Status
 from view.rolling import rolling_of
-from view.rolling_texts import lines_of
+from view.rolling_texts import lines_of as rolling_lines
 from view.timeline import Drafting
 from view.web_page import page_text
 from view.what_if import Question, reply_to
@@ -103,11 +105,27 @@ def write_page(path: str, text: str, output: Output, script: str) -> None:
 
 
 def what_if(distac: Distac, words: argparse.Namespace, output: Output) -> Status:
-    """Prints what becomes of each application if nodes go down."""
-    reply = reply_to(distac, Question(words.config, words.down, words.not_started, words.after, words.back, words.now))
+    """Prints what becomes of each application if nodes go down, or what a new configuration changes."""
+    question = Question(words.config, words.down, words.not_started, words.after, words.back, words.now)
+    if words.then:
+        return what_changes(distac, question, words.then, output)
+    reply = reply_to(distac, question)
     for line in [what_if_answer(reply, notes_on(reply))] if words.json else table_of(reply, words.all):
         output.line(line)
     return Status.FINE
+
+
+def what_changes(distac: Distac, question: Question, path: str, output: Output) -> Status:
+    """Prints what a new configuration changes. The status is 1 if it changes anything, and 2 for all trouble, faults too."""
+    try:
+        changes = changes_by(distac, question, path)
+    except Faulty as faulty:
+        raise Problem(faulty.remark.text(faulty.path)) from faulty
+    except Problem as problem:
+        raise Problem(problem.sentence) from problem
+    for line in changes_lines(changes):
+        output.line(line)
+    return Status.FAULT if changes.are_any else Status.FINE
 
 
 def load(distac: Distac, words: argparse.Namespace, output: Output) -> Status:
@@ -130,7 +148,7 @@ def load(distac: Distac, words: argparse.Namespace, output: Output) -> Status:
 def rolling(distac: Distac, words: argparse.Namespace, output: Output) -> Status:
     """Prints the steps of a rolling restart, in a given order or in the best one."""
     found = rolling_of(distac, Question(words.config, now=words.now), words.order, words.drain)
-    for line in lines_of(found, words.drain):
+    for line in rolling_lines(found, words.drain):
         output.line(line)
     return Status.FAULT if found.is_barred else Status.FINE
 
@@ -203,6 +221,8 @@ def what_if_words(parser: argparse.ArgumentParser) -> None:
     parser.add_argument("--after", metavar="SCRIPT", help="begin where this script ends, not with a cluster that just came up")
     add_now(parser)
     parser.add_argument("--back", metavar="NODE", nargs="+", action="extend", default=[], help="those of --down that come back, all if absent")
+    then = "say what this configuration changes in place of CONFIG: the exit status is 1 if it changes anything"
+    parser.add_argument("--then", metavar="NEW.config", help=then)
     parser.add_argument("--all", action="store_true", help="show the rows of applications that stay too")
     parser.add_argument("--json", action="store_true", help="print the answer as JSON")
 
@@ -269,6 +289,7 @@ def run(arguments: list[str]) -> int:
 def watched(distac: Distac, progress: Progress) -> Distac:
     """The program, with each question to it told to the progress."""
     distac.is_asked = progress.ask
+    progress.cases = lambda: (distac.cases_done, distac.cases)
     return distac
 
 

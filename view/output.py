@@ -7,7 +7,7 @@ import os
 import sys
 import threading
 import time
-from typing import TextIO
+from typing import Callable, TextIO
 
 from view.texts import bytes_of
 
@@ -83,6 +83,7 @@ class Progress:
 
     def __init__(self) -> None:
         self.times_asked = 0
+        self.cases: Callable[[], tuple[int, int]] = lambda: (0, 0)
         self.start = time.monotonic()
         self.is_over = threading.Event()
         self.thread: threading.Thread | None = None
@@ -94,6 +95,12 @@ class Progress:
         """A question goes to `distac`."""
         self.times_asked += 1
 
+    @property
+    def what(self) -> str:
+        """What goes on: which case is played, or how many questions went to `distac`."""
+        done, cases = self.cases()
+        return f"case {min(done + 1, cases)} of {cases}" if cases else f"question {self.times_asked} to distac"
+
     def show(self) -> None:
         """Shows twice a second what goes on."""
         has_shown = False
@@ -101,7 +108,7 @@ class Progress:
             seconds = time.monotonic() - self.start
             if seconds > SILENT_SECONDS:
                 has_shown = True
-                sys.stderr.write(f"\r\033[Kdistac-view: question {self.times_asked} to distac, {seconds:.0f} s")
+                sys.stderr.write(f"\r\033[Kdistac-view: {self.what}, {seconds:.0f} s")
                 sys.stderr.flush()
         if has_shown:
             sys.stderr.write("\r\033[K")

@@ -6,7 +6,7 @@ A line of the file is a node that is up and the distributed applications that ru
 from __future__ import annotations
 
 import os
-from dataclasses import dataclass
+from dataclasses import dataclass, field
 
 from view.cluster import Cluster, take_round
 from view.configuration import Application, Configuration
@@ -22,10 +22,11 @@ from view.tokens import BARE_ATOM, name_of
 
 @dataclass(frozen=True)
 class Placed:
-    """Where each application runs that runs at all, and which nodes are up."""
+    """Where each application runs that runs at all, which nodes are up, and what is started everywhere and runs nowhere yet."""
 
     places: dict[str, str]
     up: list[str]
+    fresh: list[str] = field(default_factory=list)
 
 
 def placed_by(words: list[str], configuration: Configuration) -> Placed:
@@ -92,7 +93,7 @@ def named(what: str, word: str, names: list[str], where: str) -> str:
 def opened_now(distac: Distac, checked: Checked, placed: Placed) -> Side:
     """A cluster in which applications run where they do. What would move at the next ticks hasn't moved yet."""
     configuration = checked.configuration
-    unused = [name for name in configuration.names if name not in placed.places]
+    unused = [name for name in configuration.names if name not in placed.places and name not in placed.fresh]
     cluster = Cluster(new_story(checked), [], unused=unused)
     open_gates(distac, cluster, placed.up)
     for app, node in placed.places.items():
@@ -102,7 +103,7 @@ def opened_now(distac: Distac, checked: Checked, placed: Placed) -> Side:
         cluster.start_at(placed.places.items())
         cluster.tell()
         take_round(distac, cluster)
-        start_elsewhere(cluster, placed)
+    start_elsewhere(cluster, placed)
     page = cluster.page(distac)
     for app, node in placed.places.items():
         if page.held[app].runs_at != node:
@@ -124,8 +125,9 @@ def open_gates(distac: Distac, cluster: Cluster, up: list[str]) -> None:
 
 def start_elsewhere(cluster: Cluster, placed: Placed) -> None:
     """What runs is started at all other nodes of its list too, and no node ticks."""
-    listed_ones = [(app, node) for app in placed.places for node in application_of(app, cluster.configuration).nodes]
-    others = [(app, node) for app, node in listed_ones if node in cluster.nodes and node != placed.places[app]]
+    apps = [*placed.places, *placed.fresh]
+    listed_ones = [(app, node) for app in apps for node in application_of(app, cluster.configuration).nodes]
+    others = [(app, node) for app, node in listed_ones if node in cluster.nodes and node != placed.places.get(app)]
     if others:
         cluster.start_at(others)
         cluster.tell()

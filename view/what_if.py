@@ -20,7 +20,7 @@ from view.noticing import USUAL_SECONDS, tick_time_of
 from view.openings import Side, opened, opened_after
 from view.pages import Held, Page
 from view.problems import Problem
-from view.running_now import opened_now, placed_by
+from view.running_now import Placed, opened_now, placed_by
 from view.texts import shown
 from view.tokens import BARE_ATOM, name_of
 
@@ -40,6 +40,7 @@ class Question:
     after: str | None = None
     back: list[str] = field(default_factory=list)
     now: list[str] = field(default_factory=list)
+    placed: Placed | None = None
 
 
 @dataclass(frozen=True)
@@ -117,7 +118,7 @@ def sides_of(distac: Distac, checked: Checked, question: Question, not_started: 
     if question.now:
         if question.after or not_started:
             raise Problem("--now can't stand beside --after or --not-started: it says itself what runs where")
-        return [opened_now(distac, checked, placed_by(question.now, checked.configuration))]
+        return [opened_now(distac, checked, question.placed or placed_by(question.now, checked.configuration))]
     if question.after:
         return opened_after(distac, checked, question.after)
     return [opened(distac, checked, not_started)]

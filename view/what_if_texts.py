@@ -73,10 +73,10 @@ def cells_of(fate: Fate, tick_time: int) -> tuple[str, ...]:
 def lines_of_rows(rows: Iterable[tuple[str, ...]]) -> Iterator[str]:
     """Rows as lines with columns of equal width. A row may end early, and what it ends with widens no column."""
     all_rows = list(rows)
-    count = max(map(len, all_rows))
+    count = max(map(len, all_rows), default=0)
     whole = [row for row in all_rows if len(row) == count]
     widths = [max(columns_of(row[place]) for row in whole) for place in range(count)]
-    widths[0] = max(columns_of(row[0]) for row in all_rows)
+    widths[:1] = [max(columns_of(row[0]) for row in all_rows)] if all_rows else []
     for row in all_rows:
         yield "  ".join(padded(cell, width) for cell, width in zip(row, widths)).rstrip()
 
