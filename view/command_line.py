@@ -6,8 +6,10 @@ import argparse
 import sys
 from typing import IO, Callable
 
+from view.completion import bash_completion
 from view.config_warnings import warnings_on
 from view.distac import Distac, found_distac
+from view.help_texts import EPILOG, epilog_of
 from view.json_answers import what_if_answer
 from view.loading import Faulty, Loaded, answers_of, load_config, load_script
 from view.looking import seen_lines
@@ -22,22 +24,22 @@ from view.writing import PIPE, write_whole
 
 VERSION = "distac-view 1"
 MOST_DRAWN = 1_000
-EPILOG = """\
-exit status:
-  0  done
-  1  the file has a fault; with --strict, it has a warning
-  2  wrong use, a file that can't be read or written, or no answer from distac
-
-The program distac is taken from --distac PATH, else from the environment variable DISTAC, else from beside this one.
-A FILE that is a dash is standard input."""
 
 
 def check(distac: Distac, words: argparse.Namespace, output: Output) -> Status:
-    """Prints the canonical text of a configuration, with warnings on standard error."""
-    checked = load_config(distac, words.file)
-    output.line(checked.canonical)
+    """Prints the canonical text of each configuration, with warnings on standard error. The worst status counts."""
+    return max([check_one(distac, words, path, output) for path in words.files])
+
+
+def check_one(distac: Distac, words: argparse.Namespace, path: str, output: Output) -> Status:
+    """Prints the canonical text of a configuration: behind its name, if there are several."""
+    try:
+        checked = load_config(distac, path)
+    except (Faulty, Problem) as ended:
+        return told(ended, output)
+    output.line((f"{path}: " if len(words.files) > 1 else "") + checked.canonical)
     output.flush()
-    return warned(words, [remark.text(words.file) for remark in warnings_on(checked)])
+    return warned(words, [remark.text(path) for remark in warnings_on(checked)])
 
 
 def play(distac: Distac, words: argparse.Namespace, output: Output) -> Status:
@@ -109,17 +111,28 @@ Subcommand = Callable[[Distac, argparse.Namespace, Output], Status]
 
 def parser_of_words() -> argparse.ArgumentParser:
     """The parser of the command line."""
-    shared = Parser(add_help=False)
-    shared.add_argument("--distac", metavar="PATH", help="the program distac that is asked")
     description = "For people around distac: where a fault is, what a script did, and what happens if a node goes down."
     parser = Parser("distac-view", description=description, epilog=EPILOG, formatter_class=Formatter)
     parser.add_argument("--version", action="version", version=VERSION)
-    commands = parser.add_subparsers(title="subcommands", dest="command", metavar="check | play | timeline | what-if")
+    more = "print what bash reads to complete the words of distac-view"
+    parser.add_argument("--print-completion", choices=["bash"], metavar="bash", help=more)
+    program_words(parser, None)
+    shared = Parser(add_help=False)
+    program_words(shared, argparse.SUPPRESS)
+    names = " | ".join(name for name, _, _, _ in SUBCOMMANDS)
+    commands = parser.add_subparsers(title="subcommands", dest="command", metavar=names)
     for name, about, subcommand, add_words in SUBCOMMANDS:
-        own = commands.add_parser(name, parents=[shared], help=about, description=about, epilog=EPILOG, formatter_class=Formatter)
+        own = commands.add_parser(
+            name, parents=[shared], help=about, description=about, epilog=epilog_of(name), formatter_class=Formatter
+        )
         own.set_defaults(subcommand=subcommand)
         add_words(own)
     return parser
+
+
+def program_words(parser: argparse.ArgumentParser, default: str | None) -> None:
+    """Which program is asked. It may be said before the subcommand or behind it."""
+    parser.add_argument("--distac", metavar="PATH", default=default, help="the program distac that is asked")
 
 
 class Parser(argparse.ArgumentParser):
@@ -142,7 +155,7 @@ class Formatter(argparse.RawDescriptionHelpFormatter):
 
 def check_words(parser: argparse.ArgumentParser) -> None:
     """The words of `check`."""
-    parser.add_argument("file", metavar="FILE", help="a configuration, as erl -config takes it")
+    parser.add_argument("files", metavar="FILE", nargs="+", help="a configuration, as erl -config takes it")
     parser.add_argument("--strict", action="store_true", help="a warning makes the exit status 1")
 
 
@@ -185,24 +198,32 @@ def run(arguments: list[str]) -> int:
     """Does what the command line says. The exit status."""
     parser = parser_of_words()
     words = parser.parse_args(arguments)
+    if words.print_completion:
+        sys.stdout.write(bash_completion(parser))
+        return Status.FINE
     if words.command is None:
         parser.print_usage(sys.stderr)
         return Status.WRONG_USE
     output, progress = Output(), Progress()
     try:
-        status = words.subcommand(watched(found_distac(words.distac), progress), words, output)
+        status: Status = words.subcommand(watched(found_distac(words.distac), progress), words, output)
         output.flush()
         return status
-    except Faulty as faulty:
-        output.line(faulty.remark.text(faulty.path))
-        output.flush()
-        return Status.FAULT
-    except Problem as problem:
+    except (Faulty, Problem) as ended:
         progress.end()
-        say(f"distac-view: {problem.sentence}")
-        return problem.status
+        return told(ended, output)
     finally:
         progress.end()
+
+
+def told(ended: Faulty | Problem, output: Output) -> Status:
+    """Says what ended a subcommand, or its work on one of several files. The exit status of that."""
+    if isinstance(ended, Faulty):
+        output.line(ended.remark.text(ended.path))
+        output.flush()
+        return Status.FAULT
+    say(f"distac-view: {ended.sentence}")
+    return ended.status
 
 
 def watched(distac: Distac, progress: Progress) -> Distac:
@@ -215,7 +236,7 @@ def main() -> int:
     """The whole program: nothing that comes of its input or of its surroundings is a traceback."""
     open_streams()
     try:
-        return ended(sys.argv[1:])
+        return finished(sys.argv[1:])
     except BrokenPipeError:
         drop(sys.stdout)
         return Status.FINE
@@ -228,10 +249,11 @@ def main() -> int:
         return 130
 
 
-def ended(arguments: list[str]) -> int:
+def finished(arguments: list[str]) -> int:
     """The exit status, once all is written. Help and wrong use end the program too."""
     try:
-        return run(arguments)
+        status = run(arguments)
     except SystemExit as end:
-        sys.stdout.flush()
-        return int(end.code or 0)
+        status = int(end.code or 0)
+    sys.stdout.flush()
+    return status
