@@ -16,7 +16,9 @@ from view.looking import seen_lines
 from view.output import Output, Progress, drop, open_streams, say, why_not_written
 from view.playing import answers_in, rows_of, unknown_names
 from view.problems import Problem, Status
+from view.texts import shown
 from view.timeline import Drafting
+from view.verbs import Role, fits
 from view.web_page import page_text
 from view.what_if import Question, reply_to
 from view.what_if_texts import otp_notes, table_of
@@ -172,8 +174,15 @@ def timeline_words(parser: argparse.ArgumentParser) -> None:
     """The words of `timeline`."""
     parser.add_argument("script", metavar="SCRIPT", help="a configuration, a line --, and the lines of a script")
     parser.add_argument("-o", "--output", metavar="FILE.html", required=True, help="the page that is written")
-    parser.add_argument("--from", dest="first", metavar="LINE", type=int, default=1, help="the first line that is drawn")
-    parser.add_argument("--lines", metavar="N", type=int, default=MOST_DRAWN, help="how many lines are drawn, 1000 if absent")
+    parser.add_argument("--from", dest="first", metavar="LINE", type=count_from_one, default=1, help="the first line that is drawn")
+    parser.add_argument("--lines", metavar="N", type=count_from_one, default=MOST_DRAWN, help="how many lines are drawn, 1000 if absent")
+
+
+def count_from_one(word: str) -> int:
+    """A count that the command line gives."""
+    if not fits(Role.NUMBER, word) or word == "0":
+        raise argparse.ArgumentTypeError(f"a count from 1 on is wanted, in decimal digits, and not {shown(word)}")
+    return int(word)
 
 
 def what_if_words(parser: argparse.ArgumentParser) -> None:
