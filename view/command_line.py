@@ -22,6 +22,7 @@ from view.verbs import Role, fits
 from view.web_page import page_text
 from view.what_if import Question, reply_to
 from view.what_if_texts import otp_notes, table_of
+from view.wide_states import too_wide
 from view.writing import PIPE, write_whole
 
 VERSION = "distac-view 1"
@@ -54,7 +55,7 @@ def play(distac: Distac, words: argparse.Namespace, output: Output) -> Status:
     for row in rows_of(each, words.explain or output.is_terminal):
         output.line(row)
     output.flush()
-    remarks = unknown_names(each, loaded.configuration)
+    remarks = [*unknown_names(each, loaded.configuration), *too_wide(each)]
     return warned(words, [remark.text(words.script) for remark in remarks])
 
 
@@ -68,7 +69,7 @@ def warned(words: argparse.Namespace, warnings: list[str]) -> Status:
 def timeline(distac: Distac, words: argparse.Namespace, output: Output) -> Status:
     """Writes the page of a script's timeline."""
     loaded = load_script(distac, words.script)
-    answers_of(distac, loaded)
+    remarks = list(too_wide(answers_of(distac, loaded)))
     drawn, left_out = drawn_lines(loaded, words.first, words.lines)
     drafting = Drafting(loaded.configuration)
     for seen in seen_lines(distac, loaded, drawn.start, drawn.stop):
@@ -76,6 +77,8 @@ def timeline(distac: Distac, words: argparse.Namespace, output: Output) -> Statu
     write_page(words.output, page_text(words.script, drafting.finished(), left_out), output, words.script)
     if left_out:
         say(f"distac-view: {left_out}")
+    for remark in remarks:
+        say(remark.text(words.script))
     return Status.FINE
 
 
