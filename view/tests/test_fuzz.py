@@ -23,12 +23,15 @@ SEED = os.environ.get("DISTAC_VIEW_SEED", "1")
 COUNT = int(os.environ.get("DISTAC_VIEW_INPUTS", "160" if IS_STAND_IN else "400"))
 INPUTS_OF_A_PROCESS = 100
 
-SOURCES = [path.read_bytes() for path in sorted([*EXAMPLES.glob("*.distac"), *EXAMPLES.glob("*.config"), *MISTAKES.iterdir()])]
+SCRIPTS = [path.read_bytes() for path in sorted(EXAMPLES.glob("*.distac")) if not path.name.startswith("live-")]
+CONFIGS = [path.read_bytes() for path in sorted(EXAMPLES.glob("*.config"))] + [script.split(b"\n--\n")[0] + b"\n" for script in SCRIPTS]
+FAULTY = [path.read_bytes() for path in sorted([*EXAMPLES.glob("live-*.distac"), *MISTAKES.iterdir()])]
 NAMES = (
     *(b"'<script>alert(1)</script>'", b"'<img_src=x_onerror=y()>'", b"'</title><b>'", b"'</svg>'", b"'&lt;'", b"'\"onclick=\"z()'"),
     *("'\u202e@h'".encode(), "'é\u0301@h'".encode(), "'\u4e2d@h'".encode(), b"'\xff\xfe@h'", b"'javascript:x()'", b"'" + b"n" * 255 + b"'"),
     *(b"'a=b@h'", b"'10.0.0.1@h'", b"'a b@h'", b"''", b"'{}'", b"'%'", b"fun", b"'style=x'"),
 )
+REPLACED = [b"cp1@cave", b"cp2@cave", b"myapp", b"main@h", b"spare@h", b"shop", b"a@h", b"g1@h", b"g2@h", b"reports"]
 PIECES = (
     *(b"\0", b"\x1b[31m", b"\xc2\x9b", b"\x7f", b"\xff", b"\r\n", b"\t", b" ", b"\n", b"\n--\n", b"%", b"'", b'"', b"\\", b"[", b"]", b"{", b"}"),
     *(b",", b".", b"99999999999999999999", b"-1", b"4611686018427387904", b"\nshare\n", b"\ntell ", b"\npage ", b"\nhear ", b"\nfeed 00\n", b"fun"),
@@ -49,12 +52,13 @@ WORDS: Tuple[Tuple[str, ...], ...] = (
 TAGS = "html head meta title style body h1 h2 p div span table thead tbody tr th td svg defs pattern marker path rect circle text g"
 
 
-def changed(random: Random) -> bytes:
+def changed(random: Random, subcommand: str) -> bytes:
     """A source with some changes: names put in place of others, pieces put in, and parts taken out, doubled or moved."""
-    source = random.choice(SOURCES)
-    if random.random() < 0.5:
+    fitting = CONFIGS if subcommand in ("check", "what-if") else SCRIPTS
+    source = random.choice(random.choice((fitting, fitting, fitting, SCRIPTS, FAULTY)))
+    if random.random() < 0.7:
         source = with_other_names(random, source)
-    for _ in range(random.choice((0, 1, 1, 2, 4))):
+    for _ in range(random.choice((0, 0, 0, 1, 2, 4))):
         place = random.randrange(len(source) + 1)
         end = place + random.choice((0, 0, 1, 5, 30))
         piece = random.choice((*PIECES, *NAMES, b"", source[place:end] * 2, source[random.randrange(len(source) + 1) :][:20]))
@@ -63,10 +67,9 @@ def changed(random: Random) -> bytes:
 
 
 def with_other_names(random: Random, source: bytes) -> bytes:
-    """A source with one or two of its names replaced throughout."""
-    for name in random.sample((b"cp1@cave", b"cp2@cave", b"myapp", b"main@h", b"spare@h", b"shop", b"a@h"), 2):
-        source = source.replace(name, random.choice(NAMES))
-    return source
+    """A source with one of its names replaced throughout."""
+    name = random.choice([name for name in REPLACED if name in source] or REPLACED)
+    return source.replace(name, random.choice(NAMES))
 
 
 class Elements(HTMLParser):
@@ -96,7 +99,8 @@ class Fuzz(unittest.TestCase):
     def test_changed_inputs(self) -> None:
         for number in range(COUNT):
             random = Random(f"{SEED} {number}")
-            source, words = changed(random), random.choice(WORDS)
+            words = random.choice(WORDS)
+            source = changed(random, words[0])
             self.path.write_bytes(source)
             with self.subTest(number=number, words=words, source=source):
                 said = view(words[0], str(self.path), *words[1:])
@@ -117,7 +121,8 @@ class Fuzz(unittest.TestCase):
     def test_closed_streams(self) -> None:
         for number in range(COUNT // INPUTS_OF_A_PROCESS):
             random = Random(f"streams {SEED} {number}")
-            source, words = changed(random), random.choice(WORDS)
+            words = random.choice(WORDS)
+            source = changed(random, words[0])
             streams = " ".join(random.sample((">&-", "2>&-", "<&-", ">/dev/full"), random.choice((1, 2))))
             self.path.write_bytes(source)
             line = [sys.executable, str(TOP / "distac-view"), words[0], str(self.path), *words[1:]]
