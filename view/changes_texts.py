@@ -8,6 +8,7 @@ from view.changes import Answer, Change, Changes
 from view.notes import Note
 from view.texts import shown
 from view.tokens import bare_name
+from view.what_if_notes import below
 from view.what_if_texts import lines_of_rows
 
 
@@ -18,10 +19,7 @@ def lines_of(changes: Changes) -> Iterator[str]:
         yield from (shown(f"+ {bare_name(name)} ({kind})") for name in added)
         yield from (shown(f"- {bare_name(name)} ({kind})") for name in gone)
     yield f"{len(changes.changes)} of {changes.compared} answers change"
-    notes = list(notes_on(changes))
-    if notes:
-        yield ""
-        yield from (f"- {note.text}" for note in notes)
+    yield from below(notes_on(changes))
 
 
 def row_of(change: Change) -> tuple[str, ...]:

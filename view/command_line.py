@@ -6,46 +6,41 @@ import argparse
 import sys
 from typing import IO, Callable
 
-from view.changes import changes_by
-from view.changes_texts import lines_of as changes_lines
+from view.completion import bash_completion
 from view.config_warnings import warnings_on
 from view.distac import Distac, found_distac
-from view.json_answers import what_if_answer
-from view.load import load_of
-from view.load_texts import budget_faults
-from view.load_texts import table_of as load_table
+from view.help_texts import EPILOG, epilog_of
 from view.loading import Faulty, Loaded, answers_of, load_config, load_script
 from view.looking import seen_lines
 from view.output import Output, Progress, drop, open_streams, say, why_not_written
 from view.playing import answers_in, rows_of, unknown_names
 from view.problems import Problem, Status
-from view.rolling import rolling_of
-from view.rolling_texts import lines_of as rolling_lines
+from view.question_commands import add_load, add_rolling, add_what_if, load, rolling, what_if
+from view.texts import shown
 from view.timeline import Drafting
+from view.verbs import Role, fits
 from view.web_page import page_text
-from view.what_if import Question, reply_to
-from view.what_if_notes import notes_on
-from view.what_if_texts import table_of
+from view.wide_states import too_wide
 from view.writing import PIPE, write_whole
 
 VERSION = "distac-view 1"
 MOST_DRAWN = 1_000
-EPILOG = """\
-exit status:
-  0  done
-  1  the file has a fault; with --strict, it has a warning
-  2  wrong use, a file that can't be read or written, or no answer from distac
-
-The program distac is taken from --distac PATH, else from the environment variable DISTAC, else from beside this one.
-A FILE that is a dash is standard input."""
 
 
 def check(distac: Distac, words: argparse.Namespace, output: Output) -> Status:
-    """Prints the canonical text of a configuration, with warnings on standard error."""
-    checked = load_config(distac, words.file)
-    output.line(checked.canonical)
+    """Prints the canonical text of each configuration, with warnings on standard error. The worst status counts."""
+    return max([check_one(distac, words, path, output) for path in words.files])
+
+
+def check_one(distac: Distac, words: argparse.Namespace, path: str, output: Output) -> Status:
+    """Prints the canonical text of a configuration: behind its name, if there are several."""
+    try:
+        checked = load_config(distac, path)
+    except (Faulty, Problem) as ended:
+        return told(ended, output)
+    output.line((f"{path}: " if len(words.files) > 1 else "") + checked.canonical)
     output.flush()
-    return warned(words, [remark.text(words.file) for remark in warnings_on(checked)])
+    return warned(words, [remark.text(path) for remark in warnings_on(checked)])
 
 
 def play(distac: Distac, words: argparse.Namespace, output: Output) -> Status:
@@ -58,7 +53,7 @@ def play(distac: Distac, words: argparse.Namespace, output: Output) -> Status:
     for row in rows_of(each, words.explain or output.is_terminal):
         output.line(row)
     output.flush()
-    remarks = unknown_names(each, loaded.configuration)
+    remarks = [*unknown_names(each, loaded.configuration), *too_wide(each)]
     return warned(words, [remark.text(words.script) for remark in remarks])
 
 
@@ -72,7 +67,7 @@ def warned(words: argparse.Namespace, warnings: list[str]) -> Status:
 def timeline(distac: Distac, words: argparse.Namespace, output: Output) -> Status:
     """Writes the page of a script's timeline."""
     loaded = load_script(distac, words.script)
-    answers_of(distac, loaded)
+    remarks = list(too_wide(answers_of(distac, loaded)))
     drawn, left_out = drawn_lines(loaded, words.first, words.lines)
     drafting = Drafting(loaded.configuration)
     for seen in seen_lines(distac, loaded, drawn.start, drawn.stop):
@@ -80,6 +75,8 @@ def timeline(distac: Distac, words: argparse.Namespace, output: Output) -> Statu
     write_page(words.output, page_text(words.script, drafting.finished(), left_out), output, words.script)
     if left_out:
         say(f"distac-view: {left_out}")
+    for remark in remarks:
+        say(remark.text(words.script))
     return Status.FINE
 
 
@@ -104,71 +101,33 @@ def write_page(path: str, text: str, output: Output, script: str) -> None:
         write_whole(path, data, [script])
 
 
-def what_if(distac: Distac, words: argparse.Namespace, output: Output) -> Status:
-    """Prints what becomes of each application if nodes go down, or what a new configuration changes."""
-    question = Question(words.config, words.down, words.not_started, words.after, words.back, words.now)
-    if words.then:
-        return what_changes(distac, question, words.then, output)
-    reply = reply_to(distac, question)
-    for line in [what_if_answer(reply, notes_on(reply))] if words.json else table_of(reply, words.all):
-        output.line(line)
-    return Status.FINE
-
-
-def what_changes(distac: Distac, question: Question, path: str, output: Output) -> Status:
-    """Prints what a new configuration changes. The status is 1 if it changes anything, and 2 for all trouble, faults too."""
-    try:
-        changes = changes_by(distac, question, path)
-    except Faulty as faulty:
-        raise Problem(faulty.remark.text(faulty.path)) from faulty
-    except Problem as problem:
-        raise Problem(problem.sentence) from problem
-    for line in changes_lines(changes):
-        output.line(line)
-    return Status.FAULT if changes.are_any else Status.FINE
-
-
-def load(distac: Distac, words: argparse.Namespace, output: Output) -> Status:
-    """Prints how many applications each node has under each loss, and holds them to a budget."""
-    fail_on = [part for word in words.fail_on for part in word.split(",") if part]
-    if not set(fail_on) <= {"lost", "load"}:
-        raise Problem("--fail-on takes lost, load, or both parted by a comma")
-    if "load" in fail_on and words.most is None:
-        raise Problem("--fail-on load wants --most N: how many applications a node may have")
-    found = load_of(distac, Question(words.config, now=words.now), words.pairs)
-    for line in load_table(found, words.most):
-        output.line(line)
-    output.flush()
-    faults = list(budget_faults(found, fail_on, words.most))
-    for fault in faults:
-        say(f"distac-view: {fault}")
-    return Status.FAULT if faults else Status.FINE
-
-
-def rolling(distac: Distac, words: argparse.Namespace, output: Output) -> Status:
-    """Prints the steps of a rolling restart, in a given order or in the best one."""
-    found = rolling_of(distac, Question(words.config, now=words.now), words.order, words.drain)
-    for line in rolling_lines(found, words.drain):
-        output.line(line)
-    return Status.FAULT if found.is_barred else Status.FINE
-
-
 Subcommand = Callable[[Distac, argparse.Namespace, Output], Status]
 
 
 def parser_of_words() -> argparse.ArgumentParser:
     """The parser of the command line."""
-    shared = Parser(add_help=False)
-    shared.add_argument("--distac", metavar="PATH", help="the program distac that is asked")
     description = "For people around distac: where a fault is, what a script did, and what happens if a node goes down."
     parser = Parser("distac-view", description=description, epilog=EPILOG, formatter_class=Formatter)
     parser.add_argument("--version", action="version", version=VERSION)
-    commands = parser.add_subparsers(title="subcommands", dest="command", metavar=" | ".join(row[0] for row in SUBCOMMANDS))
+    more = "print what bash reads to complete the words of distac-view"
+    parser.add_argument("--print-completion", choices=["bash"], metavar="bash", help=more)
+    program_words(parser, None)
+    shared = Parser(add_help=False)
+    program_words(shared, argparse.SUPPRESS)
+    names = " | ".join(name for name, _, _, _ in SUBCOMMANDS)
+    commands = parser.add_subparsers(title="subcommands", dest="command", metavar=names)
     for name, about, subcommand, add_words in SUBCOMMANDS:
-        own = commands.add_parser(name, parents=[shared], help=about, description=about, epilog=EPILOG, formatter_class=Formatter)
+        own = commands.add_parser(
+            name, parents=[shared], help=about, description=about, epilog=epilog_of(name), formatter_class=Formatter
+        )
         own.set_defaults(subcommand=subcommand)
         add_words(own)
     return parser
+
+
+def program_words(parser: argparse.ArgumentParser, default: str | None) -> None:
+    """Which program is asked. It may be said before the subcommand or behind it."""
+    parser.add_argument("--distac", metavar="PATH", default=default, help="the program distac that is asked")
 
 
 class Parser(argparse.ArgumentParser):
@@ -191,7 +150,7 @@ class Formatter(argparse.RawDescriptionHelpFormatter):
 
 def check_words(parser: argparse.ArgumentParser) -> None:
     """The words of `check`."""
-    parser.add_argument("file", metavar="FILE", help="a configuration, as erl -config takes it")
+    parser.add_argument("files", metavar="FILE", nargs="+", help="a configuration, as erl -config takes it")
     parser.add_argument("--strict", action="store_true", help="a warning makes the exit status 1")
 
 
@@ -208,57 +167,24 @@ def timeline_words(parser: argparse.ArgumentParser) -> None:
     """The words of `timeline`."""
     parser.add_argument("script", metavar="SCRIPT", help="a configuration, a line --, and the lines of a script")
     parser.add_argument("-o", "--output", metavar="FILE.html", required=True, help="the page that is written")
-    parser.add_argument("--from", dest="first", metavar="LINE", type=int, default=1, help="the first line that is drawn")
-    parser.add_argument("--lines", metavar="N", type=int, default=MOST_DRAWN, help="how many lines are drawn, 1000 if absent")
+    parser.add_argument("--from", dest="first", metavar="LINE", type=count_from_one, default=1, help="the first line that is drawn")
+    parser.add_argument("--lines", metavar="N", type=count_from_one, default=MOST_DRAWN, help="how many lines are drawn, 1000 if absent")
 
 
-def what_if_words(parser: argparse.ArgumentParser) -> None:
-    """The words of `what-if`."""
-    parser.add_argument("config", metavar="CONFIG", help="a configuration, as erl -config takes it")
-    parser.add_argument("--down", metavar="NODE", nargs="+", action="extend", default=[], help="nodes that go down together")
-    more = "nodes that come up without any application being started there"
-    parser.add_argument("--not-started", metavar="NODE", nargs="+", action="extend", default=[], help=more)
-    parser.add_argument("--after", metavar="SCRIPT", help="begin where this script ends, not with a cluster that just came up")
-    add_now(parser)
-    parser.add_argument("--back", metavar="NODE", nargs="+", action="extend", default=[], help="those of --down that come back, all if absent")
-    then = "say what this configuration changes in place of CONFIG: the exit status is 1 if it changes anything"
-    parser.add_argument("--then", metavar="NEW.config", help=then)
-    parser.add_argument("--all", action="store_true", help="show the rows of applications that stay too")
-    parser.add_argument("--json", action="store_true", help="print the answer as JSON")
-
-
-def load_words(parser: argparse.ArgumentParser) -> None:
-    """The words of `load`."""
-    parser.add_argument("config", metavar="CONFIG", help="a configuration, as erl -config takes it")
-    add_now(parser)
-    parser.add_argument("--pairs", action="store_true", help="ask about each two nodes that go down together too")
-    parser.add_argument("--most", metavar="N", type=int, help="how many applications a node may have")
-    budget = "make the exit status 1 if an application is lost, or if a node has more than --most: lost, load or lost,load"
-    parser.add_argument("--fail-on", metavar="WHAT", nargs="+", action="extend", default=[], help=budget)
-
-
-def rolling_words(parser: argparse.ArgumentParser) -> None:
-    """The words of `rolling`."""
-    parser.add_argument("config", metavar="CONFIG", help="a configuration, as erl -config takes it")
-    add_now(parser)
-    order = "restart these nodes in this order; if absent, the best order of all nodes is looked for"
-    parser.add_argument("--order", metavar="NODE", nargs="+", action="extend", default=[], help=order)
-    parser.add_argument("--drain", action="store_true", help="drain each node before it goes down, so that nothing waits")
-
-
-def add_now(parser: argparse.ArgumentParser) -> None:
-    """The words that say where applications run now."""
-    where = "where applications run now: a file with a line NODE APP APP .. for each node that is up, or APP=NODE .."
-    parser.add_argument("--now", metavar="FILE", nargs="+", action="extend", default=[], help=where)
+def count_from_one(word: str) -> int:
+    """A count that the command line gives."""
+    if not fits(Role.NUMBER, word) or word == "0":
+        raise argparse.ArgumentTypeError(f"a count from 1 on is wanted, in decimal digits, and not {shown(word)}")
+    return int(word)
 
 
 SUBCOMMANDS: "list[tuple[str, str, Subcommand, Callable[[argparse.ArgumentParser], None]]]" = [
     ("check", "Prints the canonical text of a configuration, or where its first fault is.", check, check_words),
     ("play", "Plays a script and prints each answer beside its line.", play, play_words),
     ("timeline", "Draws what a script did, as one page for a browser.", timeline, timeline_words),
-    ("what-if", "Says where each application goes if a node goes down, and once the node is back.", what_if, what_if_words),
-    ("rolling", "Says what moves in each step of a rolling restart, and finds the best order.", rolling, rolling_words),
-    ("load", "Says how many applications each node has if a node goes down, and what is lost then.", load, load_words),
+    ("what-if", "Says where each application goes if a node goes down, and once the node is back.", what_if, add_what_if),
+    ("rolling", "Says what moves in each step of a rolling restart, and finds the best order.", rolling, add_rolling),
+    ("load", "Says how many applications each node has if a node goes down, and what is lost then.", load, add_load),
 ]
 
 
@@ -266,24 +192,32 @@ def run(arguments: list[str]) -> int:
     """Does what the command line says. The exit status."""
     parser = parser_of_words()
     words = parser.parse_args(arguments)
+    if words.print_completion:
+        sys.stdout.write(bash_completion(parser))
+        return Status.FINE
     if words.command is None:
         parser.print_usage(sys.stderr)
         return Status.WRONG_USE
     output, progress = Output(), Progress()
     try:
-        status = words.subcommand(watched(found_distac(words.distac), progress), words, output)
+        status: Status = words.subcommand(watched(found_distac(words.distac), progress), words, output)
         output.flush()
         return status
-    except Faulty as faulty:
-        output.line(faulty.remark.text(faulty.path))
-        output.flush()
-        return Status.FAULT
-    except Problem as problem:
+    except (Faulty, Problem) as ended:
         progress.end()
-        say(f"distac-view: {problem.sentence}")
-        return problem.status
+        return told(ended, output)
     finally:
         progress.end()
+
+
+def told(ended: Faulty | Problem, output: Output) -> Status:
+    """Says what ended a subcommand, or its work on one of several files. The exit status of that."""
+    if isinstance(ended, Faulty):
+        output.line(ended.remark.text(ended.path))
+        output.flush()
+        return Status.FAULT
+    say(f"distac-view: {ended.sentence}")
+    return ended.status
 
 
 def watched(distac: Distac, progress: Progress) -> Distac:
@@ -297,7 +231,7 @@ def main() -> int:
     """The whole program: nothing that comes of its input or of its surroundings is a traceback."""
     open_streams()
     try:
-        return ended(sys.argv[1:])
+        return finished(sys.argv[1:])
     except BrokenPipeError:
         drop(sys.stdout)
         return Status.FINE
@@ -310,10 +244,11 @@ def main() -> int:
         return 130
 
 
-def ended(arguments: list[str]) -> int:
+def finished(arguments: list[str]) -> int:
     """The exit status, once all is written. Help and wrong use end the program too."""
     try:
-        return run(arguments)
+        status = run(arguments)
     except SystemExit as end:
-        sys.stdout.flush()
-        return int(end.code or 0)
+        status = int(end.code or 0)
+    sys.stdout.flush()
+    return status

@@ -12,7 +12,9 @@ from typing import Callable
 from view.problems import Problem
 from view.texts import bytes_of, text_of
 
-BESIDE = Path(__file__).resolve().parent.parent / "distac"
+# The folder above this one. If this program is packed into one file, that file stands in its place.
+TOP = Path(__file__).resolve().parent.parent
+BESIDE = (TOP if TOP.is_dir() else TOP.parent) / "distac"
 MOST_INPUT = 2_097_152
 
 Asked = Callable[[str, bytes], "tuple[bytes, int]"]

@@ -9,6 +9,7 @@ import json
 from typing import Dict, Iterable, List
 
 from view.notes import Note
+from view.noticing import notice_range
 from view.pages import marks_in
 from view.tokens import bare_name
 from view.what_if import Case, Fate, Reply
@@ -37,22 +38,31 @@ def name_or_none(name: str | None) -> str | None:
 
 def what_if_answer(reply: Reply, notes: Iterable[Note]) -> str:
     """The answer of `what-if`."""
-    return json_of("what-if", {"nodes": names_of(reply.configuration.nodes), "cases": [case_fields(case) for case in reply.cases]}, notes)
+    fields: Fields = {
+        "nodes": names_of(reply.configuration.nodes),
+        "net_ticktime": reply.tick_time,
+        "sides": [{"nodes": names_of(answers.side.members)} for answers in reply.sides],
+        "cases": [case_fields(case, reply.tick_time) for case in reply.cases],
+    }
+    return json_of("what-if", fields, notes)
 
 
-def case_fields(case: Case) -> Fields:
+def case_fields(case: Case, tick_time: int) -> Fields:
     """The fields of a case."""
-    return {"down": names_of(case.down), "applications": [fate_fields(fate) for fate in case.fates]}
+    nodes = {"down": names_of(case.down), "returning": names_of(case.back)}
+    return {**nodes, "applications": [fate_fields(fate, tick_time) for fate in case.fates]}
 
 
-def fate_fields(fate: Fate) -> Fields:
+def fate_fields(fate: Fate, tick_time: int) -> Fields:
     """The fields of an application in a case."""
+    wait = fate.milliseconds if fate.how == "failover" else None
     return {
         "application": bare_name(fate.app),
         "now": name_or_none(fate.now),
         "then": name_or_none(fate.then),
         "how": fate.how,
         "milliseconds": fate.milliseconds,
+        "longest_outage": None if wait is None else wait + notice_range(tick_time)[1],
         "back": name_or_none(fate.back),
         "stopped": fate.was_stopped,
         "list": [{"node": bare_name(node), "mark": mark} for node, mark in marks_in(fate.marks)],

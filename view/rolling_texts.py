@@ -4,14 +4,15 @@ from __future__ import annotations
 
 from typing import Iterator
 
+from view.notes import Note
 from view.rolling import Move, Rolling, Step
 from view.texts import listed, shown
 from view.tokens import bare_name
 from view.what_if_notes import few_of, wait_of
 
 
-def lines_of(rolling: Rolling, drains: bool) -> Iterator[str]:
-    """The order with what it costs, its steps, and what to know of it."""
+def lines_of(rolling: Rolling) -> Iterator[str]:
+    """The order with what it costs, and its steps."""
     names = " > ".join(bare_name(node) for node in rolling.order)
     yield shown(f"order {names}: {counted(rolling.moves, 'move')}, {rolling.waits} ms of waits{found_how(rolling)}")
     for number, step in enumerate(rolling.steps, 1):
@@ -19,9 +20,12 @@ def lines_of(rolling: Rolling, drains: bool) -> Iterator[str]:
         for waiter in step.waiters:
             wait = wait_of(waiter, rolling.configuration)
             yield shown(f"  fault: {bare_name(waiter.node)} can't come back: it waits {wait}, and ends. The restart can't go on.")
+
+
+def drain_notes(drains: bool) -> Iterator[Note]:
+    """What a drain is in OTP."""
     if drains:
-        yield ""
-        yield "- OTP has no drain: there it is permit(Application, false) at the node, for each application, before the restart."
+        yield Note("NoDrain", "OTP has no drain: there it is permit(Application, false) at the node, for each application, before the restart.")
 
 
 def found_how(rolling: Rolling) -> str:

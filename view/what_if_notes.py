@@ -2,7 +2,7 @@
 
 from __future__ import annotations
 
-from typing import Iterator
+from typing import Iterable, Iterator
 
 from view.cluster import Waiter
 from view.configuration import Configuration
@@ -19,8 +19,14 @@ MOST_NAMED = 8
 
 def notes_on(reply: Reply) -> list[Note]:
     """All notes, each sentence once."""
-    found = [*opening_notes(reply), *now_notes(reply), *gate_notes(reply), *time_notes(reply), *otp_notes(reply)]
+    found = [*opening_notes(reply), *gate_notes(reply), *time_notes(reply), *otp_notes(reply)]
     return list(dict.fromkeys(found))
+
+
+def below(notes: Iterable[Note]) -> Iterator[str]:
+    """Notes as they stand below an answer."""
+    lines = [f"- {note.text}" for note in notes]
+    yield from ["", *lines] if lines else []
 
 
 def opening_notes(reply: Reply) -> Iterator[Note]:
@@ -30,21 +36,23 @@ def opening_notes(reply: Reply) -> Iterator[Note]:
         parts = "; ".join(listed(side.members) for side in sides)
         yield Note("EndsInSplit", shown(f"--after ends in a split: {parts}. Each side is asked by itself, and both may run an application."))
     for side in sides:
-        yield from side_notes(side)
+        yield from start_notes(side, bool(reply.question.now))
 
 
-def now_notes(reply: Reply) -> Iterator[Note]:
+def start_notes(side: Side, is_now: bool) -> list[Note]:
+    """What to know of a start: nodes that can't act, and if it is where applications run now, what moves at once."""
+    return [*side_notes(side), *(now_notes(side) if is_now else ())]
+
+
+def now_notes(side: Side) -> Iterator[Note]:
     """What distac moves at once from where it runs now, and what runs nowhere."""
-    if not reply.question.now:
-        return
-    for answers in reply.sides:
-        for held in answers.side.page.held.values():
-            if held.verdict == "takeover":
-                text = f"Here {held.at} takes over {held.app} at once: OTP leaves it at {held.holder} until {held.at} starts it."
-                yield Note("MovesAtOnce", shown(text))
-        unused = answers.side.cluster.unused
-        if unused:
-            yield Note("NotRunning", shown(f"By --now {few_of(unused)} {'runs' if len(unused) == 1 else 'run'} nowhere: no node starts it."))
+    for held in side.page.held.values():
+        if held.verdict == "takeover":
+            text = f"Here {held.at} takes over {held.app} at once: OTP leaves it at {held.holder} until {held.at} starts it."
+            yield Note("MovesAtOnce", shown(text))
+    unused = side.cluster.unused
+    if unused:
+        yield Note("NotRunning", shown(f"By --now {few_of(unused)} {'runs' if len(unused) == 1 else 'run'} nowhere: no node starts it."))
 
 
 def side_notes(side: Side) -> Iterator[Note]:

@@ -12,6 +12,7 @@ from random import Random
 from unittest import mock
 
 from support import EXAMPLES, IS_STAND_IN, distac, view
+from json_schema import documented
 from test_starts import checked_of, random_places
 from test_what_if import random_config
 from view import load as loads
@@ -225,6 +226,27 @@ def what_follows(fate: Fate) -> "tuple[str | None, int | None]":
 def now_of(fates: "dict[tuple[str, ...], Fate]", app: str) -> "str | None":
     """Where an application is before any loss."""
     return next(fate.now for key, fate in fates.items() if key[0] == app)
+
+
+class Json(Files):
+    """Answers as JSON have the form that docs/FORMATS.md describes."""
+
+    def test_answers(self) -> None:
+        schema = documented()
+        gate = self.path("gate.config", SHOP.replace("]}]}].", "]},{sync_nodes_mandatory,[shop1@h,shop2@h,shop3@h]},{sync_nodes_timeout,5000}]}]."))
+        now = self.path("now", "shop1@h billing audit\nshop2@h mail\n")
+        questions = (
+            ("load", self.shop, "--pairs"),
+            ("load", gate, "--now", now),
+            ("rolling", self.shop, "--drain"),
+            ("rolling", gate, "--now", now),
+            ("what-if", self.shop, "--then", gate),
+            ("what-if", self.shop, "--then", self.path("new.config", SHOP.replace("shop3", "shop4").replace("audit", "fax"))),
+            ("what-if", self.shop, "--down", "shop1@h", "shop2@h", "--back", "shop1@h"),
+        )
+        for words in questions:
+            said = view(*words, "--json")
+            self.assertEqual((schema.faults_of(said.output), said.errors), ([], ""), words)
 
 
 class Now(Files):
