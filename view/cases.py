@@ -8,13 +8,14 @@ at the end of its lines, the case is played again step by step.
 from __future__ import annotations
 
 from dataclasses import dataclass
-from typing import Iterable
-
 from view.answers import Answered
-from view.cluster import GAVE_UP, HELD_BACK, Cluster, come_to_rest, longest_wait, share_all, take_round, take_rounds
+from view.cluster import GAVE_UP, HELD_BACK, Cluster, come_to_rest, share_all, take_round, take_rounds
 from view.distac import Distac
+from view.drafts import Draft, named_on, takers_of, waits_of
 from view.pages import CLAIM, Page, page_of
 from view.story import Miscounted
+
+WIDE_ROUNDS = 3
 
 
 @dataclass(frozen=True)
@@ -58,9 +59,11 @@ def first_pages(distac: Distac, cluster: Cluster, losses: list[Loss]) -> list[Pa
     A node that is told of a loss, and tells nobody, knows what all would know: as many cases as there are nodes are had in one play.
     """
     found: dict[int, Page] = {}
+    told = cluster.copy()
+    told.tell_all()
     open_ones = {number: loss for number, loss in enumerate(losses) if set(cluster.nodes) - set(loss.down)}
     while open_ones:
-        story, tellers = cluster.story.copy(), tellers_of(cluster, open_ones)
+        story, tellers = told.story.copy(), tellers_of(cluster, open_ones)
         for number, node in tellers.items():
             story.command(*(f"down {node} {other}" for other in losses[number].down))
         each = story.play(distac, *(f"page {node}" for node in tellers.values()))
@@ -69,7 +72,7 @@ def first_pages(distac: Distac, cluster: Cluster, losses: list[Loss]) -> list[Pa
     return [found.get(number, Page()) for number in range(len(losses))]
 
 
-def tellers_of(cluster: Cluster, losses: "dict[int, Loss]") -> "dict[int, str]":
+def tellers_of(cluster: Cluster, losses: dict[int, Loss]) -> dict[int, str]:
     """A node for each of some cases, as far as there are nodes: none that is down in it, and each for one case alone."""
     free, found = list(reversed(cluster.nodes)), {}
     for number, loss in losses.items():
@@ -89,31 +92,39 @@ def course_of(distac: Distac, settled: Cluster, loss: Loss, at_once: Page) -> Co
     if not set(settled.nodes) - set(loss.down):
         return careful_course(distac, settled, loss)
     try:
-        return quick_course(distac, settled, loss, at_once) or careful_course(distac, settled, loss)
+        quick = quick_course(distac, settled, loss, at_once, False) or quick_course(distac, settled, loss, at_once, True)
     except Miscounted:
-        return careful_course(distac, settled, loss)
+        quick = None
+    return quick or careful_course(distac, settled, loss)
 
 
-def quick_course(distac: Distac, settled: Cluster, loss: Loss, at_once: Page) -> "Course | None":
-    """How a case goes, if that can be had in one play."""
+def quick_course(distac: Distac, settled: Cluster, loss: Loss, at_once: Page, is_wide: bool) -> Course | None:
+    """How a case goes, if that can be had in one play. By default those nodes alone take part that a page names for a claim."""
     cluster, start = settled.copy(), len(settled.story.lines)
+    left = [node for node in cluster.nodes if node not in loss.down]
+    if cluster.is_untold:
+        cluster.tell(left[:1])
     cluster.crash(loss.down)
-    write_wait(cluster, at_once, settled.story.issued)
+    draft = Draft(cluster, settled.story.issued)
+    draft.write_wait(at_once, takers_of(cluster, at_once) if is_wide else named_on(cluster, at_once))
     then_at = cluster.story.look(cluster.hub)
-    write_return(cluster, loss, at_once, settled.story.issued)
+    if loss.back:
+        boot_again(cluster, loss)
+        draft.write_rounds(takers_of(cluster, at_once, *loss.back) if is_wide else loss.back, WIDE_ROUNDS if is_wide else 1)
     back_at = cluster.story.look(cluster.hub)
     cluster.story.play(distac)
     then, back = (page_of(cluster.story.answers[place].answer) for place in (then_at, back_at))
     held_up = any(one.first in (GAVE_UP, HELD_BACK) for one in cluster.story.answers[start:])
-    if held_up or not then.is_at_rest or not back.is_at_rest:
+    if held_up or not draft.is_whole() or not then.is_at_rest or not back.is_at_rest:
         return None
     claims = claims_in(cluster, start, then_at)
     return Course(loss, at_once, then, back, claims, claims_in(cluster, then_at + 1), cluster)
 
 
 def careful_course(distac: Distac, settled: Cluster, loss: Loss) -> Course:
-    """How a case goes, played step by step."""
+    """How a case goes, played step by step with all nodes."""
     cluster, start = settled.copy(), len(settled.story.lines)
+    cluster.tell_all()
     cluster.crash(loss.down)
     share_all(distac, cluster)
     at_once = cluster.page(distac)
@@ -123,13 +134,6 @@ def careful_course(distac: Distac, settled: Cluster, loss: Loss) -> Course:
         come_back(distac, cluster, loss)
     claims = claims_in(cluster, start, then_at)
     return Course(loss, at_once, then, cluster.page(distac), claims, claims_in(cluster, then_at), cluster)
-
-
-def waits_of(cluster: Cluster, at_once: Page) -> list[int]:
-    """For each application about which something is to be done, after how long it can be done."""
-    timeouts = {each.name: each.timeout for each in cluster.configuration.applications}
-    pending = [held for held in at_once.held.values() if held.is_pending]
-    return [timeouts[held.app] if held.verdict == "failover" else 0 for held in pending]
 
 
 def wait_out(distac: Distac, cluster: Cluster, at_once: Page) -> None:
@@ -142,66 +146,19 @@ def wait_out(distac: Distac, cluster: Cluster, at_once: Page) -> None:
         take_rounds(distac, cluster)
 
 
-def write_wait(cluster: Cluster, at_once: Page, known: int) -> None:
-    """The lines of those that may claim anything, as for `wait_out`: there is a round for each application."""
-    waits, nodes = waits_of(cluster, at_once), takers_of(cluster, at_once)
-    if not waits:
-        return
-    begin = cluster.story.now
-    cluster.tell(nodes)
-    for moment in [begin, *(begin + wait for wait in sorted(waits))]:
-        cluster.story.now = moment
-        write_round(cluster, nodes, known, len(waits))
-
-
-def takers_of(cluster: Cluster, page: Page, *returning: str) -> list[str]:
-    """The nodes that may claim anything: by the marks of what is pending, and where nodes come back, by their applications' lists."""
-    found = set(returning)
-    for held in page.held.values():
-        if held.is_pending:
-            found.update(held.nodes_marked("ok"))
-    for each in cluster.configuration.applications:
-        if any(node in each.nodes for node in returning):
-            found.update(each.nodes)
-    return [node for node in cluster.nodes if node in found]
-
-
-def write_round(cluster: Cluster, nodes: Iterable[str], known: int, most: int) -> None:
-    """Some nodes tick. The hub is handed each operation that may have been issued since those that all know, and tells these nodes."""
-    story = cluster.story
-    cluster.tick(nodes)
-    story.issued += most
-    story.add(*(f"hand {cluster.hub} {number}" for number in range(known + 1, story.issued + 1)))
-    cluster.tell(nodes)
-
-
 def come_back(distac: Distac, cluster: Cluster, loss: Loss) -> None:
     """Nodes come up again, everything is started there, and all comes to rest."""
     boot_again(cluster, loss)
-    cluster.tell()
     come_to_rest(distac, cluster)
 
 
 def boot_again(cluster: Cluster, loss: Loss) -> None:
     """Nodes come up again, and everything is started there."""
     cluster.story.now += 1
-    cluster.boot(loss.back)
-    cluster.start(node for node in loss.back if node not in loss.not_started)
+    cluster.boot(loss.back, loss.not_started)
 
 
-def write_return(cluster: Cluster, loss: Loss, at_once: Page, known: int) -> None:
-    """The lines in which nodes come back. A second round is for what the first one's claims make of loads."""
-    if not loss.back:
-        return
-    boot_again(cluster, loss)
-    nodes, most = takers_of(cluster, at_once, *loss.back), len(cluster.configuration.applications)
-    cluster.tell(nodes)
-    write_round(cluster, nodes, known, most)
-    cluster.story.now += longest_wait(cluster.configuration)
-    write_round(cluster, nodes, known, most)
-
-
-def claims_in(cluster: Cluster, start: int, end: "int | None" = None) -> list[Claimed]:
+def claims_in(cluster: Cluster, start: int, end: int | None = None) -> list[Claimed]:
     """The claims of some lines, their moments counted from the first of these."""
     story = cluster.story
     each = list(zip(story.moments[start:end], story.answers[start:end]))

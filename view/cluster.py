@@ -6,7 +6,7 @@ then each knows what it would know behind a share.
 
 from __future__ import annotations
 
-from dataclasses import dataclass, field
+from dataclasses import dataclass, field, replace
 from typing import Iterable
 
 from view.configuration import Configuration, name_order
@@ -29,21 +29,22 @@ class Waiter:
 
 @dataclass
 class Cluster:
-    """Nodes that are up, can act and hear each other, by name, and the script that brought them here.
+    """Nodes that are up, can act and hear each other, and the script that brought them here. The first one is the hub.
 
-    Beside them stand the nodes that gave up at their start gate, those that still wait there, and the applications that are never
-    started.
+    It is untold if the hub heard something since it last told all others. Beside the nodes stand those that gave up at their start
+    gate, those that still wait there, and the applications that are never started.
     """
 
     story: Story
     nodes: list[str]
+    is_untold: bool = False
     ended: list[Waiter] = field(default_factory=list)
     waiting: list[Waiter] = field(default_factory=list)
     unused: list[str] = field(default_factory=list)
 
     def copy(self) -> Cluster:
         """The same cluster, to be gone on with apart."""
-        return Cluster(self.story.copy(), list(self.nodes), list(self.ended), list(self.waiting), self.unused)
+        return replace(self, story=self.story.copy(), nodes=list(self.nodes), ended=list(self.ended), waiting=list(self.waiting))
 
     @property
     def hub(self) -> str:
@@ -55,25 +56,23 @@ class Cluster:
         """The configuration of all nodes."""
         return self.story.configuration
 
-    def boot(self, nodes: list[str]) -> None:
-        """Nodes come up and join the others. The hub stays the one that it was, until all know all."""
+    def boot(self, nodes: list[str], not_started: Iterable[str]) -> None:
+        """Nodes come up, start everything that they may run, but for some nodes, and tell the hub, which is one that was up before."""
         first = self.nodes[0] if self.nodes else nodes[0]
         for node in nodes:
             self.story.command(f"boot {node} {self.story.now}")
-        for node in nodes:
+            if node not in not_started:
+                names = [each.name for each in self.configuration.applications if node in each.nodes and each.name not in self.unused]
+                self.story.command(*(f"start {node} {name} {node}" for name in names))
             if node != first:
                 self.story.tell(node, first)
         self.nodes = [first, *sorted({*self.nodes, *nodes} - {first}, key=name_order)]
-
-    def start(self, nodes: Iterable[str]) -> None:
-        """Everything that some nodes may run is started there. The hub says it."""
-        for node in nodes:
-            names = [each.name for each in self.configuration.applications if node in each.nodes and each.name not in self.unused]
-            self.start_at((name, node) for name in names)
+        self.is_untold = True
 
     def start_at(self, places: Iterable[tuple[str, str]]) -> None:
-        """Applications are started at nodes."""
+        """Applications are started at nodes. The hub says it."""
         self.story.command(*(f"start {self.hub} {name} {node}" for name, node in places))
+        self.is_untold = True
 
     def crash(self, nodes: list[str]) -> None:
         """Nodes go down, and the first one of those that are left is told."""
@@ -85,12 +84,19 @@ class Cluster:
     def say_down(self, nodes: Iterable[str]) -> None:
         """The hub is told that nodes are down."""
         self.story.command(*(f"down {self.hub} {node}" for node in nodes))
+        self.is_untold = True
 
-    def tell(self, nodes: Iterable[str] | None = None) -> None:
-        """The hub tells some nodes what it knows, or all of them. It has to have heard something since it told them last."""
-        for node in self.nodes if nodes is None else nodes:
+    def tell(self, nodes: Iterable[str]) -> None:
+        """The hub tells some nodes what it knows. It has to have heard something since it told them last."""
+        for node in nodes:
             if node != self.hub:
                 self.story.tell(self.hub, node)
+
+    def tell_all(self) -> None:
+        """The hub tells all nodes what it knows, if they don't know it yet."""
+        if self.is_untold:
+            self.tell(self.nodes)
+        self.is_untold = False
 
     def tick(self, nodes: Iterable[str]) -> None:
         """Nodes look after their applications."""
@@ -115,7 +121,8 @@ def longest_wait(configuration: Configuration) -> int:
 
 
 def take_round(distac: Distac, cluster: Cluster) -> bool:
-    """All nodes tick and hear of each other's claims, and of nodes that gave up. Whether there was any of both."""
+    """All nodes hear what is new and tick. The hub hears of all claims, and of nodes that gave up. Whether there was any of both."""
+    cluster.tell_all()
     story, start = cluster.story, len(cluster.story.lines)
     cluster.tick(cluster.nodes)
     story.play(distac)
@@ -128,14 +135,20 @@ def take_round(distac: Distac, cluster: Cluster) -> bool:
     if cluster.nodes and (claims or ended):
         story.add(*(f"hand {cluster.hub} {number}" for number in claims))
         cluster.say_down(ended)
-        cluster.tell()
     return bool(claims or ended)
 
 
 def take_rounds(distac: Distac, cluster: Cluster) -> None:
-    """Rounds until one in which nothing happens, at most two more than there are applications."""
+    """Rounds until one in which nothing happens, at most two more than there are applications. That last one is taken back.
+
+    It is not taken back if a node waits at its start gate, since a tick may have opened that gate.
+    """
     for _ in range(len(cluster.configuration.applications) + 2):
-        if not take_round(distac, cluster):
+        before = cluster.copy()
+        has_happened = take_round(distac, cluster)
+        if not has_happened and not before.waiting and not cluster.waiting:
+            cluster.story, cluster.is_untold = before.story, before.is_untold
+        if not has_happened:
             return
 
 
@@ -160,6 +173,7 @@ def share_all(distac: Distac, cluster: Cluster) -> None:
     for _ in range(2):
         ship_all(distac, cluster.story, [(node, cluster.hub) for node in others])
         ship_all(distac, cluster.story, [(cluster.hub, node) for node in others])
+    cluster.is_untold = False
 
 
 def ship_all(distac: Distac, story: Story, pairs: list[tuple[str, str]]) -> None:

@@ -55,9 +55,7 @@ def opened(distac: Distac, checked: Checked, not_started: list[str]) -> Side:
     """All nodes came up, everything was started but at some nodes, and all is at rest."""
     cluster = Cluster(new_story(checked), [])
     nodes = checked.configuration.nodes
-    cluster.boot(nodes)
-    cluster.start(node for node in nodes if node not in not_started)
-    cluster.tell()
+    cluster.boot(nodes, not_started)
     come_to_rest(distac, cluster)
     return Side(cluster, cluster.page(distac), nodes)
 

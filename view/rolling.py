@@ -215,8 +215,6 @@ class Planner:
         loss = Loss([node], [node], [])
         course = course_of(self.distac, cluster, loss, first_pages(self.distac, cluster, [loss])[0])
         end = course.cluster.copy()
-        if end.nodes:
-            end.tell()
         waiters = end.ended[len(cluster.ended) :]
         moves = moves_of(standing.page, drained), moves_of(page, course.claims), moves_of(course.then, course.claims_back, page)
         nowhere = [held.app for held in page.held.values() if held.runs_at and not runs_at(course.then, held.app)]
@@ -227,7 +225,7 @@ def drain(distac: Distac, cluster: Cluster, node: str) -> list[Claimed]:
     """A node is drained, and what can run elsewhere goes there."""
     start = len(cluster.story.lines)
     cluster.story.command(f"drain {cluster.hub} {node} true")
-    cluster.tell()
+    cluster.is_untold = True
     take_rounds(distac, cluster)
     return claims_in(cluster, start)
 

@@ -101,7 +101,6 @@ def opened_now(distac: Distac, checked: Checked, placed: Placed) -> Side:
             cluster.story.command(f"permit {cluster.hub} {app} {node} true")
     if placed.places:
         cluster.start_at(placed.places.items())
-        cluster.tell()
         take_round(distac, cluster)
     start_elsewhere(cluster, placed)
     page = cluster.page(distac)
@@ -114,13 +113,12 @@ def opened_now(distac: Distac, checked: Checked, placed: Placed) -> Side:
 def open_gates(distac: Distac, cluster: Cluster, up: list[str]) -> None:
     """All nodes come up and pass their start gates, and then those go down that aren't up now."""
     nodes = cluster.configuration.nodes
-    cluster.boot(nodes)
-    cluster.tell()
+    cluster.boot(nodes, not_started=nodes)
     take_round(distac, cluster)
     off = [node for node in nodes if node not in up]
     if off:
+        cluster.tell_all()
         cluster.crash(off)
-        cluster.tell()
 
 
 def start_elsewhere(cluster: Cluster, placed: Placed) -> None:
@@ -130,4 +128,3 @@ def start_elsewhere(cluster: Cluster, placed: Placed) -> None:
     others = [(app, node) for app, node in listed_ones if node in cluster.nodes and node != placed.places.get(app)]
     if others:
         cluster.start_at(others)
-        cluster.tell()

@@ -188,14 +188,15 @@ class Courses(Asked):
         self.no_living_holder_is_missed(careful)
         try:
             at_once = first_pages(distac(), side.cluster, [loss])[0]
-            quick = quick_course(distac(), side.cluster, loss, at_once) if set(side.nodes) - set(loss.down) else None
+            is_left = bool(set(side.nodes) - set(loss.down))
+            quick_ones = [quick_course(distac(), side.cluster, loss, at_once, is_wide) if is_left else None for is_wide in (False, True)]
         except Miscounted:
             return False
-        if quick is None:
-            return False
-        self.no_living_holder_is_missed(quick)
-        self.assertEqual(what_counts(quick), what_counts(careful))
-        return True
+        for quick in quick_ones:
+            if quick:
+                self.no_living_holder_is_missed(quick)
+                self.assertEqual(what_counts(quick), what_counts(careful))
+        return quick_ones[0] is not None
 
     def no_living_holder_is_missed(self, course: Course) -> None:
         """What is nowhere in the end is held by no node that runs, by what any running node of the side knows."""
