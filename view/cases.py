@@ -59,11 +59,12 @@ def first_pages(distac: Distac, cluster: Cluster, losses: list[Loss]) -> list[Pa
     A node that is told of a loss, and tells nobody, knows what all would know: as many cases as there are nodes are had in one play.
     """
     found: dict[int, Page] = {}
-    told = cluster.copy()
-    told.tell_all()
     open_ones = {number: loss for number, loss in enumerate(losses) if set(cluster.nodes) - set(loss.down)}
     while open_ones:
-        story, tellers = told.story.copy(), tellers_of(cluster, open_ones)
+        told, tellers = cluster.copy(), tellers_of(cluster, open_ones)
+        if told.is_untold:
+            told.tell(tellers.values())
+        story = told.story
         for number, node in tellers.items():
             story.command(*(f"down {node} {other}" for other in losses[number].down))
         each = story.play(distac, *(f"page {node}" for node in tellers.values()))
@@ -74,7 +75,7 @@ def first_pages(distac: Distac, cluster: Cluster, losses: list[Loss]) -> list[Pa
 
 def tellers_of(cluster: Cluster, losses: dict[int, Loss]) -> dict[int, str]:
     """A node for each of some cases, as far as there are nodes: none that is down in it, and each for one case alone."""
-    free, found = list(reversed(cluster.nodes)), {}
+    free, found = list(cluster.nodes), {}
     for number, loss in losses.items():
         node = next((node for node in free if node not in loss.down), None)
         if node is not None:

@@ -20,7 +20,7 @@ def table_of(load: Load, most: int | None) -> Iterator[str]:
     yield from lines_of_rows(wide_rows(load, rows) if len(load.side.nodes) <= MOST_COLUMNS else narrow_rows(rows))
     left = len(load.rows) + 1 - len(rows)
     if left:
-        yield f"+ {left} pairs that lose nothing more than each node alone" + ("" if most is None else ", within --most")
+        yield f"+ {left} {'pair that loses' if left == 1 else 'pairs that lose'} nothing more than each node alone"
     last = list(last_lines(load))
     if last:
         yield ""
@@ -72,7 +72,7 @@ def last_lines(load: Load) -> Iterator[str]:
         last = row.last if row is load.start else [app for app in row.last if app not in load.start.last]
         if last:
             names = few_of([f"{app} ({bare_name(row.places[app])})" for app in last])
-            without = f"without {listed([bare_name(node) for node in row.down])} " if row.down else ""
+            without = f"without {listed([bare_name(node) for node in row.down])}, " if row.down else ""
             yield shown(f"{without}one loss from nothing: {names}")
 
 

@@ -211,14 +211,14 @@ class Planner:
         cluster, drained = standing.cluster.copy(), []
         if self.drains and node in cluster.nodes:
             drained = drain(self.distac, cluster, node)
-        page = cluster.page(self.distac)
+        page = cluster.page(self.distac) if drained else standing.page
         loss = Loss([node], [node], [])
         course = course_of(self.distac, cluster, loss, first_pages(self.distac, cluster, [loss])[0])
         end = course.cluster.copy()
         waiters = end.ended[len(cluster.ended) :]
         moves = moves_of(standing.page, drained), moves_of(page, course.claims), moves_of(course.then, course.claims_back, page)
         nowhere = [held.app for held in page.held.values() if held.runs_at and not runs_at(course.then, held.app)]
-        return Step(node, *moves, nowhere, waiters), Standing(end, end.page(self.distac))
+        return Step(node, *moves, nowhere, waiters), Standing(end, course.back)
 
 
 def drain(distac: Distac, cluster: Cluster, node: str) -> list[Claimed]:

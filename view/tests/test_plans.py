@@ -96,8 +96,8 @@ class Loads(Files):
         self.assertEqual(rows[1], ["-", "2", "1", "1", "0"])
         self.assertEqual(rows[2], ["shop1@h", "3", "1", "0"])
         self.assertIn(["shop1@h shop2@h", "3", "1: audit"], rows)
-        self.assertIn(["+ 1 pairs that lose nothing more than each node alone"], rows)
-        self.assertIn(["without shop3@h one loss from nothing: reports (shop1@h)"], rows)
+        self.assertIn(["+ 1 pair that loses nothing more than each node alone"], rows)
+        self.assertIn(["without shop3@h, one loss from nothing: reports (shop1@h)"], rows)
         budgets = ((("--fail-on", "lost"), 0), (("--fail-on", "lost", "--pairs"), 1), (("--most", "2", "--fail-on", "load"), 1), (("--most", "3", "--fail-on", "lost,load"), 0))
         for words, status in budgets:
             self.assertEqual(view("load", self.shop, *words).status, status, words)
