@@ -113,7 +113,7 @@ def otp_notes(reply: Reply) -> Iterator[Note]:
 
 
 def equal_times_notes(reply: Reply) -> Iterator[Note]:
-    """Applications of a case that OTP may fail to restart, since they wait equally long and one has to choose in a tuple."""
+    """Applications of a case that OTP may fail to restart, because they wait equally long and their nodes may wait for each other."""
     for answers in reply.sides:
         for case in answers.cases:
             names = names_that_hang(answers, case, reply.configuration)
@@ -123,7 +123,7 @@ def equal_times_notes(reply: Reply) -> Iterator[Note]:
 
 
 def names_that_hang(answers: Answers, case: Case, configuration: Configuration) -> list[str]:
-    """The applications that fail over at one moment, of which one has a tuple with two nodes left."""
+    """The applications that fail over at one moment, and that OTP may fail to restart with the nodes that are left."""
     moments: dict[int, list[str]] = {}
     for fate in case.fates:
         if fate.how == "failover" and fate.milliseconds is not None:

@@ -16,7 +16,9 @@ from random_scripts import CALM, CONFIGS, DRAINS, PAUSES, ScriptMaker
 from test_what_if import random_config
 from view.cases import Course, Loss, careful_course, course_of, first_pages, quick_course
 from view.loading import Checked, check_config
+from view.noticing import outage_of
 from view.openings import Side, opened, opened_after
+from view.output import Progress
 from view.pages import page_of
 from view.running_now import Placed, opened_now
 from view.story import Miscounted
@@ -212,6 +214,52 @@ def what_counts(course: Course) -> tuple:
     """All that is shown of a case."""
     pages = [{name: (held.runs_at, held.verdict, held.marks) for name, held in page.held.items()} for page in (course.at_once, course.then, course.back)]
     return (*pages, course.claims, course.claims_back)
+
+
+class EqualTimes(unittest.TestCase):
+    """A note where OTP may fail to restart applications that wait equally long."""
+
+    def ids_of(self, times: "tuple[int, int]", lists: str, *down: str) -> "list[str]":
+        """The ids of all notes on two applications with these times."""
+        text = "[{kernel,[{distributed,[{a1,%d,[%s]},{a2,%d,[%s]}]}]}]." % (times[0], lists, times[1], lists)
+        return [note.id for note in notes_on(reply_on(distac(), checked_of(text), Question("x", list(down))))]
+
+    def test_which_cases_have_a_note(self) -> None:
+        tuples, none = "cp1@h,{cp2@h,cp3@h}", "cp1@h,cp2@h,cp3@h"
+        self.assertIn("EqualTimes", self.ids_of((400, 400), tuples, "cp1@h"))
+        self.assertNotIn("EqualTimes", self.ids_of((400, 420), tuples, "cp1@h"))
+        self.assertNotIn("EqualTimes", self.ids_of((400, 400), tuples, "cp2@h"))
+        self.assertNotIn("EqualTimes", self.ids_of((400, 400), tuples, "cp1@h", "cp2@h"))
+        self.assertNotIn("EqualTimes", self.ids_of((400, 400), none, "cp1@h"))
+
+
+class Outages(unittest.TestCase):
+    """The wait and the noticing before it, by net_ticktime."""
+
+    def test_where_the_tick_time_stands(self) -> None:
+        text = "[{kernel,[%s{distributed,[{a,5000,[x@h,y@h]}]}]}]."
+        rows = (
+            (text % "", 60, "5 to 80 s"),
+            (text % "{net_ticktime,20},", 20, "5 to 30 s"),
+            ("%% net_ticktime 10\n" + text % "", 10, "5 to 17.5 s"),
+            (text % "{net_ticktime,0},", 60, "5 to 80 s"),
+            (text % "{net_ticktime,[1]},", 60, "5 to 80 s"),
+        )
+        for config, seconds, outage in rows:
+            reply = reply_on(distac(), checked_of(config), Question("x", ["x@h"]))
+            self.assertEqual((reply.tick_time, outage_of(reply.cases[0].fates[0].milliseconds or 0, reply.tick_time)), (seconds, outage))
+
+
+class Progressing(unittest.TestCase):
+    """What the progress says."""
+
+    def test_it_counts_cases(self) -> None:
+        progress = Progress()
+        progress.ask()
+        self.assertEqual(progress.what, "question 1 to distac")
+        for done, what in ((0, "case 1 of 3"), (2, "case 3 of 3"), (3, "case 3 of 3")):
+            progress.cases = lambda done=done: (done, 3)
+            self.assertEqual(progress.what, what)
 
 
 class Plays(unittest.TestCase):
