@@ -101,7 +101,7 @@ def pair_rows(distac: Distac, side: Side, singles: dict[str, Course]) -> list[Ro
 
 
 def can_touch(side: Side, one: Course, other: Course) -> bool:
-    """Whether the moves of one loss can hang on the other one: a list of what moves has the other node, or a node that takes in its moves."""
+    """Whether one of two losses can change what the other one does: the nodes that they may touch have any in common."""
     return bool(reach_of(side, one) & reach_of(side, other))
 
 

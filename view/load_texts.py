@@ -5,7 +5,7 @@ from __future__ import annotations
 from typing import Iterator
 
 from view.load import Load, Row
-from view.texts import columns_of, listed, padded, shown
+from view.texts import columns_of, listed, shown
 from view.tokens import bare_name
 from view.what_if_notes import few_of
 from view.what_if_texts import lines_of_rows, nowhere_lines

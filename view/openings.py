@@ -4,9 +4,7 @@ from __future__ import annotations
 
 from dataclasses import dataclass, field
 
-from view.answers import Answered
 from view.cluster import Cluster, come_to_rest, share_all
-from view.configuration import Configuration
 from view.distac import Distac
 from view.loading import Checked, answers_of, load_script
 from view.pages import Page, page_of

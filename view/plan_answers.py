@@ -66,7 +66,8 @@ def changes_answer(changes: Changes, notes: Iterable[Note]) -> str:
 
 def change_fields(change: Change) -> Fields:
     """The fields of a change."""
-    return {"application": bare_name(change.app), "down": names_of(change.down), "old": place_fields(change.old), "new": place_fields(change.new)}
+    answers: Fields = {"old": place_fields(change.old), "new": place_fields(change.new)}
+    return {"application": bare_name(change.app), "down": names_of(change.down), **answers}
 
 
 def place_fields(answer: Answer) -> Fields:

@@ -86,7 +86,8 @@ def add_what_if(parser: argparse.ArgumentParser) -> None:
     parser.add_argument("--not-started", metavar="NODE", nargs="+", action="extend", default=[], help=more)
     parser.add_argument("--after", metavar="SCRIPT", help="begin where this script ends, not with a cluster that just came up")
     add_now(parser)
-    parser.add_argument("--back", metavar="NODE", nargs="+", action="extend", default=[], help="those of --down that come back, all if absent")
+    back = "those of --down that come back: all, if this is absent"
+    parser.add_argument("--back", metavar="NODE", nargs="+", action="extend", default=[], help=back)
     then = "say what this configuration changes in place of CONFIG: the exit status is 1 if it changes anything"
     parser.add_argument("--then", metavar="NEW.config", help=then)
     parser.add_argument("--all", action="store_true", help="show the rows of applications that stay too")

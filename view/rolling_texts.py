@@ -25,7 +25,8 @@ def lines_of(rolling: Rolling) -> Iterator[str]:
 def drain_notes(drains: bool) -> Iterator[Note]:
     """What a drain is in OTP."""
     if drains:
-        yield Note("NoDrain", "OTP has no drain: there it is permit(Application, false) at the node, for each application, before the restart.")
+        text = "OTP has no drain: there it is permit(Application, false) at the node, for each application, before the restart."
+        yield Note("NoDrain", text)
 
 
 def found_how(rolling: Rolling) -> str:

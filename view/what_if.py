@@ -9,7 +9,7 @@ from __future__ import annotations
 import os
 from concurrent.futures import ThreadPoolExecutor
 from dataclasses import dataclass, field
-from typing import Callable, Iterator
+from typing import Iterator
 
 from view.cases import Course, Loss, course_of, first_pages
 from view.cluster import Waiter

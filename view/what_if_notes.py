@@ -15,6 +15,20 @@ from view.texts import cut, listed, shown
 from view.what_if import Answers, Case, Fate, Reply
 
 MOST_NAMED = 8
+TEXTS = {
+    "FirstTick": "The wait counts from a node's first tick after it heard of the loss. "
+    "OTP's manual doesn't say who counts.",
+    "TupleLoad": "In a tuple the node with fewer of these applications is chosen, then the least name. "
+    "OTP counts all that run.",
+    "StartedAtOnce": "Now: all was started at once. "
+    "OTP's nodes start one application after another: --now says where each runs.",
+    "StartedAgain": "Back: the node is up and everything of its list is started there again. "
+    "Here a start ends with the node's life.",
+    "StopMoves": "A stopped application fails over with its node. "
+    "In OTP it stays stopped; here, stop it at every node.",
+    "NoSplit": "These nodes are down. "
+    "Were they cut off alone, both sides might run an application until they hear each other.",
+}
 
 
 def notes_on(reply: Reply) -> list[Note]:
@@ -34,7 +48,8 @@ def opening_notes(reply: Reply) -> Iterator[Note]:
     sides = [answers.side for answers in reply.sides]
     if len(sides) > 1:
         parts = "; ".join(listed(side.members) for side in sides)
-        yield Note("EndsInSplit", shown(f"--after ends in a split: {parts}. Each side is asked by itself, and both may run an application."))
+        text = f"--after ends in a split: {parts}. Each side is asked by itself, and both may run an application."
+        yield Note("EndsInSplit", shown(text))
     for side in sides:
         yield from start_notes(side, bool(reply.question.now))
 
@@ -89,10 +104,10 @@ def time_notes(reply: Reply) -> Iterator[Note]:
     lost = [fate for case in reply.cases for fate in case.fates if fate.how == "failover" and fate.milliseconds is not None]
     if lost:
         least, most = (seconds_of(each) for each in notice_range(reply.tick_time))
-        text = f"Outage: the wait, and before it the noticing. A node that ends is noticed at once, a host that dies without a word after {least} to {most} s"
-        yield Note("Outage", f"{text} (net_ticktime {reply.tick_time}).")
+        text = "Outage: the wait, and before it the noticing. A node that ends is noticed at once"
+        yield Note("Outage", f"{text}, a host that dies without a word after {least} to {most} s (net_ticktime {reply.tick_time}).")
     if any(fate.milliseconds for fate in lost):
-        yield Note("FirstTick", "The wait counts from a node's first tick after it heard of the loss. OTP's manual doesn't say who counts.")
+        yield Note("FirstTick", TEXTS["FirstTick"])
 
 
 def otp_notes(reply: Reply) -> Iterator[Note]:
@@ -101,15 +116,15 @@ def otp_notes(reply: Reply) -> Iterator[Note]:
     yield from equal_times_notes(reply)
     yield from idle_notes(fates)
     if any(is_of_tuple(reply, fate) for fate in fates):
-        yield Note("TupleLoad", "In a tuple the node with fewer of these applications is chosen, then the least name. OTP counts all that run.")
+        yield Note("TupleLoad", TEXTS["TupleLoad"])
     if is_guessed(reply):
-        yield Note("StartedAtOnce", "Now: all was started at once. OTP's nodes start one application after another: --now says where each runs.")
+        yield Note("StartedAtOnce", TEXTS["StartedAtOnce"])
     if any(fate.back != fate.then for fate in fates):
-        yield Note("StartedAgain", "Back: the node is up and everything of its list is started there again. Here a start ends with the node's life.")
+        yield Note("StartedAgain", TEXTS["StartedAgain"])
     if any(fate.was_stopped and fate.how == "failover" for fate in fates):
-        yield Note("StopMoves", "A stopped application fails over with its node. In OTP it stays stopped; here, stop it at every node.")
+        yield Note("StopMoves", TEXTS["StopMoves"])
     if any(len(case.down) > 1 for case in reply.cases):
-        yield Note("NoSplit", "These nodes are down. Were they cut off alone, both sides might run an application until they hear each other.")
+        yield Note("NoSplit", TEXTS["NoSplit"])
 
 
 def equal_times_notes(reply: Reply) -> Iterator[Note]:
@@ -118,8 +133,8 @@ def equal_times_notes(reply: Reply) -> Iterator[Note]:
         for case in answers.cases:
             names = names_that_hang(answers, case, reply.configuration)
             if names:
-                text = f"Without {listed(case.down)} OTP 25 may restart one of {listed(names)} alone and hang: give each its own time, 100 ms apart."
-                yield Note("EqualTimes", shown(text))
+                text = f"Without {listed(case.down)} OTP 25 may restart one of {listed(names)} alone and hang"
+                yield Note("EqualTimes", shown(f"{text}: give each its own time, 100 ms apart."))
 
 
 def names_that_hang(answers: Answers, case: Case, configuration: Configuration) -> list[str]:

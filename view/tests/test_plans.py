@@ -29,6 +29,8 @@ SHOP = (
     "[{kernel,[{distributed,[{billing,8000,[shop1@h,shop2@h,shop3@h]},{reports,3000,[shop3@h,shop1@h]},"
     "{mail,5000,[shop2@h,{shop1@h,shop3@h}]},{audit,0,[shop1@h,shop2@h]}]}]}].\n"
 )
+SYNC = "{sync_nodes_mandatory,[shop1@h,shop2@h,shop3@h]},{sync_nodes_timeout,5000}"
+GATED_SHOP = SHOP.replace("]}]}].", f"]}},{SYNC}]}}].")
 
 
 def random_side(random: Random) -> Side:
@@ -98,9 +100,9 @@ class Loads(Files):
         self.assertIn(["shop1@h shop2@h", "3", "1: audit"], rows)
         self.assertIn(["+ 1 pair that loses nothing more than each node alone"], rows)
         self.assertIn(["without shop3@h, one loss from nothing: reports (shop1@h)"], rows)
-        budgets = ((("--fail-on", "lost"), 0), (("--fail-on", "lost", "--pairs"), 1), (("--most", "2", "--fail-on", "load"), 1), (("--most", "3", "--fail-on", "lost,load"), 0))
+        budgets = (("--fail-on lost", 0), ("--fail-on lost --pairs", 1), ("--most 2 --fail-on load", 1), ("--most 3 --fail-on lost,load", 0))
         for words, status in budgets:
-            self.assertEqual(view("load", self.shop, *words).status, status, words)
+            self.assertEqual(view("load", self.shop, *words.split()).status, status, words)
         for words in (("--fail-on", "load"), ("--fail-on", "everything")):
             self.assertEqual(view("load", self.shop, *words).status, 2)
 
@@ -160,7 +162,7 @@ class Rolls(Files):
         self.assertEqual(view("rolling", self.shop, "--order", "shop2@h", "shop2@h").status, 2)
 
     def test_a_mandatory_node_bars_a_boot(self) -> None:
-        path = self.path("gate.config", SHOP.replace("]}]}].", "]},{sync_nodes_mandatory,[shop1@h,shop2@h,shop3@h]},{sync_nodes_timeout,5000}]}]."))
+        path = self.path("gate.config", GATED_SHOP)
         now = self.path("now", "shop1@h billing audit\nshop2@h mail\n")
         said = view("rolling", path, "--now", now)
         self.assertEqual(said.status, 1)
@@ -189,12 +191,14 @@ class Changed(Files):
             changes = changes_between(distac(), Question("x"), old, new)
             before, behind = (fates_of(reply_on(distac(), checked, Question("x"))) for checked in (old, new))
             losses = [key for key in before if key in behind and what_follows(before[key]) != what_follows(behind[key])]
-            starts = [name for name in old.configuration.names if name in new.configuration.names and now_of(before, name) != now_of(behind, name)]
+            both = [name for name in old.configuration.names if name in new.configuration.names]
+            starts = [(name,) for name in both if now_of(before, name) != now_of(behind, name)]
             with self.subTest(number=number):
-                self.assertEqual(sorted((change.app, *change.down) for change in changes.changes), sorted([*losses, *((name,) for name in starts)]))
+                self.assertEqual(sorted((change.app, *change.down) for change in changes.changes), sorted([*losses, *starts]))
 
     def test_statuses_and_lines(self) -> None:
-        new = self.path("new.config", SHOP.replace("{reports,3000,[shop3@h,shop1@h]}", "{reports,3000,[shop2@h,shop4@h]},{fax,[shop4@h]}"))
+        entries = "{reports,3000,[shop2@h,shop4@h]},{fax,[shop4@h]}"
+        new = self.path("new.config", SHOP.replace("{reports,3000,[shop3@h,shop1@h]}", entries))
         self.assertEqual(view("what-if", self.shop, "--then", self.shop).status, 0)
         said = view("what-if", self.shop, "--then", new)
         self.assertEqual(said.status, 1)
@@ -208,7 +212,7 @@ class Changed(Files):
             self.assertEqual(view("what-if", *words).status, 2, words)
 
     def test_what_runs_now_moves(self) -> None:
-        new = self.path("new.config", SHOP.replace("{mail,5000,[shop2@h,{shop1@h,shop3@h}]}", "{mail,5000,[shop3@h,{shop1@h,shop2@h}]}"))
+        new = self.path("new.config", SHOP.replace("[shop2@h,{shop1@h,shop3@h}]", "[shop3@h,{shop1@h,shop2@h}]"))
         said = view("what-if", self.shop, "--then", new, "--now", "mail=shop2@h", "billing=shop1@h")
         self.assertRegex(said.output, r"~ mail +now +shop2@h -> shop3@h\n")
 
@@ -233,7 +237,7 @@ class Json(Files):
 
     def test_answers(self) -> None:
         schema = documented()
-        gate = self.path("gate.config", SHOP.replace("]}]}].", "]},{sync_nodes_mandatory,[shop1@h,shop2@h,shop3@h]},{sync_nodes_timeout,5000}]}]."))
+        gate = self.path("gate.config", GATED_SHOP)
         now = self.path("now", "shop1@h billing audit\nshop2@h mail\n")
         questions = (
             ("load", self.shop, "--pairs"),

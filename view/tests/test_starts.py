@@ -14,7 +14,7 @@ from support import EXAMPLES, IS_STAND_IN, distac, view
 from check import read_config
 from random_scripts import CALM, CONFIGS, DRAINS, PAUSES, ScriptMaker
 from test_what_if import random_config
-from view.cases import Course, Loss, careful_course, course_of, first_pages, quick_course
+from view.cases import Course, Loss, careful_course, first_pages, quick_course
 from view.loading import Checked, check_config
 from view.noticing import outage_of
 from view.openings import Side, opened, opened_after
@@ -22,7 +22,7 @@ from view.output import Progress
 from view.pages import page_of
 from view.running_now import Placed, opened_now
 from view.story import Miscounted
-from view.what_if import Case, Question, Reply, reply_on
+from view.what_if import Question, Reply, reply_on
 from view.what_if_notes import notes_on
 
 COUNT = 60 if IS_STAND_IN else 300
@@ -65,7 +65,8 @@ class Gates(Asked):
         ticks = "tick cp1@cave 10\ntick cp2@cave 10\ntick cp3@cave 10\n"
         reply = self.reply(GATED, STARTED + ticks + WITHOUT_CP3)
         fates = [case.fates[0] for case in reply.cases]
-        self.assertEqual([(fate.then, fate.back) for fate in fates], [("cp2@cave", "cp2@cave"), ("cp1@cave", "cp1@cave"), ("cp1@cave", "cp1@cave")])
+        places = [("cp2@cave", "cp2@cave"), ("cp1@cave", "cp1@cave"), ("cp1@cave", "cp1@cave")]
+        self.assertEqual([(fate.then, fate.back) for fate in fates], places)
         self.assertIn("cp1@cave can't come back: it waits 5000 ms for cp3@cave, mandatory, and ends.", self.texts(reply))
 
     def test_nodes_that_gave_up_before(self) -> None:
@@ -83,13 +84,16 @@ class Gates(Asked):
         self.assertEqual(reply_on(distac(), without_gates, question).cases[0].fates[0].back, "cp1@cave")
 
     def test_waits_without_end(self) -> None:
-        reply = self.reply(GATED.replace("{sync_nodes_timeout,5000}", "{sync_nodes_timeout,infinity}"), STARTED.replace("boot cp3@cave 0\n", ""))
+        endless = GATED.replace("{sync_nodes_timeout,5000}", "{sync_nodes_timeout,infinity}")
+        reply = self.reply(endless, STARTED.replace("boot cp3@cave 0\n", ""))
         self.assertIn("cp1@cave does nothing yet: it waits without end for cp3@cave, mandatory.", self.texts(reply))
 
     def test_starts_that_are_missing(self) -> None:
         manual = (EXAMPLES / "manual.config").read_text()
         sentence = "myapp isn't started at cp2@cave: OTP waits for cp2@cave to start it, without end: it runs nowhere."
-        for script in (STARTED.replace("start cp2@cave myapp cp2@cave\n", "") + "tick cp1@cave 1\nshare\n", STARTED + "tick cp1@cave 1\nshare\nstop cp2@cave myapp cp2@cave\nshare\n"):
+        never = STARTED.replace("start cp2@cave myapp cp2@cave\n", "") + "tick cp1@cave 1\nshare\n"
+        stopped = STARTED + "tick cp1@cave 1\nshare\nstop cp2@cave myapp cp2@cave\nshare\n"
+        for script in (never, stopped):
             reply = self.reply(manual, script, "cp1@cave")
             self.assertEqual(reply.cases[0].fates[0].then, "cp3@cave")
             self.assertIn(sentence, self.texts(reply))
@@ -212,8 +216,9 @@ class Courses(Asked):
 
 def what_counts(course: Course) -> tuple:
     """All that is shown of a case."""
-    pages = [{name: (held.runs_at, held.verdict, held.marks) for name, held in page.held.items()} for page in (course.at_once, course.then, course.back)]
-    return (*pages, course.claims, course.claims_back)
+    pages = (course.at_once, course.then, course.back)
+    held = [{name: (each.runs_at, each.verdict, each.marks) for name, each in page.held.items()} for page in pages]
+    return (*held, course.claims, course.claims_back)
 
 
 class EqualTimes(unittest.TestCase):
@@ -266,7 +271,8 @@ class Plays(unittest.TestCase):
     """A case costs one play."""
 
     def test_the_count_of_plays(self) -> None:
-        text = "[{kernel,[{distributed,[%s]}]}]." % ",".join("{a%d,%d,[n%d@h,{n%d@h,n%d@h}]}" % (each, 1000 * each, each, (each + 1) % 9, (each + 5) % 9) for each in range(9))
+        lists = [(each, 1000 * each, each, (each + 1) % 9, (each + 5) % 9) for each in range(9)]
+        text = "[{kernel,[{distributed,[%s]}]}]." % ",".join("{a%d,%d,[n%d@h,{n%d@h,n%d@h}]}" % each for each in lists)
         asked, program = [], distac()
         program.is_asked = lambda: asked.append(1)
         reply = reply_on(program, checked_of(text), Question("x"))
