@@ -10,13 +10,10 @@ from typing import Callable
 from view.problems import Problem
 
 FOLDER = Path(__file__).resolve().parent.parent / "models"
-OLDEST = (3, 10)
 
 
 def asked_of_models() -> Callable[[str, bytes], "tuple[bytes, int]"]:
     """What answers as the program does: a function from a subcommand and its input to what is printed and the exit status."""
-    if sys.version_info < OLDEST:
-        raise Problem("the models need Python 3.10 or later")
     sys.path.insert(0, str(FOLDER))
     models = {"check": import_module("check").check, "sim": import_module("sim").simulate}
 

@@ -2,6 +2,7 @@
 
 from __future__ import annotations
 
+import codecs
 import re
 from dataclasses import dataclass
 from typing import Callable
@@ -113,6 +114,8 @@ def bad_token(scene: Scene) -> str:
 def unsupported(scene: Scene) -> str:
     """A term that Erlang reads and this program doesn't."""
     rest = scene.text[scene.at : scene.at + 8]
+    if scene.at == 0 and rest.startswith(ORDER_MARKS):
+        return "the file begins with a byte order mark: save it as UTF-8 without one"
     if rest[:1] in (b"[", b"{"):
         return "brackets may be 64 deep: move the parameter that is nested so deep to a second file of -config"
     if rest[:1] >= b"\x80" or (scene.touches_name and rest[:1] in b"+~$#"):
@@ -127,6 +130,7 @@ def unsupported(scene: Scene) -> str:
     return "names between quotes may hold no backslash, tab or other control character: write the name without it"
 
 
+ORDER_MARKS = (codecs.BOM_UTF8, codecs.BOM_UTF16_LE, codecs.BOM_UTF16_BE)
 UNREAD = {
     b"#": "maps and records",
     b"<": "binaries",
