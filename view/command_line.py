@@ -8,6 +8,7 @@ from typing import Callable
 
 from view.config_warnings import warnings_on
 from view.distac import Distac, found_distac
+from view.gather import gather
 from view.loading import Faulty, Loaded, answers_of, load_config, load_script
 from view.looking import seen_lines
 from view.output import Output, Progress, drop_output, say
@@ -116,7 +117,7 @@ def parser_of_words() -> argparse.ArgumentParser:
     description = "For people around distac: where a fault is, what a script did, and what happens if a node goes down."
     parser = argparse.ArgumentParser("distac-view", description=description, epilog=EPILOG, formatter_class=Formatter)
     parser.add_argument("--version", action="version", version=VERSION)
-    commands = parser.add_subparsers(title="subcommands", dest="command", metavar="check | play | timeline | what-if")
+    commands = parser.add_subparsers(title="subcommands", dest="command", metavar="check | gather | play | timeline | what-if")
     for name, about, subcommand, add_words in SUBCOMMANDS:
         own = commands.add_parser(name, parents=[shared], help=about, description=about, epilog=EPILOG, formatter_class=Formatter)
         own.set_defaults(subcommand=subcommand)
@@ -164,8 +165,22 @@ def what_if_words(parser: argparse.ArgumentParser) -> None:
     parser.add_argument("--json", action="store_true", help="print the answer as JSON")
 
 
+def gather_words(parser: argparse.ArgumentParser) -> None:
+    """The words of `gather`."""
+    about_files = "a node and its files, in the order of erl -config; - is standard input"
+    parser.add_argument("nodes", metavar="NODE=FILE[,FILE..]", nargs="*", help=about_files)
+    parser.add_argument("-o", "--output", metavar="CONFIG", default="-", help="the configuration that is written, standard output if absent")
+    more = "write a script too, in which all nodes come up: it says permissions that hold at some nodes alone"
+    parser.add_argument("-s", "--script", metavar="SCRIPT", help=more)
+    parser.add_argument("--reader", choices=("erl", "own"), help="read by Erlang or by distac-view: Erlang if escript is in PATH")
+    about_line = "print a line for a node's remote shell, whose answer is taken as a FILE"
+    parser.add_argument("--print-command", choices=("erlang", "elixir"), nargs="?", const="erlang", help=about_line)
+    parser.add_argument("--strict", action="store_true", help="a warning makes the exit status 1")
+
+
 SUBCOMMANDS: "list[tuple[str, str, Subcommand, Callable[[argparse.ArgumentParser], None]]]" = [
     ("check", "Prints the canonical text of a configuration, or where its first fault is.", check, check_words),
+    ("gather", "Writes one configuration from the files of all nodes.", gather, gather_words),
     ("play", "Plays a script and prints each answer beside its line.", play, play_words),
     ("timeline", "Draws what a script did, as one page for a browser.", timeline, timeline_words),
     ("what-if", "Says where each application goes if a node goes down, and once the node is back.", what_if, what_if_words),
