@@ -36,7 +36,7 @@ def check(distac: Distac, words: argparse.Namespace, output: Output) -> Status:
     checked = load_config(distac, words.file)
     output.line(checked.canonical)
     output.flush()
-    return warned(words, [remark.text(words.file) for remark in warnings_on(checked)])
+    return warned(words, [remark.text(words.file) for remark in warnings_on(checked, words.file)])
 
 
 def play(distac: Distac, words: argparse.Namespace, output: Output) -> Status:
@@ -167,6 +167,7 @@ def what_if_words(parser: argparse.ArgumentParser) -> None:
 
 def gather_words(parser: argparse.ArgumentParser) -> None:
     """The words of `gather`."""
+    parser.set_defaults(version=VERSION)
     about_files = "a node and its files, in the order of erl -config; - is standard input"
     parser.add_argument("nodes", metavar="NODE=FILE[,FILE..]", nargs="*", help=about_files)
     parser.add_argument("-o", "--output", metavar="CONFIG", default="-", help="the configuration that is written, standard output if absent")

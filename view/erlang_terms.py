@@ -7,7 +7,7 @@ from __future__ import annotations
 
 import re
 from dataclasses import dataclass, field
-from typing import Any, Iterator
+from typing import Any
 
 from view.erlang_tokens import Lexeme, Misread, Sort, lexemes_of, unescaped
 
@@ -282,14 +282,3 @@ def text_in(lexeme: Lexeme) -> str:
 def term_of(text: str) -> Term:
     """The term of a text. A text that has none, or anything else beside it, raises this."""
     return TermReader(text).term()
-
-
-def atoms_in(term: Term) -> Iterator[str]:
-    """The names of all atoms of a term."""
-    waiting = [term]
-    while waiting:
-        each = waiting.pop()
-        if isinstance(each, Atom):
-            yield each.name
-        elif isinstance(each, (list, tuple)):
-            waiting.extend(reversed(each))

@@ -44,9 +44,9 @@ LETTERS = r"[A-Za-z0-9_@\u00c0-\u00d6\u00d8-\u00f6\u00f8-\u00ff]*"
 ESCAPED = r"\\(?:\^.|[^^])"
 BLANKS = re.compile(r"(?:[\x00-\x20\x80-\xa0]|%[^\n]*)*")
 FORMS = (
-    (Sort.TEXT, r'(?P<fence>"{3,})[^\S\n]*\n.*?\n[^\S\n]*(?P=fence)'),
+    (Sort.TEXT, r'(?P<fence>"{3,20}(?!"))[^\S\n]*\n.*?\n[^\S\n]*(?P=fence)'),
     (Sort.STRING, rf'"(?:[^"\\]|{ESCAPED})*"'),
-    (Sort.SIGIL, rf'~[A-Za-z]*(?:(?P<mark>"{{3,}})[^\S\n]*\n.*?\n[^\S\n]*(?P=mark)|"(?:[^"\\]|{ESCAPED})*"|\'(?:[^\'\\]|{ESCAPED})*\''
+    (Sort.SIGIL, rf'~[A-Za-z]*(?:(?P<mark>"{{3,20}}(?!"))[^\S\n]*\n.*?\n[^\S\n]*(?P=mark)|"(?:[^"\\]|{ESCAPED})*"|\'(?:[^\'\\]|{ESCAPED})*\''
      r"|\[[^\]]*\]|\{[^}]*\}|\([^)]*\)|<[^>]*>|/[^/]*/|\|[^|]*\||`[^`]*`|#[^#]*#)"),
     (Sort.QUOTED, rf"'(?:[^'\\]|{ESCAPED})*'"),
     (Sort.CHARACTER, r"\$(?:\\(?:\^.|x\{[0-9A-Fa-f]+\}|x[0-9A-Fa-f]{2}|[0-7]{1,3}|[^^x])|[^\\])"),
@@ -100,7 +100,7 @@ def unescaped(written: str, place: int) -> str:
 
     def replacement(found: re.Match[str]) -> str:
         """The character that an escape stands for."""
-        code = code_of(found)
+        code = MOST_CODE + 1 if found["sign"] == "x" else code_of(found)
         if code > MOST_CODE or 0xD800 <= code < 0xE000:
             raise Misread(place + found.start(), "no character has this number")
         return chr(code)

@@ -39,7 +39,7 @@ def gather(distac: Distac, words: argparse.Namespace, output: Output) -> Status:
     placements = [placement_of(settings) for settings in settings_by_node(words.nodes, reader_named(words.reader))]
     found = gathered(placements)
     checked = check_config(distac, "the gathered configuration", bytes_of(found.text))
-    write(words.output, "\n".join([*head_of(placements, found), checked.canonical]) + "\n", output)
+    write(words.output, "\n".join([*head_of(words.version, placements, found), checked.canonical]) + "\n", output)
     if words.script:
         write(words.script, opening_script(checked.canonical, checked.configuration, found), output)
     for warning in found.warnings:
@@ -61,12 +61,10 @@ def settings_by_node(words: list[str], reader: Reader) -> list[NodeSettings]:
     return [settings_of(node, paths, library) for node, paths in named.items()]
 
 
-def head_of(placements: list[Placement], found: Gathered) -> list[str]:
+def head_of(version: str, placements: list[Placement], found: Gathered) -> list[str]:
     """The comment above the configuration: which files it is made of."""
-    from view.command_line import VERSION
-
     count = f"{len(placements)} node" + ("s" if len(placements) > 1 else "")
-    lines = [f"%% {VERSION}, gather: one configuration from the files of {count}"]
+    lines = [f"%% {version}, gather: one configuration from the files of {count}"]
     for placement in placements:
         lines += [f"%% {shown(placement.node)} {path_text(file.path)} sha256 {file.mark}" for file in placement.settings.files]
     if found.tick_time is not None:

@@ -33,7 +33,7 @@ class Gathered:
         parts.append("{permissions,[%s]}" % ",".join("{%s,false}" % app for app in self.barred))
         parts += ["{%s,[%s]}" % (name, ",".join(self.sync[name])) for name in SYNC_LISTS]
         if self.sync_time is not None:
-            parts.append("{sync_nodes_timeout,%s}" % ("infinity" if self.sync_time == float("inf") else int(self.sync_time)))
+            parts.append("{sync_nodes_timeout,%s}" % time_text(self.sync_time))
         return "[{kernel,[%s]}].\n" % ",".join(parts)
 
 
@@ -47,7 +47,7 @@ def gathered(placements: list[Placement]) -> Gathered:
         want_same_applications(placements[0], other)
     found = Gathered(entries, nodes_named(entries, placements))
     resolve_nodes(found, placements)
-    found.warnings += [told.text() for placement in placements for told in placement.settings.warnings]
+    found.warnings += once_each(told for placement in placements for told in placement.settings.warnings)
     found.warnings += time_warnings(placements)
     gather_sync(found, placements)
     gather_permissions(found, placements)
@@ -56,6 +56,14 @@ def gathered(placements: list[Placement]) -> Gathered:
     found.tick_time = None if tick_time is None else int(tick_time)
     found.warnings = list(dict.fromkeys([*found.warnings, *coverage_warnings(found, placements)]))
     return found
+
+
+def once_each(warnings: Iterable[Told]) -> list[str]:
+    """Warnings as they are printed. What is said of many files is said of the first one."""
+    by_sentence: dict[str, Told] = {}
+    for told in warnings:
+        by_sentence.setdefault(told.remark.sentence, told)
+    return [told.text() for told in by_sentence.values()]
 
 
 def without_distributed(placement: Placement, placements: list[Placement]) -> Exception:
@@ -136,17 +144,19 @@ def told_at(setting: Setting, name: str, sentence: str) -> str:
 
 def greatest(found: Gathered, placements: list[Placement], name: str, values: list[float | None]) -> float | None:
     """The greatest value of a parameter, with a warning where nodes differ."""
-    known = [value for value in values if value is not None]
-    if not known:
-        return None
-    most = max(known)
+    most = max((value for value in values if value is not None), default=None)
     for placement, value in zip(placements, values):
         if value != most:
             source = placements[values.index(most)].settings.kernel[name]
-            written = "infinity" if most == float("inf") else str(int(most))
-            sentence = f"{name} is {written} at {source.origin.line}, and {shown(placement.node)} has another value or none: {written} is written"
-            found.warnings.append(told_at(placement.settings.kernel.get(name, source), "TimeDiffers", sentence))
+            what = f"{name} is {time_text(most)} at {source.origin.line}, and {shown(placement.node)} has {time_text(value)}"
+            here = placement.settings.kernel.get(name, source)
+            found.warnings.append(told_at(here, "TimeDiffers", f"{what}: {time_text(most)} is written"))
     return most
+
+
+def time_text(value: float | None) -> str:
+    """A time as a file has it."""
+    return "none" if value is None else "infinity" if value == float("inf") else str(int(value))
 
 
 def gather_sync(found: Gathered, placements: list[Placement]) -> None:

@@ -16,14 +16,10 @@ from view.loading import Faulty
 from view.places import Remark, place_of
 from view.problems import Problem, Status
 from view.script import read_bytes
+from view.templates import FILLED_IN, template_in
 from view.texts import bytes_of, cut, shown
 
 ANSWER_MARK = "%% distac-view: kernel of "
-TEMPLATE = re.compile(r"\$\{[A-Za-z_][A-Za-z0-9_.]*\}")
-TEMPLATE_SENTENCE = (
-    "a template that is filled in when the release starts: take the file that this makes, or the answer of a running node"
-    " (gather --print-command)"
-)
 NO_TERMS = (".exs", ".args", ".src")
 
 
@@ -155,20 +151,11 @@ def fault_of_syntax(file: NodeFile, misread: Misread) -> Faulty:
     """What is raised for a text that is no term: a template is told as such."""
     template = template_in(file.text)
     if template is not None:
-        return file.fault(template, "Template", TEMPLATE_SENTENCE)
+        return file.fault(template, "Template", FILLED_IN)
     if file.path.endswith(NO_TERMS):
-        advice = "this is no file of Erlang terms: ask the running node for its values, by the line of gather --print-command"
-        return file.fault(misread.place, "NoTerms", f"{misread.sentence}; {advice}")
+        sentence = "this is no file of Erlang terms: ask the running node for its values, by the line of gather --print-command"
+        return file.fault(misread.place, "NoTerms", sentence)
     return file.fault(misread.place, "Syntax", misread.sentence)
-
-
-def template_in(text: str) -> int | None:
-    """The first character of a `${NAME}` that stands in no comment."""
-    for line in re.finditer(r"[^\n]+", text):
-        found = TEMPLATE.search(re.sub(r"(?<!\$)%.*", "", line.group()))
-        if found:
-            return line.start() + found.start()
-    return None
 
 
 def settings_of(node: str, paths: list[str], library: Library) -> NodeSettings:
@@ -195,7 +182,7 @@ def followed(path: str, item: list[int]) -> str:
     """The path of a file that another one names: beside that one if it is there, else as it is written."""
     name = "".join(chr(sign) for sign in item)
     name = name if name.endswith(".config") else f"{name}.config"
-    beside = os.path.join(os.path.dirname(path), name)
+    beside = os.path.normpath(os.path.join(os.path.dirname(path), name))
     return beside if os.path.exists(beside) else name
 
 
@@ -210,9 +197,9 @@ def add_file(settings: NodeSettings, path: str, library: Library) -> None:
             follow(settings, file, inner, library)
         else:
             add_section(settings, file, item, places)
-    if names_in(path, library) and os.path.basename(path) != "sys.config":
+    if names_in(path, library) and os.path.basename(file.path) != "sys.config":
         sentence = "OTP follows names of files in sys.config alone, and refuses this file under another name"
-        settings.warnings.append(Told(path, file.remark(places.first_string, "NotSysConfig", sentence)))
+        settings.warnings.append(Told(file.path, file.remark(places.first_string, "NotSysConfig", sentence)))
     warn_of_twice(settings, file, places)
 
 

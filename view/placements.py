@@ -6,7 +6,8 @@ import re
 from dataclasses import dataclass, field
 
 from view.erlang_terms import Atom, Other, Term
-from view.node_files import TEMPLATE, TEMPLATE_SENTENCE, NodeSettings, Setting, Told
+from view.node_files import NodeSettings, Setting, Told
+from view.templates import FILLED_IN, TEMPLATE
 from view.texts import cut, shown
 from view.tokens import name_of
 
@@ -128,7 +129,7 @@ def spelled(setting: Setting, item: Term) -> str:
     if not isinstance(item, Atom):
         raise setting.fault("BadName", "a name is wanted here: an atom, without double quotes around it")
     if TEMPLATE.search(item.name):
-        raise setting.fault("Template", f"{cut(shown(item.name), 60)} is left of {TEMPLATE_SENTENCE}")
+        raise setting.fault("Template", f"{cut(shown(item.name), 60)} is left of {FILLED_IN}")
     if UNSAYABLE.search(item.name):
         raise setting.fault("BadName", f"distac reads no name with a quote, a backslash or a control character: {cut(shown(item.name), 60)}")
     return name_of(f"'{item.name}'")
