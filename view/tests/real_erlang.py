@@ -1,5 +1,5 @@
 #!/usr/bin/env python3
-"""Compares `gather`, `what-if` and the warnings of `check` with three real nodes of Erlang/OTP on the loopback interface.
+"""Compares `gather`, `what-if`, `rolling` and the warnings of `check` with three real nodes of Erlang/OTP on the loopback interface.
 
     python3 view/tests/real_erlang.py [--only NAME ..] [--runs N] [--seconds N]
 
@@ -12,6 +12,7 @@ from __future__ import annotations
 
 import argparse
 import json
+import re
 import sys
 import tempfile
 import time
@@ -243,6 +244,51 @@ def kind_of(case: Case, observed: dict[str, dict], wanted: str | None, found: st
     return "started elsewhere" if observed["now"] != expected(case.fates, "now") else "differ"
 
 
+ROLLED = (("ladder", (0, 1, 2)), ("ladder", (2, 0, 1)), ("short lists", (1, 2, 0)))
+STEP = re.compile(r"(?m)^\d+ (?P<node>\S+): .*?down: (?P<down>.*?); (?:runs nowhere.*?; )?back: (?P<back>.*)$")
+MOVE = re.compile(r"(\S+) -> (\S+?)(?: after| \(|,|;|$)")
+
+
+def compare_rolling(score: Score) -> None:
+    """Nodes restart one after another, and each application is where each step of `rolling` has it. Skipped if there is no `rolling`."""
+    if "rolling" not in run_view("--help").output:
+        print("rolling isn't among the subcommands: it isn't compared")
+        return
+    for name, order in ROLLED:
+        scenario = next(each for each in SCENARIOS if each.name == name)
+        roll(scenario, [NODES[number] for number in order], score)
+
+
+def roll(scenario: Scenario, order: list[str], score: Score) -> None:
+    """One rolling restart with nodes of its own."""
+    head = f"{scenario.name}, rolling {' > '.join(node.split('@')[0] for node in order)}"
+    with tempfile.TemporaryDirectory(prefix="distac-nodes-") as room, Cluster(Path(room), dict.fromkeys(scenario.names, 0)) as cluster:
+        config = prepared(scenario, NODES[:1], Path(room), {}).folder / "cluster.config"
+        boot(cluster, NODES, scenario.names)
+        time.sleep(LATE_SECONDS)
+        places = seen(cluster, scenario.names)
+        now = [f"{app}={node}" for app, node in places.items() if node]
+        said = run_view("rolling", str(config), "--order", *order, "--now", *now)
+        for step, node in zip(STEP.finditer(said.output), order):
+            for part, change in (("down", cluster.nodes[node].kill), ("back", lambda node=node: boot(cluster, (node,), scenario.names))):
+                places = moved(places, step[part], node if part == "down" else "")
+                change()
+                found, _ = wait_for(cluster, places, LATE_SECONDS + 2)
+                for app, place in places.items():
+                    is_equal = found[app] == place
+                    row = f"{head}: {app} {part} of {node} {place}, and OTP has {found[app]}"
+                    score.add("agree" if is_equal else "differ", "" if is_equal else row)
+    steps = len(STEP.findall(said.output))
+    score.add("agree" if steps == len(order) else "differ", "" if steps == len(order) else f"{head}: {said.output}{said.errors}")
+    print(f"{head}: {said.output.splitlines()[0] if said.output else said.errors}", flush=True)
+
+
+def moved(places: dict[str, str | None], moves: str, lost: str) -> dict[str, str | None]:
+    """Where applications are after some moves. What was at a lost node and moves nowhere runs nowhere."""
+    targets = {app: node if "@" in node else None for app, node in MOVE.findall(moves)}
+    return {app: targets.get(app, None if place == lost else place) for app, place in places.items()}
+
+
 def compare_answers(score: Score) -> None:
     """The remote shell's answers of running nodes say the same to `gather` as their files do."""
     scenario = SCENARIOS[0]
@@ -308,6 +354,7 @@ def main(arguments: list[str]) -> int:
     if not words.only:
         compare_answers(score)
         compare_boots(score)
+        compare_rolling(score)
     for scenario, down in chain.from_iterable(((each, down) for down in each.cases) for each in chosen * words.runs):
         if time.monotonic() > end:
             print("no time is left for the other cases")
