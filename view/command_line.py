@@ -8,7 +8,7 @@ from typing import Callable
 
 from view.config_warnings import warnings_on
 from view.distac import Distac, found_distac
-from view.gather import gather
+from view.gather import EXAMPLES, gather
 from view.loading import Faulty, Loaded, answers_of, load_config, load_script
 from view.looking import seen_lines
 from view.output import Output, Progress, drop_output, say
@@ -167,6 +167,7 @@ def what_if_words(parser: argparse.ArgumentParser) -> None:
 
 def gather_words(parser: argparse.ArgumentParser) -> None:
     """The words of `gather`."""
+    parser.epilog = f"{EXAMPLES}\n\n{parser.epilog}"
     parser.set_defaults(version=VERSION)
     about_files = "a node and its files, in the order of erl -config; - is standard input"
     parser.add_argument("nodes", metavar="NODE=FILE[,FILE..]", nargs="*", help=about_files)

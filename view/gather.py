@@ -3,7 +3,6 @@
 from __future__ import annotations
 
 import argparse
-import os
 
 from view.configuration import Configuration
 from view.distac import Distac
@@ -15,6 +14,7 @@ from view.output import Output, say
 from view.placements import Placement, placement_of
 from view.problems import Problem, Status
 from view.texts import bytes_of, shown
+from view.writing import PIPE, write_whole
 
 ERLANG_LINE = (
     "K=[distributed,permissions,sync_nodes_mandatory,sync_nodes_optional,sync_nodes_timeout,net_ticktime],"
@@ -26,6 +26,14 @@ ELIXIR_LINE = (
     ":io.format(~c\"~n%% distac-view: kernel of ~tw~n~tw.~n\", "
     "[node(), [kernel: (for p <- k, {:ok, v} <- [:application.get_env(:kernel, p)], do: {p, v})]])"
 )
+EXAMPLES = """\
+examples:
+  distac-view gather shop1=shop1/sys.config shop2=shop2/sys.config -o cluster.config
+                              one configuration from the files of two nodes
+  distac-view gather shop1@10.0.0.1=common.config,shop1.config shop2@10.0.0.2=common.config,shop2.config
+                              later files win, as with erl -config common -config shop1
+  bin/shop eval "$(distac-view gather --print-command)" > shop1.answer
+                              what a running node has: gather takes the answer as its FILE"""
 LINES = {"erlang": ERLANG_LINE, "elixir": ELIXIR_LINE}
 
 
@@ -39,9 +47,10 @@ def gather(distac: Distac, words: argparse.Namespace, output: Output) -> Status:
     placements = [placement_of(settings) for settings in settings_by_node(words.nodes, reader_named(words.reader))]
     found = gathered(placements)
     checked = check_config(distac, "the gathered configuration", bytes_of(found.text))
-    write(words.output, "\n".join([*head_of(words.version, placements, found), checked.canonical]) + "\n", output)
+    lines = [*head_of(words.version, placements, found), checked.canonical]
+    write(words.output, "".join(line + "\n" for line in lines), placements, output)
     if words.script:
-        write(words.script, opening_script(checked.canonical, checked.configuration, found), output)
+        write(words.script, opening_script(checked.canonical, checked.configuration, found), placements, output)
     for warning in found.warnings:
         say(warning)
     return Status.FAULT if found.warnings and words.strict else Status.FINE
@@ -82,16 +91,10 @@ def opening_script(canonical: str, configuration: Configuration, found: Gathered
     return "\n".join([*lines, "share"]) + "\n"
 
 
-def write(path: str, text: str, output: Output) -> None:
-    """Writes a text to a file, or to standard output for a dash. A file is there whole or not at all."""
-    if path == "-":
+def write(path: str, text: str, placements: list[Placement], output: Output) -> None:
+    """Writes a text to a file, but over none that was read, or to standard output for a dash."""
+    if path == PIPE:
         output.raw(bytes_of(text))
         output.flush()
-        return
-    partial = f"{path}.part"
-    try:
-        with open(partial, "wb") as file:
-            file.write(bytes_of(text))
-        os.replace(partial, path)
-    except (OSError, ValueError) as error:
-        raise Problem(f"{path} can't be written: {getattr(error, 'strerror', None) or error}") from error
+    else:
+        write_whole(path, bytes_of(text), [file.path for placement in placements for file in placement.settings.files])

@@ -6,7 +6,7 @@ from dataclasses import dataclass, field
 from typing import Iterable
 
 from view.configuration import name_order
-from view.node_files import Setting, Told
+from view.node_files import NO_NAME, Setting, Told
 from view.placements import SYNC_LISTS, Entry, Placement
 from view.problems import Problem, Status
 from view.texts import cut, listed, shown
@@ -87,14 +87,26 @@ def nodes_named(entries: list[Entry], placements: list[Placement]) -> list[str]:
 def resolve_nodes(found: Gathered, placements: list[Placement]) -> None:
     """Each node by its whole name: the part before @ is enough on the command line if it names one."""
     for placement in placements:
-        if placement.node in found.nodes:
-            continue
-        short = [node for node in found.nodes if node.strip("'").split("@")[0] == placement.node.strip("'")]
-        if len(short) == 1:
-            placement.node = short[0]
-        else:
-            some = cut(shown(", ".join(found.nodes)), 200)
-            found.warnings.append(f"distac-view: UnknownNode: {shown(placement.node)} is in no list of the files, which name {some}")
+        if placement.node not in found.nodes:
+            resolve(placement, found)
+        others = [file.answered_by for file in placement.settings.files if file.answered_by not in ("", NO_NAME)]
+        if any(node_named(other) != placement.node for other in others):
+            what = f"an answer of {shown(listed(others))} is taken for {shown(placement.node)}"
+            found.warnings.append(f"distac-view: OtherNode: {what}: each node has to be asked itself")
+    names = [placement.node for placement in placements]
+    twice = next((name for name in names if names.count(name) > 1), None)
+    if twice is not None:
+        raise Problem(f"{shown(twice)} is named twice: write it once, with all its files behind one =")
+
+
+def resolve(placement: Placement, found: Gathered) -> None:
+    """A node's whole name by the part of it before @, if there is one such node."""
+    short = [node for node in found.nodes if node.strip("'").split("@")[0] == placement.node.strip("'")]
+    if len(short) == 1:
+        placement.node = short[0]
+        return
+    some = cut(shown(", ".join(found.nodes)), 200)
+    found.warnings.append(f"distac-view: UnknownNode: {shown(placement.node)} is in no list of the files, which name {some}")
 
 
 def merged_entry(entry: Entry, placements: list[Placement]) -> Entry:

@@ -20,6 +20,7 @@ from view.templates import FILLED_IN, template_in
 from view.texts import bytes_of, cut, shown
 
 ANSWER_MARK = "%% distac-view: kernel of "
+NO_NAME = "nonode@nohost"
 NO_TERMS = (".exs", ".args", ".src")
 
 
@@ -30,6 +31,12 @@ class NodeFile:
     path: str
     source: bytes
     text: str
+
+    @property
+    def answered_by(self) -> str:
+        """The node whose remote shell gave the answer that it holds, if it holds one."""
+        _, _, behind = decoded(self.source).partition(ANSWER_MARK)
+        return behind.split("\n")[0].strip()
 
     @property
     def mark(self) -> str:

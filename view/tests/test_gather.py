@@ -250,6 +250,9 @@ class Use(unittest.TestCase):
             self.assertEqual((said.status, said.output), (2, ""), words)
             self.assertTrue(said.errors)
         self.assertEqual(gather(*DESKS, "-o", "/no/such/folder/file").status, 2)
+        self.assertIn("isn't written over", gather(*DESKS, "-o", "manual/desk2.config").errors)
+        self.assertIn("is named twice", gather(*DESKS, "desk1=manual/desk1.config").errors)
+        self.assertIn("an answer of a@h is taken for b@h", gather("a@h=answer.txt", "b@h=answer.txt").errors)
         self.assertEqual(gather(*DESKS, "--reader", "mine").status, 2)
 
     def test_the_line_for_a_remote_shell(self) -> None:
