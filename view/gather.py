@@ -32,8 +32,10 @@ examples:
                               one configuration from the files of two nodes
   distac-view gather shop1@10.0.0.1=common.config,shop1.config shop2@10.0.0.2=common.config,shop2.config
                               later files win, as with erl -config common -config shop1
-  bin/shop eval "$(distac-view gather --print-command)" > shop1.answer
-                              what a running node has: gather takes the answer as its FILE"""
+  distac-view gather --print-command | erl_call -name shop1@10.0.0.1 -c COOKIE -fetch_stdout -e > shop1.answer
+                              what a running node has: gather takes the answer as its FILE
+  bin/shop rpc "$(distac-view gather --print-command elixir)" > shop1.answer
+                              the same of a release that mix made"""
 LINES = {"erlang": ERLANG_LINE, "elixir": ELIXIR_LINE}
 
 
