@@ -7,12 +7,15 @@ import os
 import tempfile
 import unittest
 from pathlib import Path
+from random import Random
 from unittest import mock
 
 from hostile_files import FINE, hostile_sources
+from random_clusters import random_cluster
 from support import Said, distac, run_view, view
 from view.erlang_reader import has_erlang
 
+COUNT = 200
 NODES = Path(__file__).resolve().parent / "nodes"
 READERS = ("erl", "own") if has_erlang() else ("own",)
 DESKS = tuple(f"desk{number}@10.4.0.{number}=manual/desk{number}.config" for number in (1, 2, 3))
@@ -101,6 +104,27 @@ class FilesOfNodes(unittest.TestCase):
             self.assertIn("audit", answer.output)
             self.assertRegex(answer.output, r"audit without bank2@vault: .*bank1@vault=barred|audit +bank2@vault +- +nobody")
             self.assertEqual(sorted(os.listdir(room)), ["cluster.config", "opening.distac"])
+
+
+class RandomClusters(unittest.TestCase):
+    """The files of all nodes are as good as one configuration for all."""
+
+    def compare(self, number: int, reader: str) -> None:
+        """One cluster."""
+        cluster = random_cluster(Random(f"cluster {number}"))
+        with tempfile.TemporaryDirectory() as room, self.subTest(number=number, text=cluster.text):
+            words = [f"{node}={','.join(str(path) for path in cluster.files_of(node, Path(room)))}" for node in cluster.nodes]
+            said = view("gather", "--strict", "--reader", reader, *words)
+            self.assertEqual((said.status, said.errors), (0, ""), said)
+            self.assertEqual(said.output.splitlines()[-1], canonical(cluster.text.encode()))
+
+    def test_own_reader(self) -> None:
+        for number in range(COUNT):
+            self.compare(number, "own")
+
+    def test_erlang(self) -> None:
+        for number in range(COUNT // 20 if has_erlang() else 0):
+            self.compare(number, "erl")
 
 
 class Differences(unittest.TestCase):
