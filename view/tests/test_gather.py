@@ -12,7 +12,7 @@ from unittest import mock
 
 from hostile_files import FINE, hostile_sources
 from random_clusters import random_cluster
-from support import Said, distac, run_view, view
+from support import EXAMPLES, Said, distac, run_view, view
 from view.erlang_reader import has_erlang
 
 COUNT = 200
@@ -70,6 +70,14 @@ class FilesOfNodes(unittest.TestCase):
                     wanted = canonical((NODES / f"{name}.by-hand.config").read_bytes())
                     self.assertEqual(said.output.splitlines()[-1], wanted)
                     self.assertEqual(canonical(said.output.encode()), wanted)
+
+    def test_the_example(self) -> None:
+        for reader in READERS:
+            words = [f"shop{number}={EXAMPLES}/nodes/shop{number}.config" for number in (1, 2, 3)]
+            said = view("gather", "--strict", "--reader", reader, *words)
+            self.assertEqual((said.status, said.errors), (0, ""))
+            self.assertEqual(len(said.output.splitlines()), 6)
+            self.assertIn("{sync_nodes_optional,['shop1@10.20.0.11','shop2@10.20.0.12','shop3@10.20.0.13']}", said.output)
 
     def test_what_is_refused(self) -> None:
         for name, fault in REFUSED:
