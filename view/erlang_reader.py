@@ -104,7 +104,8 @@ def run_escript(words: list[str], folder: str) -> str:
     surroundings = {name: value for name, value in os.environ.items() if not re.match(r"ERL_\w*FLAGS\Z", name)}
     surroundings["ERL_CRASH_DUMP_SECONDS"] = "0"
     try:
-        done = subprocess.run([escript, *words], cwd=folder, env=surroundings, stdin=subprocess.DEVNULL, capture_output=True, timeout=SECONDS, check=False)
+        nothing = subprocess.DEVNULL
+        done = subprocess.run([escript, *words], cwd=folder, env=surroundings, stdin=nothing, capture_output=True, timeout=SECONDS, check=False)
     except subprocess.TimeoutExpired as error:
         raise Problem(f"escript didn't end within {SECONDS} seconds: try --reader own") from error
     except OSError as error:

@@ -9,7 +9,7 @@ from view.distac import Distac
 from view.erlang_reader import Reader, reader_named
 from view.gathering import Gathered, gathered, node_named
 from view.loading import check_config
-from view.node_files import Library, NodeSettings, path_text, settings_of
+from view.node_files import ANSWER_MARK, Library, NodeSettings, path_text, settings_of
 from view.output import Output, say
 from view.placements import Placement, placement_of
 from view.problems import Problem, Status
@@ -18,12 +18,12 @@ from view.writing import PIPE, write_whole
 
 ERLANG_LINE = (
     "K=[distributed,permissions,sync_nodes_mandatory,sync_nodes_optional,sync_nodes_timeout,net_ticktime],"
-    'io:format("~n%% distac-view: kernel of ~tw~n~tw.~n",'
+    f'io:format("~n{ANSWER_MARK}~tw~n~tw.~n",'
     "[node(),[{kernel,[{P,V}||P<-K,{ok,V}<-[application:get_env(kernel,P)]]}]])."
 )
 ELIXIR_LINE = (
     "k = [:distributed, :permissions, :sync_nodes_mandatory, :sync_nodes_optional, :sync_nodes_timeout, :net_ticktime]; "
-    ":io.format(~c\"~n%% distac-view: kernel of ~tw~n~tw.~n\", "
+    f':io.format(~c"~n{ANSWER_MARK}~tw~n~tw.~n", '
     "[node(), [kernel: (for p <- k, {:ok, v} <- [:application.get_env(:kernel, p)], do: {p, v})]])"
 )
 EXAMPLES = """\

@@ -143,8 +143,8 @@ def time_warnings(placements: list[Placement]) -> list[str]:
         times = [(own.timeout, placement.settings.kernel["distributed"]) for placement, own in each if own is not None]
         if len({time for time, _ in times}) > 1:
             most, least = max(times, key=lambda time: time[0]), min(times, key=lambda time: time[0])
-            sentence = f"the failover time of {shown(entry.app)} is {least[0]} here, and {most[0]} at {most[1].origin.line}: the greater one is written"
-            found.append(told_at(least[1], "TimeDiffers", sentence))
+            what = f"the failover time of {shown(entry.app)} is {least[0]} here, and {most[0]} at {most[1].origin.line}"
+            found.append(told_at(least[1], "TimeDiffers", f"{what}: the greater one is written"))
     return found
 
 
@@ -188,8 +188,8 @@ def sync_differs(name: str, placement: Placement, missing: list[str], placements
     """That a node doesn't wait for nodes for which another one waits."""
     other = next(each for each in placements if missing[0] in each.sync[name])
     there = other.settings.kernel[name]
-    sentence = f"{shown(placement.node)} doesn't wait for {shown(listed(missing))}, which {shown(other.node)} has in {name}: one list for all is written"
-    return told_at(placement.settings.kernel.get(name, there), "SyncDiffers", sentence)
+    what = f"{shown(placement.node)} doesn't wait for {shown(listed(missing))}, which {shown(other.node)} has in {name}"
+    return told_at(placement.settings.kernel.get(name, there), "SyncDiffers", f"{what}: one list for all is written")
 
 
 def add_own(found: Gathered, placement: Placement, placements: list[Placement]) -> None:

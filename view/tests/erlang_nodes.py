@@ -27,7 +27,8 @@ def is_installed() -> bool:
 
 def release_of_otp() -> str:
     """The release of OTP, and the version of kernel."""
-    text = 'io:format("OTP ~s, kernel ~s",[erlang:system_info(otp_release),element(3,lists:keyfind(kernel,1,application:loaded_applications()))]),halt().'
+    version = "element(3,lists:keyfind(kernel,1,application:loaded_applications()))"
+    text = f'io:format("OTP ~s, kernel ~s",[erlang:system_info(otp_release),{version}]),halt().'
     done = subprocess.run(["erl", "-noinput", "-boot", "start_clean", "-eval", text], capture_output=True, text=True, timeout=60, check=True)
     return done.stdout
 

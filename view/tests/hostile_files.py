@@ -14,9 +14,11 @@ def hostile_sources() -> list[bytes]:
     return [
         *FINE,
         *(b"", b"\0", b"\xff\xfe", b"\xef\xbb\xbf[].", b"[{kernel,[{distributed,[{a,[\xff@h]}]}]}].", b"%% coding: latin-1\n[\xff", b"." * 1_000),
-        *(b"[" * 5_000, b"{" * 5_000, b"<<" * 5_000, b"(" * 5_000, b"#{" * 5_000, b'"' * 5_001, b"'" + b"a" * 70_000 + b"'.", b"$" * 999, b"-" * 5_000),
+        *(sign * 5_000 for sign in (b"[", b"{", b"<<", b"(", b"#{", b"-")),
+        *(b'"' * 5_001, b"'" + b"a" * 70_000 + b"'.", b"$" * 999),
         *(placed % (b"9" * 10_000), placed % b"16#" + b"f" * 100, placed % b"1.0e400", placed % b"'\0'", placed % b"\"\\x{110000}\""),
-        *(b"[{kernel,[{distributed,[{'a\\n',[x@h]}]}]}].", b"[{kernel,[{distributed,[{'" + b"a" * 256 + b"',[x@h]}]}]}].", b"[{kernel,[{distributed,[{'\0',[x@h]}]}]}]."),
-        *(b"%% distac-view: kernel of x@h", b"%% distac-view: kernel of x@h\n", b"%% distac-view: kernel of x@h\nok\n", b"[" + b"\"x\"," * 50 + b"{a,[]}]."),
+        *(b"[{kernel,[{distributed,[{'%s',[x@h]}]}]}]." % name for name in (b"a\\n", b"a" * 256, b"\0")),
+        *(b"%% distac-view: kernel of x@h" + behind for behind in (b"", b"\n", b"\nok\n")),
+        b"[" + b"\"x\"," * 50 + b"{a,[]}].",
         *(b"[[0]].", b"[[1114112]].", b"[\"\xc3\xa9\0\"].", b"[\"../../../no/such\"]."),
     ]

@@ -5,10 +5,12 @@ from __future__ import annotations
 from random import Random
 
 NAMES = ("a", "b@h", "'c d'", "'it\\'s'", "'\\x{e9}\\101\\^a'", "'Été'", "été", "ok", "infinity", "'end'", "x_1@Y")
-NUMBERS = ("0", "7", "-3", "- 3", "+5", "1_000", "16#fF", "2#10_01", "36#zZ", "-16#a", "1.5", "0.25e-3", "1_0.0_1E+2", "-2.5", "$a", "$\\n", "$ ", "$\\x{263a}", "$'", "-$b", "($c)", "-(4)")
+WHOLE_NUMBERS = ("0", "7", "-3", "- 3", "+5", "1_000", "16#fF", "2#10_01", "36#zZ", "-16#a", "-(4)")
+NUMBERS = (*WHOLE_NUMBERS, "1.5", "0.25e-3", "1_0.0_1E+2", "-2.5", "$a", "$\\n", "$ ", "$\\x{263a}", "$'", "-$b", "($c)")
 STRINGS = ('""', '"word"', '"a" "b"', '"\\"\\\\\\s"', '"é☺"', '"%no comment"', '"\\x41\\x{42}\\103"', '"line\nline"', '"\\\n"')
 BINARIES = ("<<>>", '<<"guest">>', "<<1,2:16,$a>>", '<<"é"/utf8>>', "<<1:8/little-unsigned-integer,(3)>>", "<<<<1>>/binary>>", "<<1.5/float>>")
 FUNS = ("fun lists:map/2", "fun 'a b':c/0", "fun m:f/1_0")
+CHANGES = (*("", "", "A", "e", "_", "fun", " end ", "\x00", "\u20ac", "\n"), *"[]{},'\"$\\%|.-", "#{", "=>")
 BLANKS = ("", "", " ", "\n", "\t", " % a comment with ] and \" and '\n", "\u00a0")
 
 
@@ -52,5 +54,5 @@ def changed(random: Random, text: str) -> str:
     signs = list(text)
     for _ in range(random.randint(1, 3)):
         place = random.randrange(len(signs))
-        signs[place : place + random.randrange(3)] = random.choice(("", "", "[", "]", "}", "{", ",", "'", '"', "$", "\\", "%", "\n", "A", "#{", "=>", "|", ".", "-", "_", "e", "\x00", "\u20ac", "fun", " end "))
+        signs[place : place + random.randrange(3)] = random.choice(CHANGES)
     return "".join(signs)

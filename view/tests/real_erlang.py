@@ -225,7 +225,8 @@ def tell_case(case: Case, observed: dict[str, dict], when: dict[str, float], sco
         kind = kind_of(case, observed, wanted, found, moment)
         kinds[kind] += 1
         score.add(kind, f"{head}: {app} {moment} {wanted}, and OTP has {found}" if kind not in ("agree", "hang as warned") else "")
-    outages = [f"{fate['application']} {when[fate['application']] * 1000:.0f} ms ({fate['milliseconds']})" for fate in case.fates if is_moved(fate, when)]
+    moves = [(fate["application"], fate["milliseconds"]) for fate in case.fates if is_moved(fate, when)]
+    outages = [f"{app} {when[app] * 1000:.0f} ms ({milliseconds})" for app, milliseconds in moves]
     warned = "; warned of a hang" if case.may_hang else ""
     print(f"{head}: {', '.join(f'{count} {kind}' for kind, count in kinds.items())}{warned}; back after {', '.join(outages) or 'nothing'}", flush=True)
 

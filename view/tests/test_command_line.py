@@ -14,7 +14,7 @@ from support import EXAMPLES, MISTAKES, PROGRAM, TOP, Said, run_view, view
 
 FAILOVER, MANUAL = str(EXAMPLES / "failover.distac"), str(EXAMPLES / "manual.config")
 TYPO, WARNED = str(MISTAKES / "s01_typo_verb.distac"), str(MISTAKES / "c11_perm_typo.config")
-COMMANDS = (("check", MANUAL), ("play", FAILOVER), ("timeline", FAILOVER, "-o", "-"), ("what-if", MANUAL))
+COMMANDS = (("check", MANUAL), ("gather", f"cp1@cave={MANUAL}"), ("play", FAILOVER), ("timeline", FAILOVER, "-o", "-"), ("what-if", MANUAL))
 
 
 class Statuses(unittest.TestCase):
