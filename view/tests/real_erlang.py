@@ -13,6 +13,7 @@ from __future__ import annotations
 import argparse
 import json
 import re
+import signal
 import sys
 import tempfile
 import time
@@ -177,13 +178,13 @@ def seen(cluster: Cluster, names: list[str]) -> dict[str, str | None]:
 
 
 def wait_for(cluster: Cluster, wanted: dict[str, str | None], seconds: float) -> tuple[dict[str, str | None], dict[str, float]]:
-    """What is seen once it is as wanted for half a second, or when time is up, and when each application was first where it is."""
+    """What is seen once it is as wanted for half a second, or when time is up, and at which moment each application first ran."""
     start, since, when = time.monotonic(), None, {}
     while True:
         found, moment = seen(cluster, list(wanted)), time.monotonic()
         for app, node in found.items():
-            if node and app not in when:
-                when[app] = moment - start
+            if node:
+                when.setdefault(app, moment)
         since = (since or moment) if found == wanted else None
         if moment - start > seconds or (since and moment - since > 0.5):
             return found, when
@@ -207,16 +208,18 @@ def run_case(scenario: Scenario, down: tuple[str, ...], score: Score) -> None:
         now, _ = wait_for(cluster, expected(case.fates, "now"), LATE_SECONDS)
         if now != expected(case.fates, "now"):
             case = prepared(scenario, down, Path(room), {app: node for app, node in now.items() if node})
+        killed = time.monotonic()
         for node in down:
             cluster.nodes[node].kill()
         longest = max(fate["milliseconds"] or 0 for fate in case.fates if (fate["milliseconds"] or 0) < NEVER)
         then, when = wait_for(cluster, expected(case.fates, "then"), longest / 1000 + scenario.start_takes / 1000 + LATE_SECONDS)
         boot(cluster, down, scenario.names)
         back, _ = wait_for(cluster, expected(case.fates, "back"), LATE_SECONDS)
-    tell_case(case, {"now": now, "then": then, "back": back}, when, score)
+    outages = {app: moment - killed for app, moment in when.items()}
+    tell_case(case, {"now": now, "then": then, "back": back}, outages, score)
 
 
-def tell_case(case: Case, observed: dict[str, dict], when: dict[str, float], score: Score) -> None:
+def tell_case(case: Case, observed: dict[str, dict], outages: dict[str, float], score: Score) -> None:
     """Counts what agrees, and prints a line."""
     head = f"{case.scenario.name}, without {' and '.join(node.split('@')[0] for node in case.down)}"
     kinds: Counter = Counter()
@@ -224,16 +227,16 @@ def tell_case(case: Case, observed: dict[str, dict], when: dict[str, float], sco
         wanted, found = expected(case.fates, moment)[app], observed[moment][app]
         kind = kind_of(case, observed, wanted, found, moment)
         kinds[kind] += 1
-        score.add(kind, f"{head}: {app} {moment} {wanted}, and OTP has {found}" if kind not in ("agree", "hang as warned") else "")
-    moves = [(fate["application"], fate["milliseconds"]) for fate in case.fates if is_moved(fate, when)]
-    outages = [f"{app} {when[app] * 1000:.0f} ms ({milliseconds})" for app, milliseconds in moves]
+        score.add(kind, f"{head}: {app} {moment} {wanted}, and OTP has {found}: {kind}" if kind != "agree" else "")
+    moves = [(fate["application"], fate["milliseconds"]) for fate in case.fates if is_moved(fate, outages)]
+    returns = [f"{app} {outages[app] * 1000:.0f} ms ({milliseconds})" for app, milliseconds in moves]
     warned = "; warned of a hang" if case.may_hang else ""
-    print(f"{head}: {', '.join(f'{count} {kind}' for kind, count in kinds.items())}{warned}; back after {', '.join(outages) or 'nothing'}", flush=True)
+    print(f"{head}: {', '.join(f'{count} {kind}' for kind, count in kinds.items())}{warned}; back after {', '.join(returns) or 'nothing'}", flush=True)
 
 
-def is_moved(fate: dict, when: dict[str, float]) -> bool:
+def is_moved(fate: dict, outages: dict[str, float]) -> bool:
     """Whether an application was expected to move, and came back."""
-    return fate["milliseconds"] is not None and fate["application"] in when
+    return fate["milliseconds"] is not None and fate["application"] in outages
 
 
 def kind_of(case: Case, observed: dict[str, dict], wanted: str | None, found: str | None, moment: str) -> str:
@@ -241,7 +244,8 @@ def kind_of(case: Case, observed: dict[str, dict], wanted: str | None, found: st
     if wanted == found:
         return "agree"
     if case.may_hang and moment != "now":
-        return "hang as warned"
+        is_lost = any(place and not observed["then"][app] for app, place in expected(case.fates, "then").items())
+        return "hang as warned" if is_lost else "differ by the order at equal times"
     return "started elsewhere" if observed["now"] != expected(case.fates, "now") else "differ"
 
 
@@ -349,6 +353,7 @@ def main(arguments: list[str]) -> int:
     if not is_installed():
         print("real_erlang.py wants erl, erlc and epmd in PATH: install Erlang (Debian: apt-get install erlang-base)")
         return 2
+    signal.signal(signal.SIGTERM, lambda *_: sys.exit(128 + signal.SIGTERM))
     score, end = Score(), time.monotonic() + words.seconds
     print(release_of_otp(), flush=True)
     chosen = [each for each in SCENARIOS if not words.only or any(each.name.startswith(only) for only in words.only)]
