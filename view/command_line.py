@@ -9,6 +9,7 @@ from typing import IO, Callable
 from view.completion import bash_completion
 from view.config_warnings import warnings_on
 from view.distac import MODELS, Distac, found_distac
+from view.gather import gather
 from view.help_texts import EPILOG, epilog_of
 from view.loading import Faulty, Loaded, answers_of, load_config, load_script
 from view.looking import seen_lines
@@ -40,7 +41,7 @@ def check_one(distac: Distac, words: argparse.Namespace, path: str, output: Outp
         return told(ended, output)
     output.line((f"{path}: " if len(words.files) > 1 else "") + checked.canonical)
     output.flush()
-    return warned(words, [remark.text(path) for remark in warnings_on(checked)])
+    return warned(words, [remark.text(path) for remark in warnings_on(checked, path)])
 
 
 def play(distac: Distac, words: argparse.Namespace, output: Output) -> Status:
@@ -181,8 +182,23 @@ def count_from_one(word: str) -> int:
     return int(word)
 
 
+def gather_words(parser: argparse.ArgumentParser) -> None:
+    """The words of `gather`."""
+    parser.set_defaults(version=VERSION)
+    about_files = "a node and its files, in the order of erl -config; - is standard input"
+    parser.add_argument("nodes", metavar="NODE=FILE[,FILE..]", nargs="*", help=about_files)
+    parser.add_argument("-o", "--output", metavar="CONFIG", default="-", help="the configuration that is written, standard output if absent")
+    more = "write a script too, in which all nodes come up: it says permissions that hold at some nodes alone"
+    parser.add_argument("-s", "--script", metavar="SCRIPT", help=more)
+    parser.add_argument("--reader", choices=("erl", "own"), help="read by Erlang or by distac-view: Erlang if escript is in PATH")
+    about_line = "print a line for a node's remote shell, whose answer is taken as a FILE"
+    parser.add_argument("--print-command", choices=("erlang", "elixir"), nargs="?", const="erlang", help=about_line)
+    parser.add_argument("--strict", action="store_true", help="a warning makes the exit status 1")
+
+
 SUBCOMMANDS: "list[tuple[str, str, Subcommand, Callable[[argparse.ArgumentParser], None]]]" = [
     ("check", "Prints the canonical text of a configuration, or where its first fault is.", check, check_words),
+    ("gather", "Writes one configuration from the files of all nodes.", gather, gather_words),
     ("play", "Plays a script and prints each answer beside its line.", play, play_words),
     ("timeline", "Draws what a script did, as one page for a browser.", timeline, timeline_words),
     ("what-if", "Says where each application goes if a node goes down, and once the node is back.", what_if, add_what_if),

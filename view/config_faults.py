@@ -10,11 +10,13 @@ from typing import Callable
 from view.faults import Fault
 from view.near_names import near_to
 from view.places import Remark, last_offset, line_from, place_of
+from view.templates import FILLED_IN, TEMPLATE
 from view.texts import cut, shown, text_of
 from view.tokens import Kind, Token, name_of, tokens_of
 
 READ_PARAMETERS = ("distributed", "permissions", "sync_nodes_mandatory", "sync_nodes_optional", "sync_nodes_timeout")
 PAIRS = {"[": "]", "{": "}"}
+ELSEWHERE = "move it to another file of -config, or let distac-view gather read the files of your nodes"
 NAME_SIGNS = re.compile(rb"[A-Za-z0-9_@]")
 
 
@@ -67,6 +69,22 @@ class Scene:
         """The line of a token."""
         return place_of(self.text, token.start).line
 
+    @property
+    def parameter(self) -> str | None:
+        """The parameter that is open at the fault, by its name. A section's name stands two brackets deep, a parameter's four."""
+        depth, names, last = 0, {2: "", 4: ""}, ""
+        for token in self.before:
+            depth += {"[": 1, "{": 1, "]": -1, "}": -1}.get(token.written, 0)
+            if token.kind is Kind.ATOM and last == "{" and depth in names:
+                names[depth] = name_of(token.written)
+            last = token.written
+        return names[4] if depth >= 4 else None
+
+    @property
+    def is_read(self) -> bool:
+        """Whether the fault stands in one of the parameters that are read, or where none is open yet."""
+        return self.parameter is None or self.parameter in READ_PARAMETERS
+
 
 def remark_on(fault: Fault, text: bytes) -> Remark:
     """What is to be said of a fault of a configuration."""
@@ -103,6 +121,8 @@ def bad_token(scene: Scene) -> str:
         return "this quote is never closed: put a ' behind the name"
     if sign == '"':
         return 'this string is never closed: put a " behind it'
+    if not scene.before:
+        return NO_TERMS
     if sign == "." and not scene.touches_name:
         return "a full stop ends the text, with a blank or a line's end behind it"
     if scene.touches_name or sign.isalpha() or sign == "_":
@@ -111,23 +131,38 @@ def bad_token(scene: Scene) -> str:
     return f"{named(sign)} belongs to no term: {hints.get(sign, 'take it out, or put the name around it between quotes')}"
 
 
+NO_TERMS = "a configuration begins with [, and no term of Erlang's begins here: for vm.args or runtime.exs see gather --print-command"
+
+
 def unsupported(scene: Scene) -> str:
     """A term that Erlang reads and this program doesn't."""
     rest = scene.text[scene.at : scene.at + 8]
     if scene.at == 0 and rest.startswith(ORDER_MARKS):
         return "the file begins with a byte order mark: save it as UTF-8 without one"
+    if TEMPLATE.match(text_of(line_from(scene.text, scene.at))):
+        return FILLED_IN
     if rest[:1] in (b"[", b"{"):
-        return "brackets may be 64 deep: move the parameter that is nested so deep to a second file of -config"
-    if rest[:1] >= b"\x80" or (scene.touches_name and rest[:1] in b"+~$#"):
-        return quotes_for(scene) + ("; or is it a sign that was pasted in?" if rest[:1] >= b"\x80" else "")
+        return f"brackets may be 64 deep: {ELSEWHERE}"
     if rest[:1] == b'"':
         return string_term(scene)
-    if scene.here is not None and scene.here.kind is Kind.NUMBER:
+    if scene.is_read and (rest[:1] >= b"\x80" or (scene.touches_name and rest[:1] in b"+~$#")):
+        return quotes_for(scene) + ("; or is it a sign that was pasted in?" if rest[:1] >= b"\x80" else "")
+    return unread_term(scene, rest)
+
+
+def unread_term(scene: Scene, rest: bytes) -> str:
+    """A term of a kind that isn't read. Outside of the parameters that are, it can stay as it is, in another file."""
+    is_number = scene.here is not None and scene.here.kind is Kind.NUMBER
+    if is_number and scene.is_read:
         return "only whole decimal numbers are read, without a base, a point or underscores: write 5000, not 5_000 or 5.0"
-    for beginning, what in UNREAD.items():
-        if rest.startswith(beginning):
-            return f"{what} aren't read here: keep the parameter that holds this in a second file of -config"
-    return "names between quotes may hold no backslash, tab or other control character: write the name without it"
+    what = next((name for beginning, name in UNREAD.items() if rest.startswith(beginning)), "")
+    what = "numbers with a base, a point or underscores" if is_number else what
+    if what:
+        about = "" if scene.is_read else f", and {cut(shown(str(scene.parameter)), 60)} says nothing of placement"
+        return f"{what} aren't read here{about}: {ELSEWHERE}"
+    return "names between quotes may hold no backslash, tab or other control character: " + (
+        "write the name without it" if scene.is_read else ELSEWHERE
+    )
 
 
 ORDER_MARKS = (codecs.BOM_UTF8, codecs.BOM_UTF16_LE, codecs.BOM_UTF16_BE)
@@ -146,13 +181,13 @@ UNREAD = {
 def string_term(scene: Scene) -> str:
     """A string where none is read."""
     if scene.text[scene.at : scene.at + 3] == b'"""':
-        return "triple-quoted strings aren't read here: keep the parameter that holds this in a second file of -config"
-    return "a file name among the sections isn't followed: put the sections of that file here, or check it by itself"
+        return f"triple-quoted strings aren't read here: {ELSEWHERE}"
+    return "a file name among the sections isn't followed: put the sections of that file here, or let distac-view gather follow it"
 
 
 def bad_shape(scene: Scene) -> str:
     """A token that may not stand where it does, or one that is missing."""
-    for rule in (at_end, behind_dash, wrong_value, wrong_bracket, second_time, missing_comma, comma_too_many):
+    for rule in (at_end, no_list, behind_dash, wrong_value, wrong_bracket, second_time, missing_comma, comma_too_many):
         sentence = rule(scene)
         if sentence:
             return sentence
@@ -174,6 +209,11 @@ def at_end(scene: Scene) -> str | None:
     if not scene.before:
         return "there is no configuration: a text begins with [ and ends with a full stop"
     return "the full stop at the end is missing: put a . behind the last bracket"
+
+
+def no_list(scene: Scene) -> str | None:
+    """Something else than a bracket where the text begins."""
+    return None if scene.before else NO_TERMS if scene.sign.isalpha() else "a configuration begins with [: write [{kernel,[..]}]."
 
 
 def behind_dash(scene: Scene) -> str | None:
@@ -207,7 +247,7 @@ def wrong_value(scene: Scene) -> str | None:
 def wanted_list(scene: Scene, here: str) -> str:
     """An application's list of nodes, or its time, isn't what it should be."""
     if here == "infinity":
-        return "a failover time is a number of milliseconds, and never infinity: write one, or leave it out for 0"
+        return "a failover time is a number of milliseconds: for OTP's infinity, never, write 4294967295, which is 49 days"
     return f"an application's nodes stand in a list, even a single one: write [{shown(here)}]"
 
 
@@ -305,7 +345,7 @@ def constant(sentence: str) -> Callable[[Scene], str]:
 
 
 SENTENCES: dict[str, Callable[[Scene], str]] = {
-    "TooLong": constant("a configuration has at most 65,536 bytes: move large parameters to a second file of -config"),
+    "TooLong": constant(f"a configuration has at most 65,536 bytes: {ELSEWHERE}"),
     "BadToken": bad_token,
     "Unsupported": unsupported,
     "BadShape": bad_shape,

@@ -5,6 +5,7 @@ from __future__ import annotations
 from itertools import combinations
 from typing import Iterator
 
+from view.boot_warnings import boot_warnings
 from view.loading import Checked
 from view.near_names import looks_misspelt, near_to
 from view.places import Remark, place_of
@@ -56,8 +57,8 @@ class Source:
         return next((token for token in atoms if name_of(token.written) == name), self.tokens[0])
 
 
-def warnings_on(checked: Checked) -> list[Remark]:
-    """All warnings on a configuration, by their places."""
+def warnings_on(checked: Checked, path: str) -> list[Remark]:
+    """All warnings on a configuration in a file, by their places."""
     source = Source(checked.text)
     found = [
         *unknown_permissions(checked, source),
@@ -65,6 +66,7 @@ def warnings_on(checked: Checked) -> list[Remark]:
         *sync_without_time(checked, source),
         *single_nodes(checked, source),
         *near_names(checked, source),
+        *boot_warnings(checked, path),
     ]
     return sorted(found, key=lambda remark: (remark.place.line, remark.place.column))
 

@@ -15,7 +15,7 @@ from support import EXAMPLES, MISTAKES, PROGRAM, TOP, Said, run_view, view
 
 FAILOVER, MANUAL = str(EXAMPLES / "failover.distac"), str(EXAMPLES / "manual.config")
 TYPO, WARNED = str(MISTAKES / "s01_typo_verb.distac"), str(MISTAKES / "c11_perm_typo.config")
-COMMANDS = (("check", MANUAL), ("play", FAILOVER), ("timeline", FAILOVER, "-o", "-"), ("what-if", MANUAL))
+COMMANDS = (("check", MANUAL), ("gather", f"cp1@cave={MANUAL}"), ("play", FAILOVER), ("timeline", FAILOVER, "-o", "-"), ("what-if", MANUAL))
 
 
 class Statuses(unittest.TestCase):
@@ -55,7 +55,11 @@ class Statuses(unittest.TestCase):
     def test_warnings(self) -> None:
         self.expect(0, view("check", WARNED), "UnknownPermission")
         self.expect(1, view("check", "--strict", WARNED), "UnknownPermission")
-        self.expect(0, view("check", "--strict", MANUAL))
+        self.expect(1, view("check", "--strict", MANUAL), "OwnFile")
+        with tempfile.TemporaryDirectory() as room:
+            path = Path(room) / "shared.config"
+            path.write_text(Path(MANUAL).read_text().replace("[cp2@cave, cp3", "[cp1@cave, cp2@cave, cp3"))
+            self.expect(0, view("check", "--strict", str(path)))
         self.expect(0, view("play", str(MISTAKES / "s03_unknown_about.distac")), "is cp1@cave meant?")
         self.expect(1, view("play", "--strict", str(MISTAKES / "s03_unknown_about.distac")), "UnknownNode")
 

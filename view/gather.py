@@ -1,0 +1,92 @@
+"""`gather`: one configuration from the files of all nodes, written with where it comes from."""
+
+from __future__ import annotations
+
+import argparse
+
+from view.configuration import Configuration
+from view.distac import Distac
+from view.erlang_reader import Reader, reader_named
+from view.gathering import Gathered, gathered, node_named
+from view.loading import check_config
+from view.node_files import ANSWER_MARK, Library, NodeSettings, path_text, settings_of
+from view.output import Output, say
+from view.placements import Placement, placement_of
+from view.problems import Problem, Status
+from view.texts import bytes_of, shown
+from view.writing import PIPE, write_whole
+
+ERLANG_LINE = (
+    "K=[distributed,permissions,sync_nodes_mandatory,sync_nodes_optional,sync_nodes_timeout,net_ticktime],"
+    f'io:format("~n{ANSWER_MARK}~tw~n~tw.~n",'
+    "[node(),[{kernel,[{P,V}||P<-K,{ok,V}<-[application:get_env(kernel,P)]]}]])."
+)
+ELIXIR_LINE = (
+    "k = [:distributed, :permissions, :sync_nodes_mandatory, :sync_nodes_optional, :sync_nodes_timeout, :net_ticktime]; "
+    f':io.format(~c"~n{ANSWER_MARK}~tw~n~tw.~n", '
+    "[node(), [kernel: (for p <- k, {:ok, v} <- [:application.get_env(:kernel, p)], do: {p, v})]])"
+)
+LINES = {"erlang": ERLANG_LINE, "elixir": ELIXIR_LINE}
+
+
+def gather(distac: Distac, words: argparse.Namespace, output: Output) -> Status:
+    """Writes one configuration from the files of all nodes, with warnings on standard error."""
+    if words.print_command:
+        output.line(LINES[words.print_command])
+        return Status.FINE
+    if not words.nodes:
+        raise Problem("gather wants the files of each node: NODE=FILE[,FILE..], or --print-command")
+    placements = [placement_of(settings) for settings in settings_by_node(words.nodes, reader_named(words.reader))]
+    found = gathered(placements)
+    checked = check_config(distac, "the gathered configuration", bytes_of(found.text))
+    lines = [*head_of(words.version, placements, found), checked.canonical]
+    write(words.output, "".join(line + "\n" for line in lines), placements, output)
+    if words.script:
+        write(words.script, opening_script(checked.canonical, checked.configuration, found), placements, output)
+    for warning in found.warnings:
+        say(warning)
+    return Status.FAULT if found.warnings and words.strict else Status.FINE
+
+
+def settings_by_node(words: list[str], reader: Reader) -> list[NodeSettings]:
+    """What the files of each node say. A node that is named again has further files."""
+    named: dict[str, list[str]] = {}
+    for word in words:
+        node, sign, paths = word.partition("=")
+        files = [path for path in paths.split(",") if path]
+        if not (node and sign and files):
+            raise Problem(f"{shown(word)} isn't NODE=FILE[,FILE..]: write the node's name, =, and its files in the order of -config")
+        named.setdefault(node_named(node), []).extend(files)
+    library = Library(reader)
+    library.read([path for paths in named.values() for path in paths])
+    return [settings_of(node, paths, library) for node, paths in named.items()]
+
+
+def head_of(version: str, placements: list[Placement], found: Gathered) -> list[str]:
+    """The comment above the configuration: which files it is made of."""
+    count = f"{len(placements)} node" + ("s" if len(placements) > 1 else "")
+    lines = [f"%% {version}, gather: one configuration from the files of {count}"]
+    for placement in placements:
+        lines += [f"%% {shown(placement.node)} {path_text(file.path)} sha256 {file.mark}" for file in placement.settings.files]
+    if found.tick_time is not None:
+        lines.append(f"%% net_ticktime {found.tick_time}")
+    return lines
+
+
+def opening_script(canonical: str, configuration: Configuration, found: Gathered) -> str:
+    """A script in which all nodes come up, some forbid applications to themselves, and everything is started."""
+    lines = [canonical, "--", *(f"boot {node} 0" for node in configuration.nodes), "share"]
+    lines += [f"permit {node} {app} {node} false" for node, app in found.barred_at]
+    lines += ["share"] if found.barred_at else []
+    for node in configuration.nodes:
+        lines += [f"start {node} {each.name} {node}" for each in configuration.applications if node in each.nodes]
+    return "\n".join([*lines, "share"]) + "\n"
+
+
+def write(path: str, text: str, placements: list[Placement], output: Output) -> None:
+    """Writes a text to a file, but over none that was read, or to standard output for a dash."""
+    if path == PIPE:
+        output.raw(bytes_of(text))
+        output.flush()
+    else:
+        write_whole(path, bytes_of(text), [file.path for placement in placements for file in placement.settings.files])

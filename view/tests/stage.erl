@@ -1,0 +1,45 @@
+%% What the nodes of real_erlang.py run: applications that do nothing, and a loop that takes orders from standard input.
+-module(stage).
+-behaviour(application).
+-behaviour(supervisor).
+-export([start/2, stop/1, init/1, listen/0]).
+
+%% An application whose start takes so long. While it runs its name is registered.
+start(_How, [Name, Milliseconds]) ->
+    timer:sleep(Milliseconds),
+    supervisor:start_link({local, Name}, ?MODULE, []).
+
+stop(_) ->
+    ok.
+
+init([]) ->
+    {ok, {#{}, []}}.
+
+listen() ->
+    spawn(fun orders/0).
+
+%% Orders come until standard input ends, and then the node ends.
+orders() ->
+    case io:get_line("") of
+        eof -> halt();
+        Line -> obey(string:trim(Line)), orders()
+    end.
+
+%% Names are looked up where they are registered, because controllers that hang answer no question.
+obey("where " ++ Names) ->
+    tell("where", [Name || Name <- string:lexemes(Names, " "), whereis(list_to_atom(Name)) =/= undefined]);
+obey("start " ++ Names) ->
+    spawn(fun() ->
+        [application:start(list_to_atom(Name)) || Name <- string:lexemes(Names, " ")],
+        tell("started", [])
+    end);
+obey("nodes") ->
+    tell("nodes", [atom_to_list(Node) || Node <- nodes()]);
+obey("eval " ++ Text) ->
+    {ok, Tokens, _} = erl_scan:string(Text),
+    {ok, Expressions} = erl_parse:parse_exprs(Tokens),
+    erl_eval:exprs(Expressions, []),
+    tell("evaluated", []).
+
+tell(What, Words) ->
+    io:format("stage ~ts~n", [lists:join(" ", [What | Words])]).
