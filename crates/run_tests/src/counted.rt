@@ -70,8 +70,8 @@ struct Counting {
     links: Vec<Hearings>,
 }
 
-/// A gate for the links between three nodes.
-fn counting(alloc: Global) -> Option<Counting> {
+/// Such a gate, for the links between three nodes.
+fn gate_of_three(alloc: Global) -> Option<Counting> {
     let mut links = Vec::new(alloc);
     for (from, to) in LINKS {
         links.push(Hearings::new(NodeId(*from), NodeId(*to))).ok()?;
@@ -134,7 +134,7 @@ fn are_recorded(links: &[Hearings], closed: &[Closed]) -> bool {
 
 /// Whether a gate counts the hearings of a run so.
 fn are_counted<R: Threads + Wait + Sync>(rt: &R, alloc: Global) -> Option<bool> {
-    let gate = counting(alloc)?;
+    let gate = gate_of_three(alloc)?;
     let phases = three_phases(alloc)?;
     let report = ran(rt, alloc, EXAMPLE, phases.as_slice(), &gate)?.ok()?;
     Some(are_recorded(gate.links.as_slice(), report.closed.as_slice()))
