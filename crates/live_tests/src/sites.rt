@@ -1,16 +1,19 @@
-//! Sites: calls and their places, closing, a full journal, and two threads.
+//! Sites: calls, their places and pages, readers, closing, a full journal, and two threads.
 ghost use Rattle.std.specs.Prelude.{◌≡◌};
 ghost use Rattle.dac_sites.specs.Sites.{IsBlankOf};
 
 use dac_base::NodeId;
-use dac_config::read_config;
+use dac_config::{Config, read_config};
 use dac_events::Refusal;
-use dac_messages::{Event, Reply};
-use dac_origins::Origin;
+use dac_lattice::Bottom;
+use dac_messages::{Event, Reply, State};
+use dac_origins::{Dot, Origin};
 use dac_sites::{
-    CloseFault, Closed, LiveFault, OpenFault, PageReader, Receipt, Record, Seat, Site, SiteBlank,
-    SiteName, blank_site, open_site,
+    CloseFault, Closed, LiveFault, OpenFault, Page, PageReader, Receipt, Record, Seat, Site,
+    SiteBlank, SiteName, blank_site, open_site,
 };
+use dac_state::{Act, Op};
+use dac_status::Summary;
 use std::alloc::Global;
 use std::marker::Brand;
 use std::sync::Wait;
@@ -179,23 +182,14 @@ fn a_seat_is_missing(rt: HostRuntime) -> Result<(), Fail> {
     Ok(())
 }
 
-/// What a page says, in short: its place, the incarnation, and how many operations were heard and are known.
-type PageShort = (u64, Option<Origin>, u128, u128);
-
 /// Learns the receipt of a call, if it has one, and reads a page then.
 fn learn<L: SiteName>(
     reader: &mut PageReader<L>,
     answer: Result<Receipt<L>, LiveFault>,
-) -> Option<PageShort> {
+) -> Option<Page> {
     let mut receipt = answer.ok()?;
     reader.learn(&mut receipt);
-    let page = reader.read()?;
-    Some((
-        page.place,
-        page.origin,
-        page.summary.heard,
-        page.summary.known,
-    ))
+    reader.read()
 }
 
 /// What a reader reads after each of the five calls that has a receipt.
@@ -204,7 +198,7 @@ fn pages_of_calls<L: SiteName, R: Wait>(
     site: &Site<L>,
     seat: &mut Seat<L>,
     reader: &mut PageReader<L>,
-) -> [Option<PageShort>; 5] {
+) -> [Option<Page>; 5] {
     let boot = learn(reader, site.call(rt, seat, Event::Boot { now: 0 }));
     let tick = learn(reader, site.call(rt, seat, Event::Tick { now: 0 }));
     let again = learn(reader, site.call(rt, seat, Event::Boot { now: 1 }));
@@ -214,11 +208,7 @@ fn pages_of_calls<L: SiteName, R: Wait>(
 }
 
 /// A site with one reader, which reads after each call.
-fn watch<L: SiteName, R: Wait>(
-    rt: &R,
-    alloc: Global,
-    blank: SiteBlank,
-) -> Option<[Option<PageShort>; 5]>
+fn watch<L: SiteName, R: Wait>(rt: &R, alloc: Global, blank: SiteBlank) -> Option<[Option<Page>; 5]>
     requires { IsBlankOf blank L.name L.parts L.seats L.beginning }
 {
     let (site, seats, mut readers) = open_site::<L, R>(rt, blank).ok()?;
@@ -233,30 +223,74 @@ fn watch<L: SiteName, R: Wait>(
     Some(pages)
 }
 
-/// The same, from the opening on.
-fn pages_are_read<R: Wait>(rt: &R, alloc: Global) -> Option<[Option<PageShort>; 5]> {
-    let blank = two_seats(rt, alloc, 1).ok()?;
-    watch::<Brand, R>(rt, alloc, blank)
-}
-
 /// The first incarnation of the first node.
 const FIRST: Origin = Origin {
     node: NodeId(0),
     inc: 1,
 };
 
-/// The boot is heard from the first page on, and nothing after the crash.
-const PAGES: [Option<PageShort>; 5] = [
-    Some((1, Some(FIRST), 1, 1)),
-    Some((2, Some(FIRST), 1, 1)),
-    None,
-    Some((4, None, 0, 0)),
-    None,
-];
+/// What the first node knows once it is booted: that it is up.
+fn booted(alloc: Global) -> Option<State> {
+    let dot = Dot {
+        origin: FIRST,
+        n: 1,
+    };
+    let up = Op::new(dot, Act::Up).ok()?;
+    State::delta_of(alloc, &up).ok()
+}
+
+/// The page of a node in this state after so many records, as this incarnation if it runs.
+fn page_of(config: &Config, place: u64, origin: Option<Origin>, state: &State) -> Page {
+    Page {
+        place,
+        origin,
+        summary: Summary::of(config, state),
+    }
+}
+
+/// The pages that are to be read: those of the booted node, and behind the crash that of a node that knows nothing. A call that is
+/// refused has no receipt.
+fn pages_wanted(alloc: Global) -> Option<[Option<Page>; 5]> {
+    let config = read_config(alloc, EXAMPLE).ok()?;
+    let known = booted(alloc)?;
+    let boot = page_of(&config, 1, Some(FIRST), &known);
+    let tick = page_of(&config, 2, Some(FIRST), &known);
+    let crash = page_of(&config, 4, None, &State::bottom(alloc));
+    Some([Some(boot), Some(tick), None, Some(crash), None])
+}
+
+/// Whether the pages that are read are those, with all that they say.
+fn pages_are_read<R: Wait>(rt: &R, alloc: Global) -> Option<bool> {
+    let blank = two_seats(rt, alloc, 1).ok()?;
+    let pages = watch::<Brand, R>(rt, alloc, blank)?;
+    Some(pages == pages_wanted(alloc)?)
+}
 
 #[test]
 fn a_reader_sees_each_receipt(rt: HostRuntime) -> Result<(), Fail> {
-    assert_eq!(rt; pages_are_read(&rt, rt.alloc()), Some(PAGES));
+    assert_eq!(rt; pages_are_read(&rt, rt.alloc()), Some(true));
+    Ok(())
+}
+
+/// Whether a site has places for so many readers.
+fn has_places<R: Wait>(rt: &R, alloc: Global, readers: u16) -> bool {
+    match two_seats(rt, alloc, readers) {
+        Ok(blank) => {
+            blank.give_up(rt);
+            true
+        }
+        Err(_) => false,
+    }
+}
+
+/// Numbers of readers. A site of a run has five.
+const READERS: &[u16] = &[0, 1, 5, 6, 64, 1_000];
+
+#[test]
+fn readers_have_places(rt: HostRuntime) -> Result<(), Fail> {
+    for readers in READERS {
+        assert!(rt; has_places(&rt, rt.alloc(), *readers));
+    }
     Ok(())
 }
 

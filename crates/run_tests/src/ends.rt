@@ -1,12 +1,14 @@
-//! Links whose other end is gone.
+//! Links by themselves: ends that are gone, letters that are no messages, and room.
 ghost use Rattle.dac_workers.specs.Sites.{IsBlankOf};
 
+use crate::runs::Open;
 use dac_base::NodeId;
 use dac_config::{Config, read_config};
-use dac_links::{LinkReceiver, LinkSender, link};
-use dac_messages::Event;
+use dac_links::{Letter, LinkReceiver, LinkSender, link};
+use dac_messages::{Event, Reply};
+use dac_wire::{Packet, encode};
 use dac_workers::{
-    Gate, RunFault, Seat, Site, SiteBlank, SiteName, blank_site, hear_link, open_site, ship_link,
+    RunFault, Seat, Site, SiteBlank, SiteName, blank_site, hear_link, open_site, ship_link,
 };
 use std::alloc::Global;
 use std::marker::Brand;
@@ -16,15 +18,17 @@ use std::test::Fail;
 
 const TWO: &[u8] = b"[{kernel,[{distributed,[{a,[a@h,b@h]}]}]}].";
 
-/// A gate that holds nobody.
-#[derive(Drop)]
-struct Open;
+/// What the first node's shipper says of a lost link to the second one.
+const LOST_OUT: RunFault = RunFault::LinkLost {
+    from: NodeId(0),
+    to: NodeId(1),
+};
 
-impl Gate for Open {
-    fn before(&self, _from: NodeId, _to: NodeId, _k: u64) {}
-
-    fn after(&self, _from: NodeId, _to: NodeId, _k: u64) {}
-}
+/// What its link worker says of a lost link from there.
+const LOST_IN: RunFault = RunFault::LinkLost {
+    from: NodeId(1),
+    to: NodeId(0),
+};
 
 /// What the first node's shipper says of a link with no receiver, and its link worker of one with no sender.
 #[derive(Clone, Copy, Debug, PartialEq, Eq)]
@@ -93,23 +97,114 @@ fn lost_at_both<R: Wait>(rt: &R, alloc: Global) -> Option<Ended> {
 
 #[test]
 fn links_with_one_end_are_lost(rt: HostRuntime) -> Result<(), Fail> {
-    let shipper = RunFault::LinkLost {
-        from: NodeId(0),
-        to: NodeId(1),
+    let lost = Lost {
+        shipper: Some(LOST_OUT),
+        worker: Some(LOST_IN),
     };
-    let worker = RunFault::LinkLost {
-        from: NodeId(1),
-        to: NodeId(0),
+    assert_eq!(rt; lost_at_both(&rt, rt.alloc()), Some((lost, 2)));
+    Ok(())
+}
+
+/// What is in a letter that is no message.
+#[derive(Clone, Copy)]
+enum NoMessage {
+    /// Bytes that are no packet.
+    Bytes,
+    /// An operation alone.
+    Operation,
+}
+
+/// The bytes of such a letter. The operation is that of a boot.
+fn bytes_of(alloc: Global, config: &Config, what: NoMessage, booted: Reply) -> Option<Vec<u8>> {
+    if let NoMessage::Bytes = what {
+        let mut bytes = Vec::new(alloc);
+        bytes.extend_from_slice(b"DAC").ok()?;
+        return Some(bytes);
+    }
+    match booted {
+        Reply::Booted(operation) => encode(alloc, config, &Packet::Single(operation)).ok(),
+        _ => None,
+    }
+}
+
+/// A link that holds a letter with these bytes, and then the end letter.
+fn link_with<R: Wait>(rt: &R, alloc: Global, bytes: Vec<u8>) -> Option<(LinkSender, LinkReceiver)> {
+    let (mut out, into) = link(alloc, 64).ok()?;
+    out.put(rt, Letter::of(bytes)).ok()?;
+    out.put(rt, Letter::end()).ok()?;
+    Some((out, into))
+}
+
+/// Boots the node, and has its link worker hear such a letter.
+fn hear_no_message<L: SiteName, R: Wait>(
+    rt: &R,
+    alloc: Global,
+    config: &Config,
+    site: &Site<L>,
+    seat: &mut Seat<L>,
+    what: NoMessage,
+) -> Option<RunFault> {
+    let (me, other) = (NodeId(0), NodeId(1));
+    let booted = site.call(rt, seat, Event::Boot { now: 0 }).ok()?;
+    let bytes = bytes_of(alloc, config, what, booted.reply)?;
+    let (_out, mut into) = link_with(rt, alloc, bytes)?;
+    hear_link(rt, alloc, config, other, me, site, seat, &mut into, &Open).err()
+}
+
+/// Opens a site with one seat for that, and closes it: the fault, and how many records the journal then has.
+fn hear_and_close<L: SiteName, R: Wait>(
+    rt: &R,
+    alloc: Global,
+    config: &Config,
+    blank: SiteBlank,
+    what: NoMessage,
+) -> Option<(RunFault, usize)>
+    requires { IsBlankOf blank L.name L.parts L.seats L.beginning }
+{
+    let (site, mut seats, _readers) = open_site::<L, R>(rt, blank).ok()?;
+    let fault = match seats.first_mut() {
+        Some(seat) => hear_no_message(rt, alloc, config, &site, seat, what),
+        None => None,
     };
+    let closed = site.close(rt, seats).ok()?;
+    Some((fault?, closed.records().len()))
+}
+
+fn lost_by<R: Wait>(rt: &R, alloc: Global, what: NoMessage) -> Option<(RunFault, usize)> {
+    let config = read_config(alloc, TWO).ok()?;
+    let blank = blank_site(rt, alloc, &config, NodeId(0), 0, 1, 0).ok()?;
+    hear_and_close::<Brand, R>(rt, alloc, &config, blank, what)
+}
+
+#[test]
+fn a_link_with_other_bytes_is_lost(rt: HostRuntime) -> Result<(), Fail> {
     assert_eq!(rt;
-        lost_at_both(&rt, rt.alloc()),
-        Some((
-            Lost {
-                shipper: Some(shipper),
-                worker: Some(worker)
-            },
-            2
-        ))
+        lost_by(&rt, rt.alloc(), NoMessage::Bytes),
+        Some((LOST_IN, 1))
     );
+    Ok(())
+}
+
+#[test]
+fn a_link_with_an_operation_is_lost(rt: HostRuntime) -> Result<(), Fail> {
+    assert_eq!(rt;
+        lost_by(&rt, rt.alloc(), NoMessage::Operation),
+        Some((LOST_IN, 1))
+    );
+    Ok(())
+}
+
+/// Puts 64 letters into a link with room for them, and takes none out.
+fn fill<R: Wait>(rt: &R, alloc: Global) -> Option<()> {
+    let (mut out, _into) = link(alloc, 64).ok()?;
+    for _count in 0..64u32 {
+        out.put(rt, Letter::end()).ok()?;
+    }
+    Some(())
+}
+
+#[test]
+fn a_link_holds_what_it_has_room_for(rt: HostRuntime) -> Result<(), Fail> {
+    assert_eq!(rt; fill(&rt, rt.alloc()), Some(()));
     Ok(())
 }

@@ -14,7 +14,7 @@ use std::thread;
 use std::thread::Threads;
 
 /// The documented example: three nodes.
-const EXAMPLE: &[u8] =
+pub(crate) const EXAMPLE: &[u8] =
     b"[{kernel, [{distributed, [{myapp, 5000, [cp1@cave, {cp2@cave, cp3@cave}]}]}, {sync_nodes_mandatory, [cp2@cave, cp3@cave]}, {sync_nodes_timeout, 5000}]}].";
 
 /// Four nodes, and none waits for another one.
@@ -81,7 +81,7 @@ impl Gate for Both {
 
 /// A gate that holds nobody.
 #[derive(Drop)]
-struct Open;
+pub(crate) struct Open;
 
 impl Gate for Open {
     fn before(&self, _from: NodeId, _to: NodeId, _k: u64) {}
@@ -131,7 +131,7 @@ fn permit(node: u8, value: bool) -> Ask {
 }
 
 /// Runs phases under a configuration.
-fn ran<G: Gate, R: Threads + Wait + Sync>(
+pub(crate) fn ran<G: Gate, R: Threads + Wait + Sync>(
     rt: &R,
     alloc: Global,
     text: &[u8],
@@ -146,7 +146,7 @@ fn ran<G: Gate, R: Threads + Wait + Sync>(
 }
 
 /// Two phases: a boot and a tick of the first node.
-fn two_phases(alloc: Global) -> Option<Vec<Phase>> {
+pub(crate) fn two_phases(alloc: Global) -> Option<Vec<Phase>> {
     let mut phases = Vec::new(alloc);
     phases.push(phase_of(alloc, [(0, 1, boot(0))])?).ok()?;
     phases.push(phase_of(alloc, [(0, 1, tick(1))])?).ok()?;
@@ -263,7 +263,7 @@ fn four_nodes_run_twenty_phases(rt: HostRuntime) -> Result<(), Fail> {
 }
 
 /// Three phases of three nodes: they boot; each is started, and one forbidden; two tick.
-fn three_phases(alloc: Global) -> Option<Vec<Phase>> {
+pub(crate) fn three_phases(alloc: Global) -> Option<Vec<Phase>> {
     let mut phases = Vec::new(alloc);
     let boots = phase_of(alloc, [(0, 1, boot(0)), (1, 1, boot(0)), (2, 1, boot(0))])?;
     let starts = phase_of(

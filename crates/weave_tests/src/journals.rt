@@ -44,16 +44,14 @@ pub(crate) fn tell(from: &mut Journal, to: &mut Journal, to_node: u8) -> Option<
     Some(())
 }
 
-/// Three journals, closed.
-pub(crate) fn close_three(
+/// These journals, closed.
+pub(crate) fn close_all<const N: usize>(
     alloc: Global,
-    first: Journal,
-    second: Journal,
-    third: Journal,
+    journals: [Journal; N],
 ) -> Option<Vec<Closed>> {
     let mut closed = Vec::new(alloc);
-    closed.push(first.close()).ok()?;
-    closed.push(second.close()).ok()?;
-    closed.push(third.close()).ok()?;
+    for journal in Vec::from_array(alloc, journals).ok()? {
+        closed.push(journal.close()).ok()?;
+    }
     Some(closed)
 }

@@ -1,5 +1,5 @@
 //! Journals that no run gives, and none.
-use crate::journals::{ask, close_three, example, journal};
+use crate::journals::{ask, close_all, example, journal};
 use dac_base::NodeId;
 use dac_events::WorldEvent;
 use dac_journal::Closed;
@@ -39,19 +39,19 @@ fn strange_message() -> Message {
 fn by_hand(alloc: Global) -> Option<WeaveFault> {
     let p = journal(alloc, 0, 0)?;
     let mut q = journal(alloc, 1, 0)?;
-    let r = journal(alloc, 2, 0)?;
     let _up = ask(&mut q, Event::Boot { now: 0 })?;
     let _heard = ask(&mut q, Event::Hear(strange_message()))?;
-    let journals = close_three(alloc, p, q, r)?;
+    let journals = close_all(alloc, [p, q])?;
     fault_of(alloc, journals.as_slice())
 }
 
-/// The fault of journals that are empty, of these nodes after so many incarnations.
-fn of_empty(alloc: Global, nodes: [u8; 3], lasts: [u64; 3]) -> Option<WeaveFault> {
-    let first = journal(alloc, nodes[0], lasts[0])?;
-    let second = journal(alloc, nodes[1], lasts[1])?;
-    let third = journal(alloc, nodes[2], lasts[2])?;
-    let journals = close_three(alloc, first, second, third)?;
+/// The fault of journals without records, of these nodes after so many incarnations.
+fn of_empty(alloc: Global, nodes: &[(u8, u64)]) -> Option<WeaveFault> {
+    let mut journals = Vec::new(alloc);
+    for (node, last) in nodes {
+        let empty = journal(alloc, *node, *last)?;
+        journals.push(empty.close()).ok()?;
+    }
     fault_of(alloc, journals.as_slice())
 }
 
@@ -61,7 +61,7 @@ fn stranger(alloc: Global) -> Option<WeaveFault> {
     let q = journal(alloc, 1, 0)?;
     let mut other = journal(alloc, 9, 0)?;
     let _up = ask(&mut other, Event::Boot { now: 0 })?;
-    let journals = close_three(alloc, p, other, q)?;
+    let journals = close_all(alloc, [p, other, q])?;
     fault_of(alloc, journals.as_slice())
 }
 
@@ -72,27 +72,28 @@ fn unwoven(node: u8, place: u64) -> WeaveFault {
     }
 }
 
-/// The name of the first answer that isn't the wanted one.
-fn wrong(alloc: Global) -> Option<&'static str> {
-    if by_hand(alloc) != Some(unwoven(1, 2)) {
-        return Some("a message made by hand");
-    }
-    if of_empty(alloc, [0, 1, 2], [0, 5, 0]) != Some(unwoven(1, 0)) {
-        return Some("a journal after five incarnations");
-    }
-    if of_empty(alloc, [2, 1, 2], [0, 0, 0]) != Some(unwoven(2, 0)) {
-        return Some("two journals of one node");
-    }
-    if of_empty(alloc, [2, 1, 2], [0, 7, 0]) != Some(unwoven(1, 0)) {
-        return Some("the least-named of both");
-    }
-    if of_empty(alloc, [2, 1, 0], [0, 0, 0]) != None {
-        return Some("three empty journals");
-    }
-    if stranger(alloc) != Some(unwoven(9, 1)) {
-        return Some("a node that the configuration hasn't");
-    }
-    None
+/// Journals without records, by node and number of incarnations, and the node of which the fault is.
+const EMPTY: &[(&[(u8, u64)], Option<u8>)] = &[
+    // A journal after five incarnations.
+    (&[(1, 5)], Some(1)),
+    (&[(0, 0), (1, 5), (2, 0)], Some(1)),
+    // Two journals of one node.
+    (&[(1, 0), (1, 0)], Some(1)),
+    (&[(2, 0), (1, 0), (2, 0)], Some(2)),
+    // The least-named of both.
+    (&[(2, 0), (1, 7), (2, 0)], Some(1)),
+    // Each node once.
+    (&[(0, 0)], None),
+    (&[(2, 0), (1, 0), (0, 0)], None),
+];
+
+/// Whether the fault of such journals is of this node, at place 0.
+fn is_of(alloc: Global, nodes: &[(u8, u64)], node: Option<u8>) -> bool {
+    let wanted = match node {
+        Some(node) => Some(unwoven(node, 0)),
+        None => None,
+    };
+    of_empty(alloc, nodes) == wanted
 }
 
 /// How many events are woven of no journals.
@@ -103,8 +104,22 @@ fn of_none(alloc: Global) -> Option<usize> {
 }
 
 #[test]
-fn faults(rt: HostRuntime) -> Result<(), Fail> {
-    assert_eq!(rt; wrong(rt.alloc()), None);
+fn a_message_made_by_hand(rt: HostRuntime) -> Result<(), Fail> {
+    assert_eq!(rt; by_hand(rt.alloc()), Some(unwoven(1, 2)));
+    Ok(())
+}
+
+#[test]
+fn journals_without_records(rt: HostRuntime) -> Result<(), Fail> {
+    for (nodes, node) in EMPTY {
+        assert!(rt; is_of(rt.alloc(), nodes, *node));
+    }
+    Ok(())
+}
+
+#[test]
+fn an_unknown_node(rt: HostRuntime) -> Result<(), Fail> {
+    assert_eq!(rt; stranger(rt.alloc()), Some(unwoven(9, 1)));
     Ok(())
 }
 
