@@ -9,6 +9,8 @@ mod bytes;
 #[cfg(test)]
 mod changes;
 #[cfg(test)]
+mod great_numbers;
+#[cfg(test)]
 mod messages;
 #[cfg(test)]
 mod sample;
@@ -16,3 +18,5 @@ mod sample;
 mod state_bytes;
 #[cfg(test)]
 mod states;
+#[cfg(test)]
+mod two_faults;

@@ -41,7 +41,7 @@ const NOTHING: &[u8] =
 const FRONT: &[u8] = b"DAC\x02\xd6\x6d\x30\xa4\xc2\x00\x33\x53";
 
 /// The same in version 1.
-const FRONT_ONE: &[u8] = b"DAC\x01\xd6\x6d\x30\xa4\xc2\x00\x33\x53";
+pub const FRONT_ONE: &[u8] = b"DAC\x01\xd6\x6d\x30\xa4\xc2\x00\x33\x53";
 
 /// The message of the first node in version 1, after its mark. It has incarnations in four bytes, and its state has no
 /// drains.
@@ -59,7 +59,7 @@ pub fn packet_bytes(alloc: Global, fields: &[&[u8]]) -> Result<Vec<u8>, NoMemory
 }
 
 /// These fields after what comes before them.
-fn bytes_after(alloc: Global, front: &[u8], fields: &[&[u8]]) -> Result<Vec<u8>, NoMemory> {
+pub fn bytes_after(alloc: Global, front: &[u8], fields: &[&[u8]]) -> Result<Vec<u8>, NoMemory> {
     let mut bytes = Vec::from_slice(alloc, front)?;
     for part in fields {
         bytes.extend_from_slice(part)?;
@@ -78,7 +78,7 @@ fn booted_one(alloc: Global) -> Result<Vec<u8>, NoMemory> {
 }
 
 /// Whether the two are one packet.
-fn are_equal(one: &Packet, other: &Packet) -> bool {
+pub fn are_equal(one: &Packet, other: &Packet) -> bool {
     match (one, other) {
         (Packet::Msg(one), Packet::Msg(other)) => one.equal(other),
         (Packet::Single(one), Packet::Single(other)) => one.equal(other),

@@ -29,7 +29,7 @@ const BOOTED_ONE: &[u8] =
 pub const LISTS: &[u8] = b"[{kernel,[{distributed,[{p,[a@h,b@h]},{q,[c@h]},{r,[a@h]}]}]}].";
 
 /// A state with every part, under the configuration of three applications.
-const FULL: &[u8] = b"\
+pub const FULL: &[u8] = b"\
     \x00\x02\
     \x00\x00\x00\x00\x00\x00\x00\x00\x01\x00\x00\x00\x00\x00\x00\x00\x05\x00\x00\x00\x00\
     \x01\x00\x00\x00\x00\x00\x00\x00\x01\x00\x00\x00\x00\x00\x00\x00\x03\x00\x00\x00\x00\

@@ -57,6 +57,51 @@ const STEPS: &[(Step, u64, Verdict, Verdict, u32)] = &[
         Verdict::Nobody,
         0,
     ),
+    // Who is in one list alone touches one pair: it goes down,
+    (
+        (2, 1, Kind::Down(0, 1)),
+        5,
+        Verdict::Start(C3),
+        Verdict::Kept(C2),
+        1,
+    ),
+    (
+        (0, 1, Kind::Down(2, 1)),
+        5,
+        Verdict::Start(C1),
+        Verdict::Kept(C2),
+        1,
+    ),
+    // or it is drained.
+    (
+        (0, 1, Kind::Drain),
+        5,
+        Verdict::Start(C3),
+        Verdict::Kept(C2),
+        1,
+    ),
+    (
+        (2, 1, Kind::Drain),
+        5,
+        Verdict::Start(C1),
+        Verdict::Kept(C2),
+        1,
+    ),
+    // What is said of a node outside the list of its application touches nothing.
+    (
+        (0, 1, Kind::Forbid(1)),
+        4,
+        Verdict::Start(C1),
+        Verdict::Kept(C2),
+        1,
+    ),
+    (
+        (2, 1, Kind::Start(1)),
+        4,
+        Verdict::Start(C1),
+        Verdict::Kept(C2),
+        1,
+    ),
 ];
 
 /// What a board says that took up one step, and what its copy says.

@@ -4,6 +4,7 @@ use crate::steps::dot;
 use dac_base::NodeId;
 use dac_config::{Config, read_config};
 use dac_core::{Body, Event, Message, Node, Refusal, Reply};
+use dac_origins::Origin;
 use dac_wire::{Packet, decode, encode};
 use std::alloc::Global;
 
@@ -51,6 +52,35 @@ fn whole_once_the_oldest_of_256_deltas_is_dropped(rt: HostRuntime) {
 fn an_acknowledgement_of_more_deltas_than_there_are_is_passed_over(rt: HostRuntime) {
     assert!(rt; ships_whole(rt.alloc(), 2, 3) == Some(false));
     assert!(rt; ships_whole(rt.alloc(), 3, 3) == Some(true));
+}
+
+/// What the second node acknowledges to the first once it heard that the first has so many deltas.
+fn acknowledges(alloc: Global, up_to: u64) -> Option<Option<u64>> {
+    let config = read_config(alloc, ONE).ok()?;
+    let mut node = boot_second(alloc, &config)?;
+    let mut sent = message(alloc)?;
+    sent.up_to = up_to;
+    let _heard = step(&config, &mut node, Event::Hear(sent)).ok()?;
+    match step(&config, &mut node, Event::Ship { to: FIRST }).ok()? {
+        Reply::Shipped(answer) => Some(number_of(answer.ack)),
+        _ => None,
+    }
+}
+
+/// How many deltas were got.
+fn number_of(ack: Option<(Origin, u64)>) -> Option<u64> {
+    match ack {
+        Some((_, number)) => Some(number),
+        None => None,
+    }
+}
+
+#[test]
+fn as_many_deltas_are_acknowledged_as_there_can_be(rt: HostRuntime) {
+    for up_to in [1, 4_294_967_295, 4_294_967_296, 1 << 40, 1 << 62] {
+        let answer = acknowledges(rt.alloc(), up_to);
+        assert!(rt; answer == Some(Some(up_to)), "{up_to}");
+    }
 }
 
 /// Whether the second node refuses a message to this node and to this incarnation alone, as it is for another one.

@@ -174,9 +174,20 @@ fn acks_after(alloc: Global, first: u64, second: u64) -> Result<Option<u64>, NoM
     Ok(acks.copy()?.get(origin(0)))
 }
 
+/// Two numbers, and which is kept: also those that don't fit in four bytes.
+const ACKS: &[(u64, u64, u64)] = &[
+    (3, 2, 3),
+    (3, 4_294_967_296, 4_294_967_296),
+    (4_294_967_299, 4, 4_294_967_299),
+    (1 << 62, 4_294_967_296, 1 << 62),
+];
+
 #[test]
 fn greatest_acknowledged_stays(rt: HostRuntime) {
-    assert!(rt; acks_after(rt.alloc(), 3, 2) == Ok(Some(3)));
+    for (first, second, kept) in ACKS {
+        let answer = acks_after(rt.alloc(), *first, *second);
+        assert!(rt; answer == Ok(Some(*kept)), "{first} and {second}");
+    }
 }
 
 /// What three keys have once two of them were put, the greater first, and that one again.

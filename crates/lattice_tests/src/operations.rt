@@ -22,6 +22,7 @@ enum Kind {
     Start,
     Stop,
     Claim,
+    Drain(u8),
 }
 
 /// The dots of these nodes and counters.
@@ -54,6 +55,12 @@ fn act(kind: Kind, over: DotList) -> Act {
             term: 7,
             how: How::Takeover,
             from: Some(NodeId(2)),
+        },
+        Kind::Drain(node) => Act::Drain {
+            node: NodeId(node),
+            inc: 1,
+            value: true,
+            over,
         },
     }
 }
@@ -139,28 +146,77 @@ fn first_fault_is_told(rt: HostRuntime) {
     }
 }
 
-/// Whether this comes of a stop that replaces so many dots.
-fn is_fault_of_many(alloc: Global, count: u64, fault: Option<OpFault>) -> Result<bool, NoMemory> {
+/// Drains by counter and by the node that is drained, the dots that they replace, and why they are none. A node may drain
+/// itself.
+const DRAINS: &[(&str, u64, u8, &[(u8, u64)], Option<OpFault>)] = &[
+    ("own", 2, 1, &[(0, 2)], Some(OpFault::OwnDot)),
+    (
+        "own, falling",
+        2,
+        1,
+        &[(1, 2), (0, 2)],
+        Some(OpFault::OwnDot),
+    ),
+    ("falling", 2, 1, &[(1, 2), (1, 1)], Some(OpFault::BadOver)),
+    ("twice", 2, 1, &[(1, 1), (1, 1)], Some(OpFault::BadOver)),
+    (
+        "twice, first",
+        1,
+        1,
+        &[(1, 1), (1, 1)],
+        Some(OpFault::BadOver),
+    ),
+    ("first", 1, 1, &[], Some(OpFault::BadCounter)),
+    ("first, of itself", 1, 0, &[], Some(OpFault::BadCounter)),
+    ("of two", 2, 1, &[(1, 1), (1, 2)], None),
+    ("of itself", 2, 0, &[(0, 1), (1, 1)], None),
+];
+
+#[test]
+fn first_fault_of_a_drain_is_told(rt: HostRuntime) {
+    for (name, n, node, over, fault) in DRAINS {
+        let answer = is_fault(rt.alloc(), *n, Kind::Drain(*node), over, *fault);
+        assert!(rt; matches!(answer, Ok(true)), "{name}");
+    }
+}
+
+/// Whether an operation of a kind that replaces so many dots has this fault.
+fn is_fault_of_many(
+    alloc: Global,
+    kind: Kind,
+    count: u64,
+    fault: Option<OpFault>,
+) -> Result<bool, NoMemory> {
     let mut over = Vec::new(alloc);
     for n in 0..count.min(2_000) {
         over.push((1, n + 1))?;
     }
-    is_fault(alloc, 2, Kind::Stop, &over, fault)
+    is_fault(alloc, 2, kind, &over, fault)
 }
+
+/// Kinds, how many dots each replaces, and the fault.
+const MANY: &[(Kind, u64, Option<OpFault>)] = &[
+    (Kind::Stop, 1_024, None),
+    (Kind::Stop, 1_025, Some(OpFault::BadOver)),
+    (Kind::Drain(1), 1_024, None),
+    (Kind::Drain(1), 1_025, Some(OpFault::BadOver)),
+];
 
 #[test]
 fn most_replaced(rt: HostRuntime) {
-    assert!(rt; matches!(is_fault_of_many(rt.alloc(), 1_024, None), Ok(true)));
-    let over = Some(OpFault::BadOver);
-    assert!(rt; matches!(is_fault_of_many(rt.alloc(), 1_025, over), Ok(true)));
+    for (kind, count, fault) in MANY {
+        let answer = is_fault_of_many(rt.alloc(), *kind, *count, *fault);
+        assert!(rt; matches!(answer, Ok(true)), "{count} dots");
+    }
 }
 
-/// Whether wishes and permissions see the dots that the act says.
+/// Whether wishes, permissions and drains see the dots that the act says.
 fn is_over(alloc: Global, op: &Op, over: &[Dot]) -> Result<bool, NoMemory> {
     Ok(
         op.act().over() == over
             && op.wish_act(alloc)?.over() == over
-            && op.permit_act(alloc)?.over() == over,
+            && op.permit_act(alloc)?.over() == over
+            && op.drain_act(alloc)?.over() == over,
     )
 }
 
@@ -174,7 +230,7 @@ fn is_seen_to_replace(alloc: Global, kind: Kind) -> Result<bool, NoMemory> {
 
 #[test]
 fn replaced_dots_are_seen(rt: HostRuntime) {
-    for kind in [Kind::Permit, Kind::Start, Kind::Stop] {
+    for kind in [Kind::Permit, Kind::Start, Kind::Stop, Kind::Drain(1)] {
         assert!(rt; matches!(is_seen_to_replace(rt.alloc(), kind), Ok(true)));
     }
 }
