@@ -1,7 +1,7 @@
 """The processes that a script starts. A run of the script that is ended ends all that it started, and leaves nothing behind.
 
-Ctrl-C and SIGTERM end a run. The work of the script runs in a thread beside the main one, which waits. So a signal finds the main
-thread between two steps, and never amid the start of a process.
+Ctrl-C and SIGTERM end a run. The work of the script runs in a thread beside the main one, which only waits and answers signals.
+So no signal comes amid the start of a process.
 """
 
 from __future__ import annotations
