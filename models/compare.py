@@ -1,10 +1,11 @@
 #!/usr/bin/env python3
 """Runs the program and the models on the same random inputs, and prints the first difference whole.
 
-Usage: python3 compare.py PROGRAM [--seed S] [--count N] [--scripts M] [--live L] [--packets P] [--jobs J]
+Usage: python3 compare.py PROGRAM [--seed S] [--count N] [--scripts M] [--live L] [--racing R] [--packets P] [--jobs J]
 
 PROGRAM may be a command of several words in one argument, as of a loader with its arguments. The word `check`, `sim` or `live`
 is added to it. A live run that hasn't ended after some minutes is a difference too. Packets are fed to `sim`, 500 by a script.
+What racing live scripts print hangs on the order of the threads. It is checked by what has to hold of each run: see racing.py.
 The last line counts, and says whether PROGRAM is the proved program. Of a program elsewhere, as a copy, it says that it isn't.
 """
 
@@ -17,50 +18,78 @@ import sys
 from collections.abc import Iterator
 from concurrent.futures import ProcessPoolExecutor
 from dataclasses import dataclass
-from typing import Callable, Tuple
+from typing import Callable, Optional, Tuple
 
 import check
 import live
 import programs
+import racing
 import random_live
+import random_racing
 import random_scripts
 import random_texts
 import sim
 
-Model = Callable[[bytes], Tuple[bytes, int]]
+Answer = Tuple[bytes, int]
+Model = Callable[[bytes], Answer]
+# Of an input and what the program answered: what is wrong with that, as a text, or nothing.
+Judge = Callable[[bytes, Answer], Optional[str]]
 BATCH = 50
 MOST_SECONDS = 300
 
 
 @dataclass(frozen=True)
 class Kind:
-    """A kind of input: the command's word, how an input is made of a seed and a number, and the model."""
+    """A kind of input: the command's word, how an input is made of a seed and a number, and who judges the answer."""
 
     word: str
     make: Callable[[int, int], bytes]
-    model: Model
+    judge: Judge
 
 
 @dataclass(frozen=True)
 class Difference:
-    """An input to which program and model answer differently."""
+    """An input to which the program answers otherwise than it has to."""
 
     word: str
     number: int
     source: bytes
-    program: tuple[bytes, int]
-    model: tuple[bytes, int]
+    program: Answer
+    judged: str
+
+
+def shown(who: str, answer: Answer) -> str:
+    """An answer as a text."""
+    output, status = answer
+    return f"the {who}, with status {status}:\n{output.decode(errors='backslashreplace')}"
+
+
+def by_model(model: Model) -> Judge:
+    """Judges by what a model answers."""
+
+    def judge(source: bytes, said: Answer) -> str | None:
+        expected = model(source)
+        return None if said == expected else shown("model", expected)
+
+    return judge
+
+
+def by_what_holds(source: bytes, said: Answer) -> str | None:
+    """Judges by what has to hold of each run."""
+    broken = racing.fault_of_run(source, *said)
+    return None if broken is None else f"what doesn't hold: {broken}"
 
 
 KINDS = {
-    "check": Kind("check", random_texts.random_text, check.check),
-    "sim": Kind("sim", random_scripts.random_script, sim.simulate),
-    "live": Kind("live", random_live.random_live, live.run_live),
-    "packets": Kind("sim", random_scripts.random_packets, sim.simulate),
+    "check": Kind("check", random_texts.random_text, by_model(check.check)),
+    "sim": Kind("sim", random_scripts.random_script, by_model(sim.simulate)),
+    "live": Kind("live", random_live.random_live, by_model(live.run_live)),
+    "racing": Kind("live", random_racing.random_racing, by_what_holds),
+    "packets": Kind("sim", random_scripts.random_packets, by_model(sim.simulate)),
 }
 
 
-def run_program(program: list[str], word: str, source: bytes) -> tuple[bytes, int]:
+def run_program(program: list[str], word: str, source: bytes) -> Answer:
     """What the program prints for an input, and its exit status."""
     most = MOST_SECONDS if word == "live" else None
     try:
@@ -76,9 +105,10 @@ def compare_batch(program: list[str], word: str, seed: int, numbers: range) -> l
     found = []
     for number in numbers:
         source = kind.make(seed, number)
-        said, expected = run_program(program, kind.word, source), kind.model(source)
-        if said != expected:
-            found.append(Difference(word, number, source, said, expected))
+        said = run_program(program, kind.word, source)
+        judged = kind.judge(source, said)
+        if judged is not None:
+            found.append(Difference(word, number, source, said, judged))
     return found
 
 
@@ -101,9 +131,8 @@ def show(difference: Difference) -> None:
     print(f"{difference.word} {difference.number}, the input as bytes and as it is:")
     print(repr(difference.source))
     print(difference.source.decode(errors="backslashreplace"))
-    for name, (output, status) in (("program", difference.program), ("model", difference.model)):
-        print(f"the {name}, with status {status}:")
-        print(output.decode(errors="backslashreplace"))
+    print(shown("program", difference.program))
+    print(difference.judged)
 
 
 def arguments() -> argparse.Namespace:
@@ -113,6 +142,7 @@ def arguments() -> argparse.Namespace:
     parser.add_argument("--count", type=int, default=20_000, help="how many texts for `check`")
     parser.add_argument("--scripts", type=int, default=2_000, help="how many scripts for `sim`")
     parser.add_argument("--live", type=int, default=500, help="how many scripts for `live`")
+    parser.add_argument("--racing", type=int, default=300, help="how many scripts for `live` whose answers hang on the threads")
     parser.add_argument("--packets", type=int, default=20_000, help="how many packets for `feed`, at least")
     parser.add_argument("--jobs", type=int, default=2)
     parser.add_argument("program", type=shlex.split, help="the program, or a command of several words")
@@ -123,12 +153,13 @@ def main() -> int:
     """Compares, shows the first difference, and counts all."""
     words = arguments()
     feeds = -(-words.packets // random_scripts.PACKETS)
-    counts = {"check": words.count, "sim": words.scripts, "live": words.live, "packets": feeds}
+    counts = {"check": words.count, "sim": words.scripts, "live": words.live, "racing": words.racing, "packets": feeds}
     found = compare_all(words.program, words.seed, counts, words.jobs)
     if found:
         show(found[0])
     state = "proved" if programs.is_proved(words.program) else "not proved"
-    made = f"{words.count} texts, {words.scripts} scripts, {words.live} live scripts, {feeds * random_scripts.PACKETS} packets"
+    lives = f"{words.live} live scripts, {words.racing} racing live scripts"
+    made = f"{words.count} texts, {words.scripts} scripts, {lives}, {feeds * random_scripts.PACKETS} packets"
     print(f"{made}, {len(found)} differences; the program is {state}")
     return 1 if found else 0
 

@@ -10,12 +10,14 @@ import re
 import sys
 from collections.abc import Callable, Iterator
 from dataclasses import dataclass
+from functools import partial
 from typing import Tuple
 
 from check import Config, check, read_config
 from live import run_live
 from meaning import NORMAL, Claim, ClaimAct, Dot, Down, Drain, Key, Meaning, Operation, Origin, Start, Up, meaning_of
 from placement import load, verdict
+from racing import fault_of_run
 from random_live import outputs
 from sim import LineReader, Player, simulate
 from wire import FIRST, MAGIC, SECOND, WireFault, Writer, is_operation, packet_bytes, read_packet, read_state, rows_of
@@ -395,6 +397,43 @@ LIVE_FAULTS = {
     "6 BadHex": "feed 0;feed 0A;feed 0g;feed '00'",
 }
 RACE = ONE_APPLICATION + b"--\n1 boot c1@h 0\n1 boot c2@h 0\nphase\n1 permit c1@h a c1@h false\n1 permit c2@h a c1@h true\n"
+RACING = TWO_APPLICATIONS + b"""--
+1 boot c1@h 0
+1 boot c2@h 0
+phase
+1 start c1@h a c1@h
+2 crash c1@h
+2 boot c1@h 5
+3 read c1@h
+1 tick c2@h 3
+2 tick c2@h 1
+2 permit c2@h a c2@h false
+feed 44
+phase
+phase
+"""
+# What the run above may not print: what stands in it, and what in its place.
+BROKEN = {
+    "a stale page": (b"c1@h 3 fresh", b"c1@h 3 stale"),
+    "an answer too few": (b"c1@h 3 fresh\n", b""),
+    "answers of two callers in another order": (b"c1@h 3 fresh\nc2@h 1 ok", b"c2@h 1 ok\nc1@h 3 fresh"),
+    "answers of a caller in another order": (b"2 refused 8 MomentBack\nc2@h 2 ok", b"2 ok\nc2@h 2 refused 8 MomentBack"),
+    "a moment that doesn't go back": (b"c2@h 1 ok\nc2@h 2", b"c2@h 1 refused 8 MomentBack\nc2@h 2"),
+    "a crash of a node that is on": (b"c1@h 2 ok\nc1@h 2 ok", b"c1@h 2 refused 1 Off\nc1@h 2 ok"),
+    "a boot of a node that is on": (b"c1@h 2 ok\nc1@h 3", b"c1@h 2 refused 2 AlreadyOn\nc1@h 3"),
+    "a refusal that a start can't meet": (b"phase 2\nc1@h 1 ok", b"phase 2\nc1@h 1 refused 12 NotRunning"),
+    "other bytes that are fed": (b"wire fault 2 BadMagic at 0", b"wire ok"),
+    "a phase too many": (b"phase 4", b"phase 4\nphase 5"),
+    "another incarnation": (b"node c1@h 2\n", b"node c1@h 1\n"),
+    "a node that runs, as off": (b"node c2@h 1\n", b"node c2@h off\n"),
+    "a node that is off, as running": (b"node c3@h off\n", b"node c3@h 1\n"),
+    "pages that differ": (b"list c2@h=idle\nnode c2@h", b"list c2@h=ok\nnode c2@h"),
+    "a word too many on a page": (b"verdict nobody", b"verdict nobody c1@h"),
+    "operations that nobody issued": (b"heard 4 known 4", b"heard 10 known 10"),
+    "a node that nobody said is down": (b"node c2@h up 1", b"node c2@h down 1"),
+    "a weave that failed": (b"weave ok", b"weave fault 1 Unwoven c1@h 3"),
+    "a line behind all": (b"weave ok\n", b"weave ok\n\n"),
+}
 
 CANONICAL = (
     b"[{kernel,[{distributed,[{myapp,5000,[cp1@cave,{cp2@cave,cp3@cave}]}]},{permissions,[]},"
@@ -544,7 +583,7 @@ def drained_checks(config: Config) -> Iterator[tuple[str, bool]]:
     yield "a drained state is written", state_bytes(state) == DRAINED
     yield "a drained state is read", read_state(config, DRAINED).drains == drains
     for name, data, expected in DRAINED_FAULTS:
-        yield f"drains {name}", fault_of(lambda data=data: read_state(config, data)) == expected
+        yield f"drains {name}", fault_of(partial(read_state, config, data)) == expected
     dots = (Dot(2, 1, 2), Dot(2, 1, 3))
     both = meaning_of([Operation(dots[0], Drain(Origin(1, 1), True, ())), Operation(dots[1], Drain(Origin(0, 2), False, ()))])
     yield "drains of two nodes", state_bytes(both).hex().endswith(TWO_DRAINS_HEX)
@@ -754,9 +793,21 @@ def live_fault_checks() -> Iterator[tuple[str, bool]]:
     yield "a race of two permits", len(outputs(RACE, 100, 1)) == 2
 
 
+def racing_checks() -> Iterator[tuple[str, bool]]:
+    """What has to hold of a run whose answers hang on the threads: the model's runs, and changed ones."""
+    output, status = run_live(RACING)
+    yield "a racing run", fault_of_run(RACING, output, status) is None
+    yield "a racing run that fails", fault_of_run(RACING, output, 1) is not None
+    found = outputs(RACING, 100, 1)
+    yield "a racing run in many orders", len(found) > 4 and all(fault_of_run(RACING, other, 0) is None for other in found)
+    for name, (old, new) in BROKEN.items():
+        yield name, old in output and fault_of_run(RACING, output.replace(old, new), status) is not None
+
+
 def run_all() -> Iterator[tuple[str, bool]]:
     """Each example's name, and whether the models give its answer."""
-    for row in (*ROWS, *LIVE_ROWS):
+    rows: list[Row | LiveRow] = [*ROWS, *LIVE_ROWS]
+    for row in rows:
         failure = row.failure()
         if failure is not None:
             print(failure)
@@ -775,6 +826,7 @@ def run_all() -> Iterator[tuple[str, bool]]:
     yield from many_drains_checks()
     yield from two_fault_checks()
     yield from live_fault_checks()
+    yield from racing_checks()
 
 
 def main() -> int:
