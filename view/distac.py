@@ -104,6 +104,8 @@ def runnable(path: str) -> str:
 
 def program_beside() -> str:
     """The program beside this one: the proved one, else one without proof, which is compiled first where there is none."""
+    if not TOP.is_dir():
+        return runnable(str(BESIDE))
     state, path = which_answers()
     if state not in ("proved", "not proved"):
         say("distac-view: the program distac is compiled first, without proof, in a minute or two; --models asks the models instead")
