@@ -541,7 +541,7 @@ def odd_line(random: Random, config: Config) -> bytes:
         words[at] = random.choice(ODD_OF_KIND[kinds[at]])
     if random.random() < 0.15:
         at = random.randrange(len(words) + 1)
-        words[at : at + 1] = random.choice(([], [b"7", b"7"]))
+        words[at : at + 1] = [b"7"] * random.choice((0, 2))
     return b" ".join(words)
 
 

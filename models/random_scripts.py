@@ -366,9 +366,9 @@ def edge_of_buffer(maker: ScriptMaker) -> None:
     for one, to in ((first, other), (other, first), (first, other), (other, first)):
         maker.add(b"ship", one, to)
         maker.add(b"hear", to, b"%d" % len(maker.world.messages))
-    line = maker.random.choice(([b"permit", first, spelled(app.name), first], [b"drain", first, other]))
+    vote = maker.random.choice(([b"permit", first, spelled(app.name), first], [b"drain", first, other]))
     for _ in range(maker.random.choice((254, 255, 256, 257, 258))):
-        maker.add(*line, maker.random.choice((b"true", b"false")))
+        maker.add(*vote, maker.random.choice((b"true", b"false")))
     maker.add(b"ship", first, other)
     maker.add(b"hear", other, b"%d" % len(maker.world.messages))
     maker.add(b"same", first, other)
@@ -487,7 +487,7 @@ def with_fault(random: Random, lines: list[bytes], odd_words: tuple[bytes, ...] 
 def odd_input(random: Random, text: bytes, script: bytes) -> bytes:
     """An input with something wrong around the script, or nearly."""
     mark = random.choice((b"", b"-- \n", b"--\r\n", b" --\n", b"---\n", b"--", b"--\n--\n", b"--\n\n--\n"))
-    choices = (
+    choices: tuple[Callable[[], bytes], ...] = (
         lambda: text + mark + script,
         lambda: script,
         lambda: b"--\n" + script,

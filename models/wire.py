@@ -497,6 +497,6 @@ def read_packet(config: Config, data: bytes) -> Packet:
     if fields.count(8) != config.mark:
         raise WireFault("OtherConfig", 4)
     kind = fields.number(1, WHOLE, SINGLE)
-    found = read_operation(fields) if kind == SINGLE else read_message(fields, kind)
+    found: Message | Operation = read_operation(fields) if kind == SINGLE else read_message(fields, kind)
     fields.end()
     return found

@@ -10,6 +10,7 @@ import re
 import sys
 from collections.abc import Callable, Iterator
 from dataclasses import dataclass
+from functools import partial
 
 from check import Config, check, read_config
 from live import run_live
@@ -543,7 +544,7 @@ def drained_checks(config: Config) -> Iterator[tuple[str, bool]]:
     yield "a drained state is written", state_bytes(state) == DRAINED
     yield "a drained state is read", read_state(config, DRAINED).drains == drains
     for name, data, expected in DRAINED_FAULTS:
-        yield f"drains {name}", fault_of(lambda data=data: read_state(config, data)) == expected
+        yield f"drains {name}", fault_of(partial(read_state, config, data)) == expected
     dots = (Dot(2, 1, 2), Dot(2, 1, 3))
     both = meaning_of([Operation(dots[0], Drain(Origin(1, 1), True, ())), Operation(dots[1], Drain(Origin(0, 2), False, ()))])
     yield "drains of two nodes", state_bytes(both).hex().endswith(TWO_DRAINS_HEX)
@@ -755,7 +756,8 @@ def live_fault_checks() -> Iterator[tuple[str, bool]]:
 
 def run_all() -> Iterator[tuple[str, bool]]:
     """Each example's name, and whether the models give its answer."""
-    for row in (*ROWS, *LIVE_ROWS):
+    rows: list[Row | LiveRow] = [*ROWS, *LIVE_ROWS]
+    for row in rows:
         failure = row.failure()
         if failure is not None:
             print(failure)

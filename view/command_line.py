@@ -185,7 +185,7 @@ def run(arguments: list[str]) -> int:
         return Status.WRONG_USE
     output, progress = Output(), Progress()
     try:
-        status = words.subcommand(watched(found_distac(words.distac), progress), words, output)
+        status: Status = words.subcommand(watched(found_distac(words.distac), progress), words, output)
         output.flush()
         return status
     except Faulty as faulty:

@@ -160,7 +160,7 @@ def no_such(what: str, name: str, names: list[str]) -> str:
 
 def bad_hex(line: Line, _: list[str]) -> tuple[int, str]:
     """A word should be bytes, and isn't."""
-    place, _, word = first_unfit(line, (Role.HEX,))
+    place, _role, word = first_unfit(line, (Role.HEX,))
     if word.endswith("\r"):
         return offset_of(line, place), RETURN
     wrong = re.search("[^0-9a-f]", word)

@@ -13,7 +13,7 @@ HEADS = ("down", "application", "now", "then", "how", "after", "back")
 
 def table_of(reply: Reply) -> Iterator[str]:
     """The answer as a table, and what is to be said of it."""
-    rows = [HEADS]
+    rows: list[tuple[str, ...]] = [HEADS]
     for case in reply.cases:
         rows += [cells_of(case, fate) for fate in case.fates]
     widths = [max(columns_of(row[place]) for row in rows) for place in range(len(HEADS))]
