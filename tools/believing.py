@@ -12,9 +12,9 @@ from tools.resting import Rest, Resting
 
 WHAT = """Prints all definitions that the contract of a public function rests on, each with its comment and its source.
 
-A definition is a word of a crate's specs/ outside of specs/laws/. What is cited stands before what cites it, so each word has been
-read before it is used, and the last ones are those that the clauses name. The contract itself stands at the end, and behind it the
-number of definitions, of their lines, and of the modules and crates that they are in.
+A definition is a word of a crate's specs/ outside of specs/laws/. What is cited stands before what cites it, so each word
+has been read before it is used, and the last ones are those that the clauses name. The contract itself stands at the end,
+and behind it the number of definitions, of their lines, and of the modules and crates that they are in.
 """
 WIDTH = 110
 

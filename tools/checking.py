@@ -9,7 +9,9 @@ from tools.contracts import Sources
 from tools.crates import HERE, read_crates
 from tools.modules import Modules
 
-WHAT = """Checks that documents, crates.txt, edits and scripts agree with each other and with the sources. Nothing is proved or run.
+WHAT = """Checks that documents, crates.txt, edits and scripts agree with each other and with the sources.
+
+Nothing is proved, and no program runs but bash, shellcheck and mypy, which check scripts if they are there.
 
 Each check has a line, and behind it its faults. The last line is `N passed, M failed`. The status is 0 if none failed.
 """

@@ -25,6 +25,8 @@ OUTSIDE: Dict[str, str] = {
     "nodedown": "a message of Erlang",
     "dac8208d650f15bf": "the sum of the toolchain's logic",
 }
+# parts of paths that stand for others
+STANDS_FOR = frozenset(("NAME", "CRATE", "PATH", "FILE", "FOLDER"))
 # words in capitals that stand for something else
 PLACEHOLDER = re.compile(r"(?<![\w])[A-Z]{2,}(?![\w])")
 
@@ -92,7 +94,7 @@ def name_faults(documents: Documents) -> Iterator[str]:
 def is_there(documents: Documents, line: Line, path: str) -> bool:
     """Whether a path leads to something: from the top, from the document's folder, from a crate, or from a crate's specs/."""
     root = documents.root
-    if "out" in path.split("/") or PLACEHOLDER.search(path):
+    if "out" in path.split("/") or STANDS_FOR.intersection(re.split(r"[/.]", path)):
         return True
     if (root / path).exists() or (line.file.parent / path).exists():
         return True
