@@ -16,7 +16,7 @@ from dataclasses import dataclass, field
 from typing import Callable, List
 
 from check import Config, ConfigFault
-from sim import ACTOR, COMMANDS, SHAPES, VERB, InputFault, Line, LineReader, Printer, ScriptFault, read_input
+from sim import ACTOR, COMMANDS, SHAPES, VERB, InputFault, Line, LineReader, Printer, ScriptFault, Value, read_input
 from wire import WireFault, read_packet
 from world import Refused, World
 
@@ -26,7 +26,7 @@ SHIPS = 4
 CALLER = "caller"
 CALLERS = (b"1", b"2", b"3", b"4")
 READ, FEED, PHASE = b"read", b"feed", b"phase"
-CALLER_SHAPES = {
+CALLER_SHAPES: dict[bytes, tuple[str, ...]] = {
     **{word: SHAPES[word] for word in (b"boot", b"crash", b"tick", *COMMANDS)},
     READ: (ACTOR,),
 }
@@ -64,7 +64,7 @@ class Asked:
 
     caller: int
     word: bytes
-    values: tuple[int | bool, ...]
+    values: tuple[Value, ...]
 
     @property
     def node(self) -> int:

@@ -2,6 +2,7 @@
 
 from __future__ import annotations
 
+from collections.abc import Callable
 from random import Random
 
 from meaning import Act, Claim, ClaimAct, Dot, Down, Drain, Key, Meaning, Operation, Origin, Permit, Start, Stop, Up
@@ -56,7 +57,7 @@ def some_over(random: Random, world: World) -> tuple[Dot, ...]:
 
 def some_act(random: Random, world: World) -> Act:
     """Anything that an operation may say, and more."""
-    makers = (
+    makers: tuple[Callable[[], Act], ...] = (
         Up,
         lambda: Down(some_node(random, world), some_inc(random)),
         lambda: Permit(some_key(random, world), random.random() < 0.5, some_over(random, world)),

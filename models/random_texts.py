@@ -161,6 +161,12 @@ def group_at(tokens: Tokens, at: int) -> int:
     return len(tokens)
 
 
+def perhaps_string(random: Random) -> Tokens:
+    """A string, or nothing."""
+    found: list[Tokens] = [[], [random.choice(STRINGS + BAD_STRINGS)]]
+    return random.choice(found)
+
+
 def changed_group(random: Random, tokens: Tokens) -> Tokens:
     """The tokens with one list or tuple emptied, doubled, or put in another's place, or with something in its place."""
     places = [at for at, token in enumerate(tokens) if token in (b"[", b"{")]
@@ -170,12 +176,12 @@ def changed_group(random: Random, tokens: Tokens) -> Tokens:
     past = group_at(tokens, at)
     group, after = tokens[at:past], tokens[past:]
     other = random.choice(places)
-    inner = random.choice((group[1:-1], [], [*group[1:-1], b",", *group[1:-1]]))
+    inner: list[bytes] = random.choice([group[1:-1], [], [*group[1:-1], b",", *group[1:-1]]])
     changed = random.choice(
         (
             [group[0], *inner, *group[-1:]],
             [*group, b",", *group],
-            [random.choice(STRINGS + BAD_STRINGS), *random.choice(([], [random.choice(STRINGS + BAD_STRINGS)]))],
+            [random.choice(STRINGS + BAD_STRINGS), *perhaps_string(random)],
             tokens[other : group_at(tokens, other)],
             [random.choice(NODES + APPS + NUMBERS)],
         )
@@ -278,7 +284,8 @@ def no_applications(random: Random) -> bytes:
     found = [one for one in parameters(random) if b"distributed" not in one]
     if random.random() < 0.5:
         found.append(tuple_of([[b"distributed"], listed([])]))
-    return with_blanks(random, random.choice((kernel_of(found), [b"[", b"]", b"."], [])))
+    nothing: list[bytes] = []
+    return with_blanks(random, random.choice((kernel_of(found), [b"[", b"]", b"."], nothing)))
 
 
 def valid(random: Random) -> bytes:
@@ -338,7 +345,8 @@ def random_text(seed: int, number: int) -> bytes:
     """The text of a number under a seed."""
     random = Random(f"text {seed} {number}")
     makers, weights = zip(*MAKERS)
-    return random.choices(makers, weights)[0](random)
+    made: bytes = random.choices(makers, weights)[0](random)
+    return made
 
 
 if __name__ == "__main__":

@@ -349,14 +349,14 @@ class Player:
         is_same = state_bytes(self.world.state(node)) == state_bytes(self.world.state(other))
         return [b"same" if is_same else b"differ"]
 
-    def bytes(self, number: int) -> list[bytes]:
-        """The bytes of a message."""
-        return [packet_bytes(self.world.config, self.world.message(number)).hex().encode()]
-
     def feed(self, data: bytes) -> list[bytes]:
         """Bytes that are read as a packet."""
         read_packet(self.world.config, data)
         return [b"wire ok"]
+
+    def bytes(self, number: int) -> list[bytes]:
+        """The bytes of a message."""
+        return [packet_bytes(self.world.config, self.world.message(number)).hex().encode()]
 
 
 def play_all(config: Config, lines: list[Line]) -> bytes:

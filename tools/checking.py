@@ -1,0 +1,89 @@
+"""What `./check-documents` runs and prints."""
+
+import argparse
+import sys
+from typing import Callable, Iterator, List, NamedTuple, Sequence
+
+from tools import crate_checks, document_checks, edit_checks, script_checks
+from tools.contracts import Sources
+from tools.crates import HERE, read_crates
+from tools.modules import Modules
+
+WHAT = """Checks that documents, crates.txt, edits and scripts agree with each other and with the sources.
+
+Nothing is proved, and no program runs but bash, shellcheck and mypy, which check scripts if they are there.
+
+Each check has a line, and behind it its faults. The last line is `N passed, M failed`. The status is 0 if none failed.
+"""
+
+
+class Check(NamedTuple):
+    """One check: what holds if it passes, and what finds its faults."""
+
+    holds: str
+    faults: Callable[[], Iterator[str]]
+
+
+def document_list() -> List[Check]:
+    """The checks of documents."""
+    documents = document_checks.Documents(HERE)
+    return [
+        Check("names in backticks stand in some file", lambda: document_checks.name_faults(documents)),
+        Check("paths lead somewhere", lambda: document_checks.path_faults(documents)),
+        Check("promised clauses are there", lambda: document_checks.clause_faults(documents, Sources())),
+        Check("rows of definitions name what is there", lambda: document_checks.definition_faults(Modules())),
+        Check("the index of decisions has their titles", lambda: document_checks.decision_faults(documents)),
+    ]
+
+
+def crate_list() -> List[Check]:
+    """The checks of crates.txt, and of the documents that show it."""
+    crates = read_crates()
+    return [
+        Check("crates.txt has each crate", lambda: crate_checks.folder_faults(HERE, crates)),
+        Check("no crate lists one above it", lambda: crate_checks.layer_faults(crates)),
+        Check("what is listed is named, and the other way round", lambda: crate_checks.listing_faults(HERE, crates)),
+        Check("the table of crates is that of crates.txt", lambda: crate_checks.table_faults(HERE, crates)),
+        Check("the drawing of the layers is that of crates.txt", lambda: crate_checks.drawing_faults(HERE, crates)),
+    ]
+
+
+def script_list(types: bool) -> List[Check]:
+    """The checks of edits and scripts, by the tools that are here."""
+    files = document_checks.files_of(HERE)
+    made = [
+        Check("each edit applies to one place", lambda: edit_checks.edit_faults(HERE)),
+        Check("bash reads the scripts", lambda: script_checks.bash_faults(HERE, files)),
+        Check("the oldest Python reads the scripts", lambda: script_checks.python_faults(HERE, files)),
+    ]
+    if script_checks.is_here("shellcheck"):
+        made.append(Check("shellcheck warns of nothing", lambda: script_checks.shellcheck_faults(HERE, files)))
+    if types and script_checks.is_here("mypy"):
+        made.append(Check("mypy finds the types right", lambda: script_checks.type_faults(HERE)))
+    return made
+
+
+def passes(check: Check) -> bool:
+    """Runs one check and prints what it found."""
+    faults = list(check.faults())
+    print(f"{'FAILED' if faults else 'passed'}  {check.holds}")
+    for fault in faults:
+        print(f"        {fault}")
+    return not faults
+
+
+def main(arguments: Sequence[str]) -> int:
+    """Runs all checks."""
+    parser = argparse.ArgumentParser(
+        prog="check-documents", description=WHAT, formatter_class=argparse.RawDescriptionHelpFormatter
+    )
+    parser.add_argument("--no-types", action="store_true", help="leave out mypy, which takes longer than all the others")
+    asked = parser.parse_args(arguments)
+    checks = document_list() + crate_list() + script_list(not asked.no_types)
+    passed = [passes(check) for check in checks]
+    print(f"{sum(passed)} passed, {len(passed) - sum(passed)} failed")
+    return 0 if all(passed) else 1
+
+
+if __name__ == "__main__":
+    sys.exit(main(sys.argv[1:]))

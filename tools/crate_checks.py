@@ -1,0 +1,122 @@
+"""Checks that crates.txt lists what is named, and that docs/ARCHITECTURE.md shows the crates as crates.txt has them."""
+
+import pathlib
+import re
+from typing import Dict, FrozenSet, Iterator, List, Tuple
+
+from tools.crates import Crates
+from tools.definition_rows import cells_of
+
+SPAN = re.compile(r"`([^`]+)`")
+CODE_PATH = re.compile(r"(?<![\w:.])(\w+)::")
+DEFINITION_PATH = re.compile(r"\bRattle\.(\w+)\b")
+
+
+def layer_faults(crates: Crates) -> Iterator[str]:
+    """Crates that list one of a layer above, or one that stands later in the file."""
+    order = crates.order()
+    for place, crate in enumerate(order):
+        for below in crates.listed[crate]:
+            if below in crates.listed and order.index(below) > place:
+                up = crates.layer_of(below) != crates.layer_of(crate)
+                why = f"of the layer {crates.layer_of(below)} above it" if up else "which stands behind it"
+                yield f"crates.txt: {crate} lists {below}, {why}"
+
+
+def named_in(folder: pathlib.Path, known: FrozenSet[str]) -> FrozenSet[str]:
+    """The crates and libraries that the files of a crate name."""
+    named = set()
+    for file in folder.rglob("*"):
+        if "out" in file.relative_to(folder).parts or file.suffix not in (".rt", ".antt"):
+            continue
+        text = file.read_text(encoding="utf-8")
+        if file.suffix == ".rt":
+            text = re.sub(r"//[^\n]*", "", text)
+            named.update(CODE_PATH.findall(text))
+        else:
+            text = re.sub(r"(^|\s)--[^\n]*", " ", text)
+        named.update(DEFINITION_PATH.findall(text))
+    return frozenset(named) & known
+
+
+def listing_faults(root: pathlib.Path, crates: Crates) -> Iterator[str]:
+    """Crates that list what they don't name, or name what they don't list."""
+    known = frozenset(crates.listed) | frozenset(one for names in crates.listed.values() for one in names)
+    for crate, listed in crates.listed.items():
+        named = named_in(root / "crates" / crate, known) - {crate}
+        for one in sorted(set(listed) - named):
+            yield f"crates.txt: {crate} lists {one}, and names it nowhere"
+        for one in sorted(named - set(listed)):
+            yield f"crates.txt: {crate} names {one}, and doesn't list it"
+
+
+def folder_faults(root: pathlib.Path, crates: Crates) -> Iterator[str]:
+    """Folders without a line, and lines without a folder."""
+    there = {one.name for one in (root / "crates").iterdir() if (one / "src").is_dir()}
+    for one in sorted(there - set(crates.listed)):
+        yield f"crates.txt: no line for crates/{one}"
+    for one in sorted(set(crates.listed) - there):
+        yield f"crates.txt: no folder crates/{one}"
+
+
+def table_of(root: pathlib.Path) -> Dict[str, List[Tuple[str, List[str]]]]:
+    """The table of crates in docs/ARCHITECTURE.md: by layer each crate with what it stands on."""
+    found: Dict[str, List[Tuple[str, List[str]]]] = {}
+    layer = ""
+    text = (root / "docs" / "ARCHITECTURE.md").read_text(encoding="utf-8")
+    section = text[text.index("## Crates, lowest first") :].split("\n## ")[0]
+    for line in section.split("\n"):
+        if not line.startswith("| ") or line.startswith("| Crate"):
+            continue
+        cells = cells_of(line)
+        if cells[0].startswith("**"):
+            layer = cells[0].strip("*")
+            continue
+        for crate in SPAN.findall(cells[0]):
+            found.setdefault(layer, []).append((crate, SPAN.findall(cells[2])))
+    return found
+
+
+def table_faults(root: pathlib.Path, crates: Crates) -> Iterator[str]:
+    """Where the table differs from crates.txt."""
+    table = table_of(root)
+    if list(table) != list(crates.layers):
+        yield f"docs/ARCHITECTURE.md: the layers of the table are {', '.join(table)}"
+    for layer, listed in crates.layers.items():
+        rows = [crate for crate, _ in table.get(layer, [])]
+        if layer == "Tests":
+            rows, listed = sorted(rows), tuple(sorted(listed))
+        if rows != list(listed):
+            yield f"docs/ARCHITECTURE.md: of {layer} the table has {', '.join(rows)}, crates.txt {', '.join(listed)}"
+        for crate, stands_on in table.get(layer, []):
+            for one in stands_on:
+                if one not in below(crates, crate):
+                    yield f"docs/ARCHITECTURE.md: {crate} doesn't stand on {one}"
+
+
+def below(crates: Crates, crate: str) -> FrozenSet[str]:
+    """All crates that a crate uses, also those that it uses by others."""
+    found = set()
+    left = list(crates.listed.get(crate, ()))
+    while left:
+        one = left.pop()
+        if one in crates.listed and one not in found:
+            found.add(one)
+            left.extend(crates.listed[one])
+    return frozenset(found)
+
+
+def drawing_faults(root: pathlib.Path, crates: Crates) -> Iterator[str]:
+    """Where the drawing of the layers differs from crates.txt."""
+    text = (root / "docs" / "ARCHITECTURE.md").read_text(encoding="utf-8")
+    drawn: Dict[str, List[str]] = {}
+    for line in text.split("```")[1].split("\n"):
+        words = line.split()
+        if words and re.match(r"^ [a-z]", line):
+            drawn[words[0].capitalize()] = words[1:]
+    layers = [layer for layer in crates.layers if layer != "Tests"]
+    if list(drawn) != layers[::-1]:
+        yield f"docs/ARCHITECTURE.md: the drawing has the layers {', '.join(drawn)}"
+    for layer in layers:
+        if drawn.get(layer, []) != list(crates.layers[layer]):
+            yield f"docs/ARCHITECTURE.md: of {layer} the drawing has {', '.join(drawn.get(layer, []))}"

@@ -1,0 +1,50 @@
+"""Reads crates.txt: the layers, and what each crate lists."""
+
+import pathlib
+from typing import Dict, Iterator, List, NamedTuple, Tuple
+
+HERE = pathlib.Path(__file__).resolve().parent.parent
+
+
+class Crates(NamedTuple):
+    """What crates.txt says."""
+
+    # the crates of each layer, lowest first, by the layer's first word
+    layers: Dict[str, Tuple[str, ...]]
+    # what each crate lists: crates of the repository, and libraries of the toolchain
+    listed: Dict[str, Tuple[str, ...]]
+
+    def order(self) -> List[str]:
+        """All crates, lowest first."""
+        return [crate for crates in self.layers.values() for crate in crates]
+
+    def layer_of(self, crate: str) -> str:
+        """The layer that a crate stands in."""
+        return next(layer for layer, crates in self.layers.items() if crate in crates)
+
+
+def layer_named(line: str) -> str:
+    """The layer that a comment line names: its first word, before a sign."""
+    return line[1:].replace(",", ":").split(":")[0].strip()
+
+
+def lines_of(root: pathlib.Path) -> Iterator[str]:
+    """The lines of crates.txt that aren't empty, without the sentence at its top."""
+    for place, line in enumerate((root / "crates.txt").read_text(encoding="utf-8").split("\n")):
+        if line.strip() and place > 0:
+            yield line.strip()
+
+
+def read_crates(root: pathlib.Path = HERE) -> Crates:
+    """Reads crates.txt."""
+    layers: Dict[str, List[str]] = {}
+    listed: Dict[str, Tuple[str, ...]] = {}
+    layer = ""
+    for line in lines_of(root):
+        if line.startswith("#"):
+            layer = layer_named(line)
+            continue
+        crate, _, names = line.partition(":")
+        layers.setdefault(layer, []).append(crate.strip())
+        listed[crate.strip()] = tuple(names.split())
+    return Crates({name: tuple(crates) for name, crates in layers.items()}, listed)

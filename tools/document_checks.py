@@ -1,0 +1,187 @@
+"""Checks that what documents cite is there: names, paths, clauses, definitions, and the titles of decisions."""
+
+import pathlib
+import re
+import subprocess
+from typing import Dict, FrozenSet, Iterator, List, NamedTuple, Sequence, Set, Tuple
+
+from tools.contracts import Function, Sources, is_within
+from tools.definition_rows import Rows, cells_of
+from tools.modules import Modules
+
+SPAN = re.compile(r"`([^`]+)`")
+NAME = re.compile(r"[A-Za-z_][A-Za-z0-9_]{3,}")
+PATH = re.compile(r"(?<![\w/:.-])(?:\.\/)?((?:[\w.-]+/)+[\w.-]*|[\w-]+\.(?:md|py|rt|antt|txt))(?![\w/])")
+# names that documents speak of and that no file of the repository has, each with what it is
+OUTSIDE: Dict[str, str] = {
+    "HashMap": "a type of Rust that isn't used",
+    "smallvec": "a library of Rust that isn't used",
+    "lemma": "a subcommand of rt",
+    "plant": "a subcommand of rt",
+    "tidy": "a subcommand of rt",
+    "mismatched": "a word of the compiler",
+    "sha256sum": "a command of the system",
+    "Shop": "a name that somebody may give an application",
+    "nodedown": "a message of Erlang",
+    "dac8208d650f15bf": "the sum of the toolchain's logic",
+}
+# parts of paths that stand for others
+STANDS_FOR = frozenset(("NAME", "CRATE", "PATH", "FILE", "FOLDER"))
+# words in capitals that stand for something else
+PLACEHOLDER = re.compile(r"(?<![\w])[A-Z]{2,}(?![\w])")
+
+
+class Line(NamedTuple):
+    """A line of a document, outside of what is shown as code."""
+
+    file: pathlib.Path
+    number: int
+    text: str
+
+    def place(self, root: pathlib.Path) -> str:
+        """Where it stands."""
+        return f"{self.file.relative_to(root)}:{self.number}"
+
+
+def files_of(root: pathlib.Path) -> List[pathlib.Path]:
+    """The files that git keeps, and new ones that it doesn't ignore."""
+    words = ["git", "-C", str(root), "ls-files", "--cached", "--others", "--exclude-standard"]
+    listed = subprocess.run(words, stdout=subprocess.PIPE, check=True).stdout.decode("utf-8").split("\n")
+    return [root / one for one in listed if one and (root / one).is_file()]
+
+
+class Documents:
+    """All documents, and all files beside them."""
+
+    def __init__(self, root: pathlib.Path) -> None:
+        """Reads the documents."""
+        self.root = root
+        self.files = files_of(root)
+        self.lines = [line for file in self.files if file.suffix == ".md" for line in lines_of(file)]
+
+    def words(self) -> FrozenSet[str]:
+        """All words of the files that are no documents, and the parts of all paths."""
+        words: Set[str] = set()
+        for file in self.files:
+            words.update(re.findall(r"\w+", str(file.relative_to(self.root))))
+            if file.suffix != ".md":
+                words.update(re.findall(r"\w+", file.read_text(encoding="utf-8", errors="replace")))
+        return frozenset(words)
+
+
+def lines_of(file: pathlib.Path) -> Iterator[Line]:
+    """The lines of a document that aren't shown as code."""
+    is_code = False
+    for number, text in enumerate(file.read_text(encoding="utf-8").split("\n"), 1):
+        if text.startswith("```"):
+            is_code = not is_code
+        elif not is_code:
+            yield Line(file, number, text)
+
+
+def name_faults(documents: Documents) -> Iterator[str]:
+    """Names in backticks that no file has."""
+    words = documents.words()
+    for line in documents.lines:
+        for span in SPAN.findall(line.text):
+            for name in NAME.findall(span):
+                known = name in words or name in OUTSIDE or PLACEHOLDER.fullmatch(name)
+                is_beginning = name.endswith("_") and any(word.startswith(name) for word in words)
+                if not known and not is_beginning:
+                    yield f"{line.place(documents.root)}: no file has the name {name}"
+
+
+def is_there(documents: Documents, line: Line, path: str) -> bool:
+    """Whether a path leads to something: from the top, from the document's folder, from a crate, or from a crate's specs/."""
+    root = documents.root
+    if "out" in path.split("/") or STANDS_FOR.intersection(re.split(r"[/.]", path)):
+        return True
+    if (root / path).exists() or (line.file.parent / path).exists():
+        return True
+    crates = root / "crates"
+    below = [one for pattern in ("*", "*/src", "*/specs") for one in crates.glob(pattern)]
+    return any((one / path).exists() for one in below) or any((root / one / path).exists() for one in ("view", "models", "tools"))
+
+
+def path_faults(documents: Documents) -> Iterator[str]:
+    """Paths that lead nowhere."""
+    tops = {one.name for one in documents.root.iterdir()} | {"src", "specs", "proofs", "must-fail"}
+    for line in documents.lines:
+        text = re.sub(r"https?://\S+|www\.\S+", " ", line.text)
+        for path in PATH.findall(text):
+            first = path.split("/")[0]
+            is_path = first in tops if "/" in path else True
+            if is_path and not is_there(documents, line, path.rstrip(".")):
+                yield f"{line.place(documents.root)}: there is no {path}"
+
+
+def promised(part: str) -> Iterator[Tuple[str, Sequence[str]]]:
+    """The functions that a part of a cell names, each with its clauses."""
+    clauses: List[str] = []
+    for match in reversed(list(re.finditer(r"\(clauses? [^)]*\)|`[^`]+`", part))):
+        name = match[0].strip("`")
+        if match[0].startswith("("):
+            clauses = SPAN.findall(match[0])
+        elif re.fullmatch(r"[\w:]+", name) and name not in ("requires", "ensures") and not name.endswith("::laws"):
+            yield name, clauses
+
+
+def clause_faults(documents: Documents, sources: Sources) -> Iterator[str]:
+    """Functions and clauses of docs/PROMISES.md that aren't there."""
+    above: Tuple[str, ...] = ()
+    for line in documents.lines:
+        if line.file.name != "PROMISES.md" or not line.text.startswith("|"):
+            continue
+        cells = cells_of(line.text)
+        if len(cells) != 3:
+            continue
+        cited: List[Tuple[str, Sequence[str]]] = []
+        for part in cells[2].split(";"):
+            if part.strip().startswith("the same"):
+                cited += [(name, SPAN.findall(part)) for name in above]
+            else:
+                cited += promised(part)
+        above = tuple(dict.fromkeys(name for name, _ in cited))
+        for name, clauses in cited:
+            for fault in faults_of_function(sources, name, clauses):
+                yield f"{line.place(documents.root)}: {fault}"
+
+
+def faults_of_function(sources: Sources, name: str, clauses: Sequence[str]) -> Iterator[str]:
+    """What is wrong with the clauses that a function is said to have."""
+    asked = tuple(name.split("::"))
+    if asked[-1][0].isupper() or asked[-1].startswith("dac_"):
+        return
+    found: List[Function] = [one for one in sources.functions if is_within(asked, one.whole())]
+    if not found:
+        yield f"there is no function {name}"
+        return
+    there = {clause.name for one in found for clause in one.clauses}
+    for clause in clauses:
+        if re.fullmatch(r"\w+", clause) and clause not in there:
+            yield f"{name} has no clause {clause}"
+
+
+def definition_faults(modules: Modules) -> Iterator[str]:
+    """Rows of docs/DEFINITIONS.md that name what isn't there."""
+    return Rows(modules).faults()
+
+
+def title_of(text: str) -> str:
+    """A title as the index has it."""
+    return re.sub(r"[,:.]$", "", " ".join(text.split()))
+
+
+def decision_faults(documents: Documents) -> Iterator[str]:
+    """Titles of docs/DECISIONS.md that its index doesn't have in their order."""
+    text = (documents.root / "docs" / "DECISIONS.md").read_text(encoding="utf-8")
+    index: Dict[str, List[str]] = {}
+    for item in re.findall(r"^- \[([^\]]+)\]\([^)]*\): (.*(?:\n  .*)*)", text, re.MULTILINE):
+        index[item[0]] = [title_of(one) for one in item[1].split(";")]
+    for part in text.split("\n## ")[1:]:
+        heading, _, body = part.partition("\n")
+        titles = [title_of(match[1]) for match in re.finditer(r"^\*\*(.+?)\*\*", body, re.MULTILINE | re.DOTALL)]
+        listed = index.get(heading, [])
+        if titles != listed:
+            differ = [one for one in titles + listed if one not in titles or one not in listed]
+            yield f"docs/DECISIONS.md: the index of {heading!r} has not its titles in order: {'; '.join(differ)}"

@@ -1,0 +1,272 @@
+"""Reads the modules of definitions: what each one declares and imports, and where a path of an import leads."""
+
+import pathlib
+import re
+from typing import Dict, FrozenSet, Iterator, List, NamedTuple, Optional, Tuple, Union
+
+from tools.crates import HERE, read_crates
+
+IMPORT = re.compile(
+    r"^\s*(?P<word>ghost use|pub use|use) Rattle\.(?P<path>[^\s{;]+?)"
+    r"(?:\.\{(?P<names>[^}]*)\})?(?: as (?P<alias>[^\s;]+))?;?\s*$"
+)
+SUBMODULE = re.compile(r"^(?:pub )?mod (?P<name>[^\s;]+)\s*$")
+KEYWORDS = re.compile(r"^(?:(?:abbrev|unfoldable|pub|record|data) )+(?P<name>[^\s{}()=:]\S*)(?=\s|$)")
+PLAIN = re.compile(r"^(?:pub )?(?P<name>[^\s(){}]+) : ")
+CONSTRUCTOR = re.compile(r"^\s+(?P<name>[^\s(){}:]+) : ")
+# modules that are made from the sources of the code
+GENERATED = ("declared", "contracts", "sources", "impls", "model", "models")
+
+
+class Import(NamedTuple):
+    """One import."""
+
+    path: Tuple[str, ...]
+    # each name by the one that it has here; None where the whole module is imported
+    names: Optional[Dict[str, str]]
+    # what a whole module is called here
+    alias: str
+    public: bool
+
+
+class Definition(NamedTuple):
+    """One word of specs/, with what stands above it."""
+
+    crate: str
+    # the path of its module, as `specs.Meaning`
+    module: str
+    file: pathlib.Path
+    line: int
+    name: str
+    comment: Tuple[str, ...]
+    # the lines `module _ (..) where` that it stands under
+    under: Tuple[str, ...]
+    text: Tuple[str, ...]
+
+    def is_law(self) -> bool:
+        """Whether it stands among the laws, which are proved and need no belief."""
+        return "laws" in self.module.split(".")
+
+
+class CodeType(NamedTuple):
+    """A type or a constant of the code that a definition speaks of."""
+
+    crate: str
+    name: str
+
+
+Word = Union[Definition, CodeType]
+
+
+def import_of(line: str) -> Optional[Import]:
+    """The import that a line makes."""
+    match = IMPORT.match(line)
+    if match is None:
+        return None
+    path = tuple(match["path"].split("."))
+    names: Optional[Dict[str, str]] = None
+    if match["names"] is not None:
+        names = {}
+        for one in match["names"].split(","):
+            there, _, here = one.strip().partition(" as ")
+            if there:
+                names[here.strip() or there] = there
+    return Import(path, names, match["alias"] or path[-1], match["word"] == "pub use")
+
+
+def depth_of(line: str) -> int:
+    """How far a line is indented."""
+    return len(line) - len(line.lstrip())
+
+
+def declared_in(line: str) -> Optional[str]:
+    """The name that a line declares, where it begins a declaration."""
+    match = KEYWORDS.match(line) or PLAIN.match(line)
+    return match["name"] if match else None
+
+
+def constructors_of(text: Tuple[str, ...]) -> Iterator[str]:
+    """The constructors of a declaration of data."""
+    if not re.match(r"^\s*(?:pub )?data ", text[0]):
+        return
+    depth = min((depth_of(line) for line in text[1:] if line.strip()), default=0)
+    for line in text[1:]:
+        match = CONSTRUCTOR.match(line)
+        if match and depth_of(line) == depth and not line.strip().startswith("--"):
+            yield match["name"]
+
+
+class Module:
+    """A module: its file, what it declares, and what it imports."""
+
+    def __init__(self, crate: str, path: str, file: pathlib.Path) -> None:
+        """Reads the file."""
+        self.crate = crate
+        self.path = path
+        self.file = file
+        self.submodules: List[str] = []
+        self.imports: List[Import] = []
+        self.definitions: Dict[str, Definition] = {}
+        self.constructors: Dict[str, Definition] = {}
+        # what is read now: the comment above, the blocks around with their depths, and the declaration's first line
+        self._comment: List[str] = []
+        self._blocks: List[Tuple[int, str]] = []
+        self._text: List[str] = []
+        self._name = ""
+        self._line = 0
+        self._above: Tuple[str, ...] = ()
+        for number, line in enumerate(file.read_text(encoding="utf-8").split("\n"), 1):
+            self._read(number, line)
+        self._end()
+
+    def _read(self, number: int, line: str) -> None:
+        """Takes one line."""
+        bare = line.strip()
+        if not bare:
+            self._text_or_comment_ends()
+            return
+        while self._blocks and depth_of(line) <= self._blocks[-1][0]:
+            self._end()
+            self._blocks.pop()
+        if self._name and depth_of(line) > self._depth():
+            self._text.append(line)
+        elif bare.startswith("--"):
+            self._comment.append(bare[2:].strip())
+        else:
+            self._take(number, line, bare)
+
+    def _take(self, number: int, line: str, bare: str) -> None:
+        """Takes a line that begins something, or goes on with the equations of a declaration."""
+        found, mod, name = import_of(bare), SUBMODULE.match(bare), declared_in(bare)
+        if found or mod or bare.startswith("module "):
+            self._end()
+            self._comment = []
+            if found:
+                self.imports.append(found)
+            elif mod:
+                self.submodules.append(mod["name"])
+            else:
+                self._blocks.append((depth_of(line), bare))
+        elif name:
+            comment = self._comment
+            self._comment = []
+            self._end()
+            self._name, self._line, self._text, self._above = name, number, [line], tuple(comment)
+        else:
+            self._comment = []
+            self._text.append(line)
+
+    def _text_or_comment_ends(self) -> None:
+        """Takes an empty line."""
+        self._comment = []
+        if self._text:
+            self._text.append("")
+
+    def _depth(self) -> int:
+        """How far the declaration that is read now is indented."""
+        return depth_of(self._text[0])
+
+    def _end(self) -> None:
+        """Ends the declaration that is read now."""
+        if not self._name:
+            return
+        while self._text and not self._text[-1].strip():
+            self._text.pop()
+        under = tuple(block for _, block in self._blocks)
+        made = Definition(self.crate, self.path, self.file, self._line, self._name, self._above, under, tuple(self._text))
+        self.definitions[self._name] = made
+        for name in constructors_of(made.text):
+            self.constructors[name] = made
+        self._name, self._text = "", []
+
+
+class Modules:
+    """The modules of all crates."""
+
+    def __init__(self, root: pathlib.Path = HERE) -> None:
+        """Nothing is read before it is asked for."""
+        self.root = root
+        self.crates = read_crates(root)
+        self._read: Dict[pathlib.Path, Module] = {}
+
+    def of_file(self, crate: str, path: str, file: pathlib.Path) -> Optional[Module]:
+        """The module of a file, if it is there."""
+        if file not in self._read:
+            if not file.is_file():
+                return None
+            self._read[file] = Module(crate, path, file)
+        return self._read[file]
+
+    def all_of(self, crate: str) -> List[Module]:
+        """All modules of a crate's specs/."""
+        folder = self.root / "crates" / crate / "specs"
+        found = []
+        for file in sorted(folder.glob("**/*.antt")):
+            path = "specs." + ".".join(file.relative_to(folder).with_suffix("").parts)
+            module = self.of_file(crate, path, file)
+            if module is not None:
+                found.append(module)
+        return found
+
+    def definitions_of(self, crate: str) -> List[Definition]:
+        """The definitions of a crate, without its laws."""
+        return [one for module in self.all_of(crate) for one in module.definitions.values() if not one.is_law()]
+
+    def _step(self, here: Module, word: str) -> Optional[Module]:
+        """The module that a module names so."""
+        if word not in here.submodules:
+            return None
+        at_top = here.file.name == "Lib.antt" and here.path == "specs.Lib"
+        folder = here.file.parent if at_top else here.file.with_suffix("")
+        path = "specs" if at_top else here.path
+        return self.of_file(here.crate, f"{path}.{word}", folder / f"{word}.antt")
+
+    def look(self, path: Tuple[str, ...]) -> Union[Module, Tuple[str, ...], None]:
+        """Where a path leads: to a module, to a path of what is made from the code, or to nothing here."""
+        if len(path) < 2 or path[0] not in self.crates.listed or path[1] != "specs":
+            return None
+        if len(path) > 2 and path[2] in GENERATED:
+            return path
+        here = self.of_file(path[0], "specs.Lib", self.root / "crates" / path[0] / "specs" / "Lib.antt")
+        for place, word in enumerate(path[2:], 2):
+            if here is None:
+                return None
+            below = self._step(here, word)
+            if below is None:
+                return self._handed(here, word, path[place + 1 :])
+            here = below
+        return here
+
+    def _handed(self, here: Module, word: str, rest: Tuple[str, ...]) -> Union[Module, Tuple[str, ...], None]:
+        """Where a path goes on from a module that hands this word on from a crate below."""
+        for one in here.imports:
+            if one.public and one.names is None and one.alias == word:
+                return self.look(one.path + rest)
+        return None
+
+    def find(self, path: Tuple[str, ...], name: str) -> Optional[Word]:
+        """What a name of a path is."""
+        there = self.look(path)
+        if there is None:
+            return None
+        if isinstance(there, tuple):
+            return code_type(there, name)
+        found = there.definitions.get(name) or there.constructors.get(name)
+        if found is not None:
+            return found
+        for one in there.imports:
+            if one.public and one.names is not None and name in one.names:
+                return self.find(one.path, one.names[name])
+        return None
+
+
+def code_type(path: Tuple[str, ...], name: str) -> CodeType:
+    """The type of the code that a name of a generated module belongs to."""
+    if "TheVariants" in path:
+        return CodeType(path[0], path[path.index("TheVariants") - 1])
+    return CodeType(path[0], name)
+
+
+def as_words(text: str) -> FrozenSet[str]:
+    """All words of a text, as a set."""
+    return frozenset(re.split(r"[\s(){}\[\],;.]+", text))

@@ -1,0 +1,84 @@
+"""Checks that scripts of the shell and of Python are well formed, by the tools that are there."""
+
+import ast
+import pathlib
+import shutil
+import subprocess
+from typing import Iterator, List, Sequence, Tuple
+
+# the oldest Python that reads the files of a folder or a file at the top; what isn't listed is read by 3.10
+OLDEST: Tuple[Tuple[str, Tuple[int, int]], ...] = (
+    ("view/tests", (3, 10)),
+    ("view", (3, 8)),
+    ("distac-view", (3, 8)),
+    ("tools", (3, 8)),
+    ("believe", (3, 8)),
+    ("check-documents", (3, 8)),
+)
+
+
+def first_line(file: pathlib.Path) -> str:
+    """The first line of a file, if it is text."""
+    with file.open("rb") as opened:
+        return opened.readline(200).decode("utf-8", errors="replace")
+
+
+def shell_scripts(files: Sequence[pathlib.Path]) -> List[pathlib.Path]:
+    """The scripts that bash runs."""
+    return [one for one in files if not one.suffix and "bash" in first_line(one)]
+
+
+def python_scripts(files: Sequence[pathlib.Path]) -> List[pathlib.Path]:
+    """The files of Python, with the scripts at the top."""
+    return [one for one in files if one.suffix == ".py" or not one.suffix and "python" in first_line(one)]
+
+
+def output_of(words: Sequence[str], root: pathlib.Path) -> Tuple[int, str]:
+    """How a command ends, and what it prints."""
+    done = subprocess.run(words, cwd=str(root), stdout=subprocess.PIPE, stderr=subprocess.STDOUT, check=False)
+    return done.returncode, done.stdout.decode("utf-8", errors="replace")
+
+
+def bash_faults(root: pathlib.Path, files: Sequence[pathlib.Path]) -> Iterator[str]:
+    """What `bash -n` says."""
+    for script in shell_scripts(files):
+        status, said = output_of(["bash", "-n", str(script)], root)
+        if status != 0:
+            yield said.strip()
+
+
+def shellcheck_faults(root: pathlib.Path, files: Sequence[pathlib.Path]) -> Iterator[str]:
+    """What shellcheck warns of."""
+    scripts = [str(one.relative_to(root)) for one in shell_scripts(files)]
+    status, said = output_of(["shellcheck", "--severity=warning", "--format=gcc"] + scripts, root)
+    if status != 0:
+        yield from said.strip().split("\n")
+
+
+def oldest_for(name: str) -> Tuple[int, int]:
+    """The oldest Python that has to read a file."""
+    return next((version for start, version in OLDEST if name == start or name.startswith(start + "/")), (3, 10))
+
+
+def python_faults(root: pathlib.Path, files: Sequence[pathlib.Path]) -> Iterator[str]:
+    """The files that the grammar of their oldest Python doesn't have."""
+    for script in python_scripts(files):
+        name = str(script.relative_to(root))
+        try:
+            ast.parse(script.read_text(encoding="utf-8"), filename=name, feature_version=oldest_for(name))
+        except SyntaxError as fault:
+            yield f"{name}:{fault.lineno}: Python {'.'.join(map(str, oldest_for(name)))}: {fault.msg}"
+
+
+def type_faults(root: pathlib.Path) -> Iterator[str]:
+    """What mypy says of the packages that pyproject.toml names, and then of the models, which are run from their folder."""
+    models = sorted(str(one.name) for one in (root / "models").glob("*.py"))
+    for words, folder in ((["mypy"], root), (["mypy", "--config-file", "../pyproject.toml"] + models, root / "models")):
+        status, said = output_of(words, folder)
+        if status != 0:
+            yield from (line for line in said.strip().split("\n") if not line.startswith("Found "))
+
+
+def is_here(tool: str) -> bool:
+    """Whether this machine has a tool."""
+    return shutil.which(tool) is not None
