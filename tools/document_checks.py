@@ -10,7 +10,7 @@ from tools.definition_rows import Rows, cells_of
 from tools.modules import Modules
 
 SPAN = re.compile(r"`([^`]+)`")
-NAME = re.compile(r"[A-Za-z_][A-Za-z0-9_]{3,}")
+NAME = re.compile(r"(?<![\\\w])[A-Za-z_][A-Za-z0-9_]{3,}")
 PATH = re.compile(r"(?<![\w/:.-])(?:\.\/)?((?:[\w.-]+/)+[\w.-]*|[\w-]+\.(?:md|py|rt|antt|txt))(?![\w/])")
 # names that documents speak of and that no file of the repository has, each with what it is
 OUTSIDE: Dict[str, str] = {

@@ -59,8 +59,8 @@ def row_fields(row: Row) -> Fields:
 def changes_answer(changes: Changes, notes: Iterable[Note]) -> str:
     """The answer of `what-if --then`."""
     fields: Fields = {"compared": changes.compared, "changes": [change_fields(change) for change in changes.changes]}
-    for name, (added, gone) in (("applications", changes.apps), ("nodes", changes.nodes)):
-        fields[f"{name}_added"], fields[f"{name}_gone"] = names_of(added), names_of(gone)
+    fields["applications_added"], fields["applications_gone"] = map(names_of, changes.apps)
+    fields["nodes_added"], fields["nodes_gone"] = map(names_of, changes.nodes)
     return json_of("then", fields, notes)
 
 
