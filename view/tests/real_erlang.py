@@ -243,9 +243,11 @@ def kind_of(case: Case, observed: dict[str, dict], wanted: str | None, found: st
     """What one observation is: it agrees, or the controllers hang and that was said, or applications were started elsewhere."""
     if wanted == found:
         return "agree"
+    is_lost = any(place and not observed["then"][app] for app, place in expected(case.fates, "then").items())
     if case.may_hang and moment != "now":
-        is_lost = any(place and not observed["then"][app] for app, place in expected(case.fates, "then").items())
         return "hang as warned" if is_lost else "differ by the order at equal times"
+    if case.scenario.start_takes and is_lost:
+        return "hang by starts that take longer than the times are apart"
     return "started elsewhere" if observed["now"] != expected(case.fates, "now") else "differ"
 
 
