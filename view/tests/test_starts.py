@@ -15,6 +15,7 @@ from check import read_config
 from random_scripts import CALM, CONFIGS, DRAINS, PAUSES, ScriptMaker
 from test_what_if import random_config
 from view.cases import Course, Loss, careful_course, first_pages, quick_course
+from view.cluster import share_all
 from view.loading import Checked, check_config
 from view.noticing import outage_of
 from view.openings import Side, opened, opened_after
@@ -207,8 +208,9 @@ class Courses(Asked):
         return quick_ones[0] is not None
 
     def no_living_holder_is_missed(self, course: Course) -> None:
-        """What is nowhere in the end is held by no node that runs, by what any running node of the side knows."""
-        cluster = course.cluster
+        """What is nowhere in the end is held by no node that runs, by what any running node of the side knows once all was told."""
+        cluster = course.cluster.copy()
+        share_all(distac(), cluster)
         pages = {one.actor: page_of(one.answer) for one in cluster.story.play(distac(), *(f"page {node}" for node in cluster.nodes))}
         for page in pages.values():
             for name, held in page.held.items():
