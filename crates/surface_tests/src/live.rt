@@ -121,8 +121,8 @@ fn phases(alloc: Global) -> Option<Vec<Phase>> {
 
 /// Whether the first answer of a report is a boot's.
 fn is_first_done(report: &LiveReport) -> bool {
-    match report.answers.first() {
-        Some(answers) => match answers.first() {
+    match report.answers.as_slice().first() {
+        Some(answers) => match answers.as_slice().first() {
             Some(LineAnswer::Done(answer)) => answer.is_ok(),
             Some(LineAnswer::Fresh) => false,
             Some(LineAnswer::Stale) => false,
@@ -152,7 +152,7 @@ fn is_run<R: Threads + Wait + Sync>(rt: &R, alloc: Global) -> Option<bool> {
         &config,
         report.closed.as_slice(),
     );
-    Some(is_first_done(&report) && report.pages.len() == 2 && events.is_ok())
+    Some(is_first_done(&report) && report.pages.as_slice().len() == 2 && events.is_ok())
 }
 
 #[test]
