@@ -2,7 +2,7 @@
 
 import pathlib
 import re
-from typing import Dict, FrozenSet, Iterator, List, NamedTuple, Optional, Tuple, Union
+from typing import Dict, Iterator, List, NamedTuple, Optional, Tuple, Union
 
 from tools.crates import HERE, read_crates
 
@@ -265,8 +265,3 @@ def code_type(path: Tuple[str, ...], name: str) -> CodeType:
     if "TheVariants" in path:
         return CodeType(path[0], path[path.index("TheVariants") - 1])
     return CodeType(path[0], name)
-
-
-def as_words(text: str) -> FrozenSet[str]:
-    """All words of a text, as a set."""
-    return frozenset(re.split(r"[\s(){}\[\],;.]+", text))
