@@ -487,7 +487,7 @@ def with_fault(random: Random, lines: list[bytes], odd_words: tuple[bytes, ...] 
 def odd_input(random: Random, text: bytes, script: bytes) -> bytes:
     """An input with something wrong around the script, or nearly."""
     mark = random.choice((b"", b"-- \n", b"--\r\n", b" --\n", b"---\n", b"--", b"--\n--\n", b"--\n\n--\n"))
-    choices = (
+    choices: tuple[Callable[[], bytes], ...] = (
         lambda: text + mark + script,
         lambda: script,
         lambda: b"--\n" + script,

@@ -107,7 +107,7 @@ def placed_in_both(placed: Placed, old: Configuration, new: Configuration) -> Pl
 
 def answers_in(reply: Reply) -> dict[tuple[str, tuple[str, ...]], Answer]:
     """All answers of a reply: by application, and by the nodes that are down."""
-    found = {(name, ()): Answer(place) for name, place in places_now(reply).items()}
+    found: dict[tuple[str, tuple[str, ...]], Answer] = {(name, ()): Answer(place) for name, place in places_now(reply).items()}
     for case in reply.cases:
         found.update({(fate.app, tuple(case.down)): Answer(fate.then, fate.milliseconds) for fate in case.fates})
     return found

@@ -110,8 +110,11 @@ class Cluster:
 
     def waiter(self, node: str, gave_up: bool) -> Waiter:
         """Whom a node waits for: the sync nodes that aren't among those that hear each other."""
-        away = ([each for each in nodes if each not in self.nodes] for nodes in (self.configuration.mandatory, self.configuration.optional))
-        return Waiter(node, *away, gave_up)
+        return Waiter(node, self.away(self.configuration.mandatory), self.away(self.configuration.optional), gave_up)
+
+    def away(self, nodes: Iterable[str]) -> list[str]:
+        """Those of some nodes that aren't among those that hear each other."""
+        return [node for node in nodes if node not in self.nodes]
 
 
 def longest_wait(configuration: Configuration) -> int:

@@ -6,7 +6,7 @@ import hashlib
 import os
 import re
 from dataclasses import dataclass, field
-from typing import Iterable, Iterator
+from typing import Iterable, Iterator, TypeVar
 
 from view.distac import MOST_INPUT
 from view.erlang_reader import Reader, decoded, is_latin
@@ -18,6 +18,8 @@ from view.problems import Problem, Status
 from view.script import read_bytes
 from view.templates import FILLED_IN, template_in
 from view.texts import bytes_of, cut, shown
+
+Name = TypeVar("Name")
 
 ANSWER_MARK = "%% distac-view: kernel of "
 NO_NAME = "nonode@nohost"
@@ -288,7 +290,7 @@ class Places:
 
     def twice_sections(self) -> Iterator[tuple[str, int]]:
         """The sections that were there before."""
-        return again(self.sections)
+        return ((str(name), place) for name, place in again(self.sections))
 
     def twice_parameters(self) -> Iterator[tuple[str, int]]:
         """The parameters that were there before in their section."""
@@ -300,9 +302,9 @@ OPENING = frozenset(("[", "{", "(", "#{", "<<"))
 CLOSED = frozenset(("]", "}", ")", ">>"))
 
 
-def again(named: list) -> Iterator[tuple]:
+def again(named: Iterable[tuple[Name, int]]) -> Iterator[tuple[Name, int]]:
     """Of some names with their places those that stood before."""
-    seen = set()
+    seen: set[Name] = set()
     for name, place in named:
         if name in seen:
             yield name, place

@@ -65,7 +65,7 @@ def opened_after(distac: Distac, checked: Checked, path: str) -> list[Side]:
     pages = {one.actor: page_of(one.answer) for one in story.play(distac, *(f"page {node}" for node in nodes))}
     groups = groups_of({node: page for node, page in pages.items() if page.can_act(node)}) or [[]]
     others = [node for node in nodes if not any(node in group for group in groups)]
-    sides = []
+    sides: list[Side] = []
     for group in groups:
         cluster = Cluster(story.copy(), group)
         share_all(distac, cluster)

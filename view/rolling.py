@@ -25,6 +25,11 @@ MOST_TRIED = 6
 Cost = Tuple[int, int, int, int]
 
 
+def sum_of(one: Cost, other: Cost) -> Cost:
+    """What two plans cost together, part by part."""
+    return (one[0] + other[0], one[1] + other[1], one[2] + other[2], one[3] + other[3])
+
+
 @dataclass(frozen=True)
 class Move:
     """An application that goes to another node, or back to its own one: how, and after how many milliseconds."""
@@ -74,7 +79,7 @@ class Standing:
     page: Page
 
     @property
-    def key(self) -> tuple:
+    def key(self) -> tuple[object, ...]:
         """What the next step hangs on: the nodes that are up, and what is to be done about each application by whom."""
         held = ((each.app, each.runs_at, each.verdict, each.at, each.marks) for each in self.page.held.values())
         return (tuple(sorted(self.cluster.nodes)), tuple(held))
@@ -145,7 +150,8 @@ def play_order(planner: Planner, start: Standing, order: Iterable[str]) -> tuple
 
 def greedy(planner: Planner, start: Standing) -> tuple[list[Step], list[str]]:
     """The steps of an order that takes next whichever node has the fewest applications, and the script's lines."""
-    standing, steps, rest = start, [], sorted(start.cluster.nodes)
+    standing, rest = start, sorted(start.cluster.nodes)
+    steps: list[Step] = []
     planner.distac.cases += len(rest)
     while rest and not (steps and steps[-1].waiters):
         places = [held.runs_at for held in standing.page.held.values()]
@@ -173,8 +179,8 @@ class Planner:
     def __init__(self, distac: Distac, drains: bool) -> None:
         self.distac = distac
         self.drains = drains
-        self.steps: dict[tuple, tuple[Step, Standing]] = {}
-        self.plans: dict[tuple, Plan] = {}
+        self.steps: dict[tuple[object, str], tuple[Step, Standing]] = {}
+        self.plans: dict[tuple[object, frozenset[str]], Plan] = {}
 
     def best(self, standing: Standing, nodes: frozenset[str]) -> Plan:
         """The best order of some nodes. Of equal ones the first by name counts."""
@@ -196,8 +202,7 @@ class Planner:
         step, following = self.step(standing, node)
         rest = nodes - {node}
         plan = Plan((len(rest), 0, 0, 0), tuple(sorted(rest)), factorial(len(rest)), 0) if step.waiters else self.best(following, rest)
-        cost = tuple(one + other for one, other in zip(step.cost, plan.cost))
-        return Plan(cost, (node, *plan.order), plan.count, step.moves + plan.most_moves)
+        return Plan(sum_of(step.cost, plan.cost), (node, *plan.order), plan.count, step.moves + plan.most_moves)
 
     def step(self, standing: Standing, node: str) -> tuple[Step, Standing]:
         """A step and what it leads to, by an earlier one that began with an equal page if there was any."""

@@ -31,7 +31,7 @@ def side_table(reply: Reply, answers: Answers, shows_all: bool) -> Iterator[str]
     """What runs nowhere from the start on, and the table of one side."""
     nowhere = nowhere_at_first(answers.side.page, reply.configuration)
     yield from nowhere_lines(answers.side.page, reply.configuration)
-    rows = [HEADS]
+    rows: list[tuple[str, ...]] = [HEADS]
     for case in answers.cases:
         rows += case_rows(case, [held.app for held in nowhere], reply.tick_time, shows_all)
     yield from lines_of_rows(rows)
