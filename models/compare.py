@@ -13,9 +13,10 @@ import argparse
 import shlex
 import subprocess
 import sys
-from collections.abc import Callable, Iterator
+from collections.abc import Iterator
 from concurrent.futures import ProcessPoolExecutor
 from dataclasses import dataclass
+from typing import Callable, Tuple
 
 import check
 import live
@@ -24,7 +25,7 @@ import random_scripts
 import random_texts
 import sim
 
-Model = Callable[[bytes], tuple[bytes, int]]
+Model = Callable[[bytes], Tuple[bytes, int]]
 BATCH = 50
 MOST_SECONDS = 300
 

@@ -11,9 +11,9 @@ from __future__ import annotations
 
 import sys
 from collections import deque
-from collections.abc import Callable
 from contextlib import suppress
 from dataclasses import dataclass, field
+from typing import Callable, List
 
 from check import Config, ConfigFault
 from sim import ACTOR, COMMANDS, SHAPES, VERB, InputFault, Line, LineReader, Printer, ScriptFault, read_input
@@ -110,7 +110,7 @@ class Thread:
     step: Callable[[], None]
 
 
-Choose = Callable[[list[Thread]], Thread]
+Choose = Callable[[List[Thread]], Thread]
 
 
 def first(threads: list[Thread]) -> Thread:

@@ -4,7 +4,7 @@ from __future__ import annotations
 
 from collections.abc import Iterable
 from dataclasses import dataclass, field
-from typing import NamedTuple
+from typing import NamedTuple, Union
 
 NORMAL, FAILOVER, TAKEOVER = 1, 2, 3
 
@@ -116,7 +116,7 @@ class Drain:
     over: tuple[Dot, ...]
 
 
-Act = Up | Down | Permit | Start | Stop | ClaimAct | Drain
+Act = Union[Up, Down, Permit, Start, Stop, ClaimAct, Drain]
 
 
 @dataclass(frozen=True)

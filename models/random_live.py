@@ -32,7 +32,7 @@ import sys
 from collections import defaultdict
 from dataclasses import dataclass, field
 from random import Random
-from typing import NamedTuple
+from typing import NamedTuple, Tuple
 
 import placement
 from check import Config, ConfigFault, read_config, spelled
@@ -43,7 +43,7 @@ from random_texts import random_text
 from sim import ACTOR, APP, NODE, NUMBER, TRUTH, VERB, ScriptFault, read_lines
 from world import World
 
-Who = tuple[int, int]
+Who = Tuple[int, int]
 
 CROWD = weighted("permit 6 start 7 stop 3 drain 5 read 3 takeover 2 down 1 boot 2 odd 1")
 GOING = weighted("crash 4 down 5 boot 4 start 3 permit 2 stop 1 drain 3 read 1 takeover 1")

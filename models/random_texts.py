@@ -11,8 +11,9 @@ from __future__ import annotations
 import sys
 from collections.abc import Callable
 from random import Random
+from typing import List
 
-Tokens = list[bytes]
+Tokens = List[bytes]
 
 NODES = (b"c1@h", b"c2@h", b"c3@h", b"a@b", b"b@h", b"'n-1@h.example'", b"'N'", b"''", b"'fun'", b"z9@Z_", b"'c1@h'")
 APPS = (b"a", b"b", b"myapp", b"'my app'", b"'b'", b"kernel", b"x_1", b"'\xc3\xa9'", b"true", b"'Q'", b"fun_")

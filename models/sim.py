@@ -9,6 +9,7 @@ from __future__ import annotations
 import sys
 from collections.abc import Callable
 from dataclasses import dataclass
+from typing import Union
 
 import placement
 from check import MOST_INPUT, Config, ConfigFault, is_bare_atom, read_config, spelled
@@ -65,7 +66,7 @@ class ScriptFault(Exception):
 # Reading
 
 
-Value = int | bool | bytes
+Value = Union[int, bool, bytes]
 
 
 @dataclass(frozen=True)
@@ -220,7 +221,7 @@ class Printer:
     def shipped(self, number: int) -> bytes:
         """A shipped message."""
         message = self.world.shipped(number)
-        heard = "" if message.kind == NOTHING else f" {message.body.bit_count()}"
+        heard = "" if message.kind == NOTHING else " %d" % bin(message.body).count("1")
         return f"shipped {number} {BODY_NAMES[message.kind]}{heard}".encode()
 
     def page(self, node: int) -> list[bytes]:

@@ -7,7 +7,7 @@ from __future__ import annotations
 
 from collections.abc import Callable
 from dataclasses import dataclass
-from typing import TypeVar
+from typing import Dict, List, Tuple, TypeVar, Union
 
 from check import Config, Fault
 from meaning import NORMAL, Act, Claim, ClaimAct, Dot, Down, Drain, Key, Life, Meaning, Operation, Origin, Permit, Start
@@ -34,7 +34,7 @@ class WireFault(Fault):
 
 
 # For each origin how far its dots go unbroken from the first on, and the further counters in order.
-Rows = dict[Origin, tuple[int, list[int]]]
+Rows = Dict[Origin, Tuple[int, List[int]]]
 
 
 def rows_of(dots: set[Dot]) -> Rows:
@@ -91,7 +91,7 @@ class Message(Header):
     body: SpelledState | None
 
 
-Packet = Message | Operation
+Packet = Union[Message, Operation]
 
 
 # Writing

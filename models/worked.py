@@ -10,6 +10,7 @@ import re
 import sys
 from collections.abc import Callable, Iterator
 from dataclasses import dataclass
+from typing import Tuple
 
 from check import Config, check, read_config
 from live import run_live
@@ -443,7 +444,7 @@ TEXTS = (
 
 FRESH, FIRST_FRESH = bytes.fromhex(FRESH_HEX), bytes.fromhex(FIRST_FRESH_HEX)
 D1, D2 = Dot(0, 1, 1), Dot(0, 1, 2)
-Fault = tuple[str, int]
+Fault = Tuple[str, int]
 
 
 def with_byte(data: bytes, at: int, byte: int) -> bytes:

@@ -4,39 +4,44 @@ from __future__ import annotations
 
 import argparse
 import sys
-from typing import Callable
+from typing import IO, Callable
 
+from view.completion import bash_completion
 from view.config_warnings import warnings_on
 from view.distac import Distac, found_distac
 from view.gather import EXAMPLES, gather
+from view.help_texts import EPILOG, epilog_of
 from view.loading import Faulty, Loaded, answers_of, load_config, load_script
 from view.looking import seen_lines
-from view.output import Output, Progress, drop_output, say
+from view.output import Output, Progress, drop, open_streams, say, why_not_written
 from view.playing import answers_in, rows_of, unknown_names
 from view.problems import Problem, Status
+from view.question_commands import add_load, add_rolling, add_what_if, load, rolling, what_if
+from view.texts import shown
 from view.timeline import Drafting
+from view.verbs import Role, fits
 from view.web_page import page_text
-from view.what_if import Question, reply_to
-from view.what_if_texts import json_of, table_of
+from view.wide_states import too_wide
+from view.writing import PIPE, write_whole
 
 VERSION = "distac-view 1"
 MOST_DRAWN = 1_000
-EPILOG = """\
-exit status:
-  0  done
-  1  the file has a fault; with --strict, it has a warning
-  2  wrong use, a file that can't be read or written, or no answer from distac
-
-The program distac is taken from --distac PATH, else from the environment variable DISTAC, else from beside this one.
-A FILE that is a dash is standard input."""
 
 
 def check(distac: Distac, words: argparse.Namespace, output: Output) -> Status:
-    """Prints the canonical text of a configuration, with warnings on standard error."""
-    checked = load_config(distac, words.file)
-    output.line(checked.canonical)
+    """Prints the canonical text of each configuration, with warnings on standard error. The worst status counts."""
+    return max([check_one(distac, words, path, output) for path in words.files])
+
+
+def check_one(distac: Distac, words: argparse.Namespace, path: str, output: Output) -> Status:
+    """Prints the canonical text of a configuration: behind its name, if there are several."""
+    try:
+        checked = load_config(distac, path)
+    except (Faulty, Problem) as ended:
+        return told(ended, output)
+    output.line((f"{path}: " if len(words.files) > 1 else "") + checked.canonical)
     output.flush()
-    return warned(words, [remark.text(words.file) for remark in warnings_on(checked, words.file)])
+    return warned(words, [remark.text(path) for remark in warnings_on(checked, path)])
 
 
 def play(distac: Distac, words: argparse.Namespace, output: Output) -> Status:
@@ -49,7 +54,7 @@ def play(distac: Distac, words: argparse.Namespace, output: Output) -> Status:
     for row in rows_of(each, words.explain or output.is_terminal):
         output.line(row)
     output.flush()
-    remarks = unknown_names(each, loaded.configuration)
+    remarks = [*unknown_names(each, loaded.configuration), *too_wide(each)]
     return warned(words, [remark.text(words.script) for remark in remarks])
 
 
@@ -63,14 +68,16 @@ def warned(words: argparse.Namespace, warnings: list[str]) -> Status:
 def timeline(distac: Distac, words: argparse.Namespace, output: Output) -> Status:
     """Writes the page of a script's timeline."""
     loaded = load_script(distac, words.script)
-    answers_of(distac, loaded)
+    remarks = list(too_wide(answers_of(distac, loaded)))
     drawn, left_out = drawn_lines(loaded, words.first, words.lines)
     drafting = Drafting(loaded.configuration)
     for seen in seen_lines(distac, loaded, drawn.start, drawn.stop):
         drafting.add(seen)
-    write_page(words.output, page_text(words.script, drafting.finished(), left_out), output)
+    write_page(words.output, page_text(words.script, drafting.finished(), left_out), output, words.script)
     if left_out:
         say(f"distac-view: {left_out}")
+    for remark in remarks:
+        say(remark.text(words.script))
     return Status.FINE
 
 
@@ -86,25 +93,13 @@ def drawn_lines(loaded: Loaded, first: int, most: int) -> tuple[range, str]:
     return range(start, stop), f"{numbers} are drawn: --from LINE and --lines N choose others"
 
 
-def write_page(path: str, text: str, output: Output) -> None:
+def write_page(path: str, text: str, output: Output, script: str) -> None:
     """Writes a page to a file, or to standard output for a dash."""
     data = text.encode("utf-8", "replace")
-    if path == "-":
+    if path == PIPE:
         output.raw(data)
-        return
-    try:
-        with open(path, "wb") as file:
-            file.write(data)
-    except (OSError, ValueError) as error:
-        raise Problem(f"{path} can't be written: {getattr(error, 'strerror', None) or error}") from error
-
-
-def what_if(distac: Distac, words: argparse.Namespace, output: Output) -> Status:
-    """Prints what becomes of each application if nodes go down."""
-    reply = reply_to(distac, Question(words.config, words.down, words.not_started, words.after))
-    for line in [json_of(reply)] if words.json else table_of(reply):
-        output.line(line)
-    return Status.FINE
+    else:
+        write_whole(path, data, [script])
 
 
 Subcommand = Callable[[Distac, argparse.Namespace, Output], Status]
@@ -112,17 +107,39 @@ Subcommand = Callable[[Distac, argparse.Namespace, Output], Status]
 
 def parser_of_words() -> argparse.ArgumentParser:
     """The parser of the command line."""
-    shared = argparse.ArgumentParser(add_help=False)
-    shared.add_argument("--distac", metavar="PATH", help="the program distac that is asked")
     description = "For people around distac: where a fault is, what a script did, and what happens if a node goes down."
-    parser = argparse.ArgumentParser("distac-view", description=description, epilog=EPILOG, formatter_class=Formatter)
+    parser = Parser("distac-view", description=description, epilog=EPILOG, formatter_class=Formatter)
     parser.add_argument("--version", action="version", version=VERSION)
-    commands = parser.add_subparsers(title="subcommands", dest="command", metavar="check | gather | play | timeline | what-if")
+    more = "print what bash reads to complete the words of distac-view"
+    parser.add_argument("--print-completion", choices=["bash"], metavar="bash", help=more)
+    program_words(parser, None)
+    shared = Parser(add_help=False)
+    program_words(shared, argparse.SUPPRESS)
+    names = " | ".join(name for name, _, _, _ in SUBCOMMANDS)
+    commands = parser.add_subparsers(title="subcommands", dest="command", metavar=names)
     for name, about, subcommand, add_words in SUBCOMMANDS:
-        own = commands.add_parser(name, parents=[shared], help=about, description=about, epilog=EPILOG, formatter_class=Formatter)
+        own = commands.add_parser(
+            name, parents=[shared], help=about, description=about, epilog=epilog_of(name), formatter_class=Formatter
+        )
         own.set_defaults(subcommand=subcommand)
         add_words(own)
     return parser
+
+
+def program_words(parser: argparse.ArgumentParser, default: str | None) -> None:
+    """Which program is asked. It may be said before the subcommand or behind it."""
+    parser.add_argument("--distac", metavar="PATH", default=default, help="the program distac that is asked")
+
+
+class Parser(argparse.ArgumentParser):
+    """A parser that tells where its help can't be written."""
+
+    def _print_message(self, message: str, file: IO[str] | None = None) -> None:
+        """Prints help, a version or a usage. What goes to standard output has to arrive."""
+        if file is sys.stdout:
+            file.write(message)
+        else:
+            say(message.rstrip("\n"))
 
 
 class Formatter(argparse.RawDescriptionHelpFormatter):
@@ -134,7 +151,7 @@ class Formatter(argparse.RawDescriptionHelpFormatter):
 
 def check_words(parser: argparse.ArgumentParser) -> None:
     """The words of `check`."""
-    parser.add_argument("file", metavar="FILE", help="a configuration, as erl -config takes it")
+    parser.add_argument("files", metavar="FILE", nargs="+", help="a configuration, as erl -config takes it")
     parser.add_argument("--strict", action="store_true", help="a warning makes the exit status 1")
 
 
@@ -151,18 +168,15 @@ def timeline_words(parser: argparse.ArgumentParser) -> None:
     """The words of `timeline`."""
     parser.add_argument("script", metavar="SCRIPT", help="a configuration, a line --, and the lines of a script")
     parser.add_argument("-o", "--output", metavar="FILE.html", required=True, help="the page that is written")
-    parser.add_argument("--from", dest="first", metavar="LINE", type=int, default=1, help="the first line that is drawn")
-    parser.add_argument("--lines", metavar="N", type=int, default=MOST_DRAWN, help="how many lines are drawn, 1000 if absent")
+    parser.add_argument("--from", dest="first", metavar="LINE", type=count_from_one, default=1, help="the first line that is drawn")
+    parser.add_argument("--lines", metavar="N", type=count_from_one, default=MOST_DRAWN, help="how many lines are drawn, 1000 if absent")
 
 
-def what_if_words(parser: argparse.ArgumentParser) -> None:
-    """The words of `what-if`."""
-    parser.add_argument("config", metavar="CONFIG", help="a configuration, as erl -config takes it")
-    parser.add_argument("--down", metavar="NODE", nargs="+", action="extend", default=[], help="nodes that go down together")
-    more = "nodes that come up without any application being started there"
-    parser.add_argument("--not-started", metavar="NODE", nargs="+", action="extend", default=[], help=more)
-    parser.add_argument("--after", metavar="SCRIPT", help="begin where this script ends, not with a cluster that just came up")
-    parser.add_argument("--json", action="store_true", help="print the answer as JSON")
+def count_from_one(word: str) -> int:
+    """A count that the command line gives."""
+    if not fits(Role.NUMBER, word) or word == "0":
+        raise argparse.ArgumentTypeError(f"a count from 1 on is wanted, in decimal digits, and not {shown(word)}")
+    return int(word)
 
 
 def gather_words(parser: argparse.ArgumentParser) -> None:
@@ -185,7 +199,9 @@ SUBCOMMANDS: "list[tuple[str, str, Subcommand, Callable[[argparse.ArgumentParser
     ("gather", "Writes one configuration from the files of all nodes.", gather, gather_words),
     ("play", "Plays a script and prints each answer beside its line.", play, play_words),
     ("timeline", "Draws what a script did, as one page for a browser.", timeline, timeline_words),
-    ("what-if", "Says where each application goes if a node goes down, and once the node is back.", what_if, what_if_words),
+    ("what-if", "Says where each application goes if a node goes down, and once the node is back.", what_if, add_what_if),
+    ("rolling", "Says what moves in each step of a rolling restart, and finds the best order.", rolling, add_rolling),
+    ("load", "Says how many applications each node has if a node goes down, and what is lost then.", load, add_load),
 ]
 
 
@@ -193,43 +209,63 @@ def run(arguments: list[str]) -> int:
     """Does what the command line says. The exit status."""
     parser = parser_of_words()
     words = parser.parse_args(arguments)
+    if words.print_completion:
+        sys.stdout.write(bash_completion(parser))
+        return Status.FINE
     if words.command is None:
         parser.print_usage(sys.stderr)
         return Status.WRONG_USE
     output, progress = Output(), Progress()
     try:
-        status = words.subcommand(watched(found_distac(words.distac), progress), words, output)
+        status: Status = words.subcommand(watched(found_distac(words.distac), progress), words, output)
         output.flush()
         return status
-    except Faulty as faulty:
-        output.line(faulty.remark.text(faulty.path))
-        output.flush()
-        return Status.FAULT
-    except Problem as problem:
+    except (Faulty, Problem) as ended:
         progress.end()
-        say(f"distac-view: {problem.sentence}")
-        return problem.status
+        return told(ended, output)
     finally:
         progress.end()
+
+
+def told(ended: Faulty | Problem, output: Output) -> Status:
+    """Says what ended a subcommand, or its work on one of several files. The exit status of that."""
+    if isinstance(ended, Faulty):
+        output.line(ended.remark.text(ended.path))
+        output.flush()
+        return Status.FAULT
+    say(f"distac-view: {ended.sentence}")
+    return ended.status
 
 
 def watched(distac: Distac, progress: Progress) -> Distac:
     """The program, with each question to it told to the progress."""
     distac.is_asked = progress.ask
+    progress.cases = lambda: (distac.cases_done, distac.cases)
     return distac
 
 
 def main() -> int:
     """The whole program: nothing that comes of its input or of its surroundings is a traceback."""
+    open_streams()
     try:
-        return run(sys.argv[1:])
+        return finished(sys.argv[1:])
     except BrokenPipeError:
-        drop_output()
+        drop(sys.stdout)
         return Status.FINE
     except OSError as error:
-        drop_output()
-        say(f"distac-view: standard output can't be written: {error.strerror or error}")
+        drop(sys.stdout)
+        say(f"distac-view: standard output can't be written: {why_not_written(error)}")
         return Status.WRONG_USE
     except KeyboardInterrupt:
-        drop_output()
+        drop(sys.stdout)
         return 130
+
+
+def finished(arguments: list[str]) -> int:
+    """The exit status, once all is written. Help and wrong use end the program too."""
+    try:
+        status = run(arguments)
+    except SystemExit as end:
+        status = int(end.code or 0)
+    sys.stdout.flush()
+    return status

@@ -2,6 +2,7 @@
 
 from __future__ import annotations
 
+import codecs
 import re
 from dataclasses import dataclass
 from typing import Callable
@@ -16,7 +17,6 @@ from view.tokens import Kind, Token, name_of, tokens_of
 READ_PARAMETERS = ("distributed", "permissions", "sync_nodes_mandatory", "sync_nodes_optional", "sync_nodes_timeout")
 PAIRS = {"[": "]", "{": "}"}
 ELSEWHERE = "move it to another file of -config, or let distac-view gather read the files of your nodes"
-BYTE_ORDER_MARK = b"\xef\xbb\xbf"
 NAME_SIGNS = re.compile(rb"[A-Za-z0-9_@]")
 
 
@@ -137,8 +137,8 @@ NO_TERMS = "a configuration begins with [, and no term of Erlang's begins here: 
 def unsupported(scene: Scene) -> str:
     """A term that Erlang reads and this program doesn't."""
     rest = scene.text[scene.at : scene.at + 8]
-    if not scene.before and rest.startswith(BYTE_ORDER_MARK):
-        return "the file begins with a byte order mark, which Erlang doesn't read either: save it without"
+    if scene.at == 0 and rest.startswith(ORDER_MARKS):
+        return "the file begins with a byte order mark: save it as UTF-8 without one"
     if TEMPLATE.match(text_of(line_from(scene.text, scene.at))):
         return FILLED_IN
     if rest[:1] in (b"[", b"{"):
@@ -165,6 +165,7 @@ def unread_term(scene: Scene, rest: bytes) -> str:
     )
 
 
+ORDER_MARKS = (codecs.BOM_UTF8, codecs.BOM_UTF16_LE, codecs.BOM_UTF16_BE)
 UNREAD = {
     b"#": "maps and records",
     b"<": "binaries",

@@ -86,7 +86,7 @@ def configuration_in(sections: Any) -> Configuration:
     return Configuration(nodes, applications, mandatory, optional, parameters.get("sync_nodes_timeout"))
 
 
-def application_of(entry: list, barred: set) -> Application:
+def application_of(entry: list[Any], barred: set[str]) -> Application:
     """The application of an entry of `distributed`."""
     name, timeout, items = entry
     groups = [item if isinstance(item, list) else [item] for item in items]

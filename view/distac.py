@@ -12,7 +12,9 @@ from typing import Callable
 from view.problems import Problem
 from view.texts import bytes_of, text_of
 
-BESIDE = Path(__file__).resolve().parent.parent / "distac"
+# The folder above this one. If this program is packed into one file, that file stands in its place.
+TOP = Path(__file__).resolve().parent.parent
+BESIDE = (TOP if TOP.is_dir() else TOP.parent) / "distac"
 MOST_INPUT = 2_097_152
 
 Asked = Callable[[str, bytes], "tuple[bytes, int]"]
@@ -27,11 +29,16 @@ class Answer:
 
 
 class Distac:
-    """The program, asked by a function from its subcommand and its input to what it printed and its exit status."""
+    """The program, asked by a function from its subcommand and its input to what it printed and its exit status.
+
+    It counts the cases of a question, and those of them that are done, for the progress that is shown.
+    """
 
     def __init__(self, asked: Asked) -> None:
         self.asked = asked
         self.is_asked: Callable[[], None] = lambda: None
+        self.cases = 0
+        self.cases_done = 0
 
     def check(self, config: bytes) -> Answer:
         """What `distac check` says of a configuration."""

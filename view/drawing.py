@@ -1,4 +1,8 @@
-"""A timeline as SVG: lines go down, and each node has a lane."""
+"""A timeline as SVG: lines go down, and each node has a lane.
+
+It is drawn in parts of some rows each, one picture under the other, since a printer can't part a picture. A shape that goes on
+over several parts is drawn whole in each of them, and each shows its own rows.
+"""
 
 from __future__ import annotations
 
@@ -14,12 +18,16 @@ from view.verbs import Role, word_of
 
 ROW = 22
 HEAD = 34
+LAST_GAP = 12
 SIGN = 7.3
-BAND, BAR, GAP = 12, 10, 4
+BAND, BAR, GAP = 12, 12, 4
 MOST_SCRIPT, MOST_ANSWER = 46, 52
 LEAST_LANE, MOST_NAME = 84, 24
+ROWS_OF_PART = 36
 
 HUES = (212, 282, 188, 318, 250, 48)
+SHADES = (0, -12, 8)
+SMALL_SIGN = 5.6
 
 STATE_CLASSES = {State.OFF: "off", State.UP: "up", State.SAID_DOWN: "said", State.HEARD_DOWN: "dead"}
 
@@ -47,6 +55,27 @@ class Lane:
         return self.left + 14 + BAND + GAP + place * (BAR + 3)
 
 
+@dataclass(frozen=True)
+class Part:
+    """Some rows that are one picture: from a first one on, up to one before another."""
+
+    start: int
+    stop: int
+
+    @property
+    def rows(self) -> range:
+        """Its rows."""
+        return range(self.start, self.stop)
+
+    def __contains__(self, row: int) -> bool:
+        """Whether a row is one of them."""
+        return self.start <= row < self.stop
+
+    def has(self, start: int, end: int) -> bool:
+        """Whether any of some rows, up to one before an end, is one of them."""
+        return start < end and start < self.stop and self.start < end
+
+
 class Drawing:
     """The places of all that is drawn."""
 
@@ -58,10 +87,10 @@ class Drawing:
         self.script_left = self.number_right + 10
         self.moment_right = self.script_left + SIGN * (script + 1) + SIGN * self.moment_signs() + 6
         self.lanes = {lane.node: lane for lane in lanes_of(timeline.configuration, self.moment_right + 22)}
-        last = list(self.lanes.values())[-1]
+        first, last = list(self.lanes.values())[0], list(self.lanes.values())[-1]
+        self.lanes_left = first.left
         self.answer_left = last.left + last.width + 12
         self.width = self.answer_left + SIGN * MOST_ANSWER
-        self.height = ROW * len(timeline.rows) + 12
 
     def moment_signs(self) -> int:
         """How many signs the longest moment takes."""
@@ -77,28 +106,39 @@ class Drawing:
         words = f'<text x="{self.script_left:.0f}" y="22" class="soft">line of the script</text>'
         words += f'<text x="{self.moment_right:.0f}" y="22" class="soft end">moment</text>'
         words += f'<text x="{self.answer_left:.0f}" y="22" class="soft">answer</text>'
-        return svg(self.width, HEAD, words + names)
+        return svg(self.width, HEAD, words + names, f"columns: line, moment, {', '.join(self.lanes)}, answer")
 
-    def body(self) -> str:
-        """All rows, with lanes, bars and arrows."""
-        parts = [
-            *self.rows(),
-            *(self.band(band) for band in self.timeline.bands),
-            *(self.bar(bar) for bar in self.timeline.bars),
-            *(self.share(share) for share in self.timeline.shares),
-            *(part for message in self.timeline.messages.values() for part in self.arrows(message)),
-            *(self.hand(hand) for hand in self.timeline.hands),
-            *(self.note(row, one) for row, one in enumerate(self.timeline.rows) if not one.line.is_event),
+    def parts(self, first: int) -> Iterator[str]:
+        """The pictures of all rows, from the first to the last: one of so many rows, and those behind it."""
+        count = len(self.timeline.rows)
+        starts = [0, *range(first, count, ROWS_OF_PART)] if count else []
+        for start, stop in zip(starts, [*starts[1:], count]):
+            yield self.part(Part(start, stop))
+
+    def part(self, part: Part) -> str:
+        """The picture of some rows, with lanes, bars and arrows."""
+        timeline = self.timeline
+        shapes = [
+            *self.rows(part),
+            *(self.band(band) for band in timeline.bands if part.has(band.start, band.end)),
+            *(self.bar(bar, part) for bar in timeline.bars if part.has(bar.start, bar.end)),
+            *(self.share(share) for share in timeline.shares if share.row in part),
+            *(arrow for message in timeline.messages.values() for arrow in self.arrows(message, part)),
+            *(self.hand(hand) for hand in timeline.hands if hand.row in part),
+            *(self.note(row, timeline.rows[row]) for row in part.rows if not timeline.rows[row].line.is_event),
         ]
-        return svg(self.width, self.height, "\n".join(part for part in parts if part))
+        below = LAST_GAP if part.stop == len(timeline.rows) else 0
+        label = f"{self.span(part.start, part.stop)}, with the lanes of {', '.join(self.lanes)}"
+        inside = "\n".join(shape for shape in shapes if shape)
+        return svg(self.width, len(part.rows) * ROW + below, inside, label, part.start * ROW)
 
-    def rows(self) -> Iterator[str]:
-        """The texts of all rows, on every other one a stripe."""
-        for row, one in enumerate(self.timeline.rows):
+    def rows(self, part: Part) -> Iterator[str]:
+        """The texts of some rows, on every other one a stripe."""
+        for row in part.rows:
             top = row * ROW
             if row % 2:
                 yield f'<rect x="0" y="{top}" width="{self.width:.0f}" height="{ROW}" class="stripe"/>'
-            yield from self.row_texts(one, top + 15)
+            yield from self.row_texts(self.timeline.rows[row], top + 15)
 
     def row_texts(self, one: Answered, base: int) -> Iterator[str]:
         """The texts of a row: number, line, moment and answer."""
@@ -114,9 +154,13 @@ class Drawing:
         yield f'<text x="{self.answer_left:.0f}" y="{base}" class="{kind}">{answer}{title(self.story(one))}</text>'
 
     def note(self, row: int, one: Answered) -> str:
-        """A comment, which is drawn over all else."""
-        text = text_in(cut(shown(one.line.text), 120))
-        return f'<text x="{self.script_left:.0f}" y="{row * ROW + 15}" class="note">{text}{title(cut(one.line.text, 400))}</text>'
+        """A comment. Where it is long the lanes below it are dimmed."""
+        words = cut(shown(one.line.text), int((self.width - self.script_left) / SIGN))
+        end = self.script_left + SIGN * len(words) + 6
+        kind = "veil odd" if row % 2 else "veil"
+        veil = box(self.lanes_left, row * ROW, end - self.lanes_left, ROW, kind, "") if end > self.lanes_left else ""
+        place = f'x="{self.script_left:.0f}" y="{row * ROW + 15}"'
+        return f'{veil}<text {place} class="note">{text_in(words)}{title(cut(one.line.text, 400))}</text>'
 
     def hand(self, hand: Hand) -> str:
         """An operation that is handed to a node."""
@@ -137,28 +181,36 @@ class Drawing:
 
     def band(self, band: Band) -> str:
         """The state of a node over some rows."""
-        if band.end <= band.start:
-            return ""
         lane, kind = self.lanes[band.node], STATE_CLASSES[band.state]
         life = f", life {band.inc}" if band.inc else ""
         words = title(f"{band.node} {band.state.value}{life}, {self.span(band.start, band.end)}")
         left, width = (lane.middle - 1, 2) if band.state is State.OFF else (lane.middle - BAND / 2, BAND)
         return box(left, band.start * ROW + 4, width, (band.end - band.start) * ROW - 2, kind, words)
 
-    def bar(self, bar: Bar) -> str:
-        """An application that a node holds over some rows, with its term."""
-        if bar.end <= bar.start:
-            return ""
+    def bar(self, bar: Bar, part: Part) -> str:
+        """An application that a node holds over some rows. Its term stands at the head, and below it its name if there are many."""
         lane, held = self.lanes[bar.node], bar.held
         place = apps_at(self.timeline.configuration, bar.node).index(held.app)
-        number = self.timeline.configuration.names.index(held.app)
+        names = self.timeline.configuration.names
         left, top = lane.bar_left(place), bar.start * ROW + 4
         kept = "" if held.verdict == "kept" else " loose"
         claim = f"{held.app} at {bar.node}, term {held.term} {held.how}"
         said = f"{claim}, verdict {held.verdict}, {self.span(bar.start, bar.end)}"
-        hue = hue_of(number)
-        shape = box(left, top, BAR, (bar.end - bar.start) * ROW - 2, f"bar{kept}", title(said), hue)
-        return shape + f'<text x="{left + BAR / 2:.1f}" y="{top + 12}" class="term{kept}">{held.term}</text>'
+        color = color_of(names.index(held.app), len(names))
+        shape = box(left, top, BAR, (bar.end - bar.start) * ROW - 2, f"bar{kept}", title(said), color)
+        again = "" if bar.start in part else " again"
+        middle, head = left + BAR / 2, max(top, part.start * ROW + 2)
+        term = f'<text x="{middle:.1f}" y="{head + 12}" class="term{kept}{again}" style="{color}">{held.term}</text>'
+        return shape + term + (self.bar_name(bar, middle, head + 17, kept + again, color) if len(names) > len(HUES) else "")
+
+    def bar_name(self, bar: Bar, middle: float, top: float, kind: str, color: str) -> str:
+        """The name of an application along its bar, as much of it as there is room for."""
+        most = int((bar.end * ROW - top) / SMALL_SIGN)
+        name = shown(bar.held.app)
+        if most < min(len(name), 3):
+            return ""
+        place = f'transform="translate({middle - 3:.1f} {top}) rotate(90)"'
+        return f'<text {place} class="term along{kind}" style="{color}">{text_in(name[:most])}</text>'
 
     def share(self, share: Share) -> str:
         """A share: a line through all nodes that are up."""
@@ -172,16 +224,17 @@ class Drawing:
         dots = "".join(f'<circle cx="{place:.1f}" cy="{at:.1f}" r="4"/>' for place in places)
         return f'<g class="share">{words}{line}{dots}</g>'
 
-    def arrows(self, message: Message) -> Iterator[str]:
-        """The arrows of a message: one for each delivery, or a short one where it was lost."""
-        if not message.heard:
+    def arrows(self, message: Message, part: Part) -> Iterator[str]:
+        """The arrows of a message in some rows: one for each delivery, or a short one where it was lost."""
+        if not message.heard and message.row in part:
             yield self.arrow(message, message.receiver, message.row, "lost", "never heard")
         was_heard = False
         for node, row, answer in message.heard:
             is_refused = answer.startswith("refused")
             kind = "refused" if is_refused else "repeated" if was_heard else message.kind
             was_heard = was_heard or not is_refused
-            yield self.arrow(message, node, row, kind, f"line {self.timeline.rows[row].line.number}: {answer}")
+            if part.has(message.row, row + 1):
+                yield self.arrow(message, node, row, kind, f"line {self.timeline.rows[row].line.number}: {answer}")
 
     def arrow(self, message: Message, receiver: str, row: int, kind: str, end: str) -> str:
         """An arrow from a sender to a receiver."""
@@ -227,9 +280,11 @@ def answer_text(one: Answered) -> str:
     return one.first + (" .." if len(one.answer) > 1 else "")
 
 
-def hue_of(number: int) -> str:
-    """The color of an application, as a style."""
-    return f"--hue:{HUES[number % len(HUES)]}"
+def color_of(number: int, count: int) -> str:
+    """The color of an application, as a style: one of a few, or of as many as there are applications."""
+    if count <= len(HUES):
+        return f"--hue:{HUES[number]}"
+    return f"--hue:{(HUES[0] + 360 * number // count) % 360};--shade:{SHADES[number % len(SHADES)]}%"
 
 
 def box(left: float, top: float, width: float, height: float, kind: str, inside: str, style: str = "") -> str:
@@ -244,6 +299,7 @@ def title(text: str) -> str:
     return f"<title>{chr(10).join(text_in(line) for line in text.split(chr(10)))}</title>"
 
 
-def svg(width: float, height: float, inside: str) -> str:
-    """A picture."""
-    return f'<svg width="{width:.0f}" height="{height:.0f}" viewBox="0 0 {width:.0f} {height:.0f}" role="img">{inside}</svg>'
+def svg(width: float, height: float, inside: str, label: str, top: float = 0) -> str:
+    """A picture, with the words that stand for it where it can't be seen, and the height at which it begins."""
+    view = f'viewBox="0 {top:.0f} {width:.0f} {height:.0f}"'
+    return f'<svg width="{width:.0f}" height="{height:.0f}" {view} role="img" aria-label="{text_in(label)}">{inside}</svg>'

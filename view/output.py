@@ -2,10 +2,12 @@
 
 from __future__ import annotations
 
+import errno
 import os
 import sys
 import threading
 import time
+from typing import Callable, TextIO
 
 from view.texts import bytes_of
 
@@ -36,6 +38,22 @@ class Output:
         self.stream.flush()
 
 
+def open_streams() -> None:
+    """Opens a standard stream that is closed to nowhere, so that no file gets its number.
+
+    Standard input can't be read then, and standard output can't be written: who uses them is told. What goes to standard error
+    is lost.
+    """
+    for number, mode in enumerate((os.O_WRONLY, os.O_RDONLY, os.O_WRONLY)):
+        try:
+            os.fstat(number)
+        except OSError:
+            os.open(os.devnull, mode)
+            os.set_inheritable(number, True)
+    sys.stdout = sys.stdout or open(1, "w", encoding="utf-8", closefd=False)
+    sys.stderr = sys.stderr or open(2, "w", encoding="utf-8", closefd=False)
+
+
 def say(text: str) -> None:
     """A line on standard error."""
     data = bytes_of(text) + b"\n"
@@ -43,13 +61,20 @@ def say(text: str) -> None:
         sys.stderr.buffer.write(data)
         sys.stderr.buffer.flush()
     except OSError:
-        pass
+        drop(sys.stderr)
 
 
-def drop_output() -> None:
-    """Whatever is still to be written goes nowhere: nobody reads it any more."""
+def why_not_written(error: OSError) -> str:
+    """Why standard output can't be written."""
+    if error.errno == errno.EBADF:
+        return "it is closed, or open for reading alone"
+    return error.strerror or str(error)
+
+
+def drop(stream: TextIO) -> None:
+    """Whatever is still to be written to a stream goes nowhere: nobody reads it any more."""
     nowhere = os.open(os.devnull, os.O_WRONLY)
-    os.dup2(nowhere, sys.stdout.fileno())
+    os.dup2(nowhere, stream.fileno())
     os.close(nowhere)
 
 
@@ -58,6 +83,7 @@ class Progress:
 
     def __init__(self) -> None:
         self.times_asked = 0
+        self.cases: Callable[[], tuple[int, int]] = lambda: (0, 0)
         self.start = time.monotonic()
         self.is_over = threading.Event()
         self.thread: threading.Thread | None = None
@@ -69,6 +95,12 @@ class Progress:
         """A question goes to `distac`."""
         self.times_asked += 1
 
+    @property
+    def what(self) -> str:
+        """What goes on: which case is played, or how many questions went to `distac`."""
+        done, cases = self.cases()
+        return f"case {min(done + 1, cases)} of {cases}" if cases else f"question {self.times_asked} to distac"
+
     def show(self) -> None:
         """Shows twice a second what goes on."""
         has_shown = False
@@ -76,7 +108,7 @@ class Progress:
             seconds = time.monotonic() - self.start
             if seconds > SILENT_SECONDS:
                 has_shown = True
-                sys.stderr.write(f"\r\033[Kdistac-view: question {self.times_asked} to distac, {seconds:.0f} s")
+                sys.stderr.write(f"\r\033[Kdistac-view: {self.what}, {seconds:.0f} s")
                 sys.stderr.flush()
         if has_shown:
             sys.stderr.write("\r\033[K")

@@ -3,7 +3,6 @@
 from __future__ import annotations
 
 from dataclasses import dataclass
-from itertools import zip_longest
 from typing import Iterator
 
 from view.answers import Answered
@@ -70,7 +69,7 @@ def with_pages(loaded: Loaded) -> list[Line]:
     nodes = [node for node in loaded.configuration.nodes if " " not in node]
     told = {line.number for line in loaded.script.lines if line.is_tell}
     found: list[Line] = []
-    for line, following in zip_longest(loaded.lines, loaded.lines[1:]):
+    for line, following in zip(loaded.lines, [*loaded.lines[1:], None]):
         found.append(line)
         is_last_told = line.number in told and (following is None or following.number != line.number)
         if is_last_told or (line.is_event and line.verb == "share"):

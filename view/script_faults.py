@@ -83,7 +83,7 @@ def bad_word(line: Line, _: list[str]) -> tuple[int, str]:
     elif word[:1] in "#;/":
         sentence = "a comment begins with % in the first column"
     elif word == "phase" or word.isdigit():
-        sentence = "this is a line of distac live, where callers and phases are: play it by distac live"
+        sentence = "this is a line of distac live, whose callers run at once: no play or timeline shows them, so run it by distac live"
     else:
         sentence = f"no line begins with {cut(shown(word), 40)}: the first words are {listed(known)}"
     return offset_of(line, 0), sentence
@@ -160,7 +160,7 @@ def no_such(what: str, name: str, names: list[str]) -> str:
 
 def bad_hex(line: Line, _: list[str]) -> tuple[int, str]:
     """A word should be bytes, and isn't."""
-    place, _, word = first_unfit(line, (Role.HEX,))
+    place, _role, word = first_unfit(line, (Role.HEX,))
     if word.endswith("\r"):
         return offset_of(line, place), RETURN
     wrong = re.search("[^0-9a-f]", word)

@@ -2,83 +2,110 @@
 
 from __future__ import annotations
 
-from dataclasses import dataclass, field
+import re
+from dataclasses import dataclass, field, replace
 
 from view.answers import Answered, answered
 from view.configuration import Configuration
 from view.distac import Distac
-from view.pages import Page, page_of
+from view.problems import Problem
 from view.script import Line
 
+SHIPPED = re.compile(r"shipped (?P<number>\d+) ")
+SHARED = re.compile(r"shared (?P<count>\d+)\Z")
+ISSUED = re.compile(r"(?:booted \d+ op|issued|claim) (?P<number>\d+)")
 
-PENDING = ("start", "failover", "move", "takeover")
+
+class Miscounted(Problem):
+    """A ship was refused that was taken to be heard."""
 
 
 @dataclass
 class Story:
-    """A script under a configuration, at a moment in milliseconds. Each line remembers its moment."""
+    """A script under a configuration, at a moment in milliseconds.
+
+    Each line has its moment, and its answer once it was played. `shipped` and `issued` count messages and operations: of operations
+    there are at most so many, until the lines are played. `played` counts the messages of the lines that were played.
+    """
 
     config: bytes
     configuration: Configuration
     lines: list[str] = field(default_factory=list)
     moments: list[int] = field(default_factory=list)
+    answers: list[Answered] = field(default_factory=list)
+    printed: int = 0
     now: int = 0
+    shipped: int = 0
+    issued: int = 0
+    is_counted: bool = True
+    played: int = 0
 
     def copy(self) -> Story:
         """The same script, to be gone on with apart."""
-        return Story(self.config, self.configuration, list(self.lines), list(self.moments), self.now)
+        return replace(self, lines=list(self.lines), moments=list(self.moments), answers=list(self.answers))
 
     def add(self, *lines: str) -> None:
         """Adds lines at the present moment."""
         self.lines += lines
         self.moments += [self.now] * len(lines)
 
-    def boot(self, node: str) -> None:
-        """A node comes up."""
-        self.add(f"boot {node} {self.now}")
+    def add_uncounted(self, *lines: str) -> None:
+        """Adds lines of which it isn't known how many messages they ship."""
+        self.add(*lines)
+        self.is_counted = False
 
-    def start_all(self, nodes: list[str]) -> None:
-        """At each of some nodes everything is started that it may run, and all hear of it."""
-        for node in nodes:
-            self.add(*(f"start {node} {each.name} {node}" for each in self.configuration.applications if node in each.nodes))
-        self.add("share")
+    def command(self, *lines: str) -> None:
+        """Adds lines that issue an operation each, or are refused."""
+        self.add(*lines)
+        self.issued += len(lines)
 
-    def rounds(self, nodes: list[str], count: int) -> None:
-        """So many rounds: each of some nodes ticks, and all tell each other what they know."""
-        for _ in range(count):
-            self.add(*(f"tick {node} {self.now}" for node in nodes), "share")
+    def tell(self, sender: str, hearer: str) -> None:
+        """A node tells another one what it knows. The ship must be one that isn't refused."""
+        self.shipped += 1
+        self.add(f"ship {sender} {hearer}", f"hear {hearer} {self.shipped}")
 
-    def settle(self, distac: Distac, nodes: list[str]) -> Look:
-        """Rounds until nothing is left to be done, at most as many as there are applications. What there is to see then."""
-        done, most, look = 0, len(self.configuration.applications), self.look(distac)
-        while done < most and not look.is_at_rest(nodes):
-            count = min(done + 1, most - done)
-            self.rounds(nodes, count)
-            done += count
-            look = self.look(distac)
-        return look
+    def look(self, node: str) -> int:
+        """Adds a line that asks for a page. Its place among the lines."""
+        self.add(f"page {node}")
+        return len(self.lines) - 1
 
-    def look(self, distac: Distac) -> Look:
-        """What is answered to each line, and what each node knows at the end."""
-        pages = [f"page {node}" for node in self.configuration.nodes]
-        lines = [Line(number, text) for number, text in enumerate([*self.lines, *pages], 1)]
-        each = answered(lines, distac.play(self.config, [*self.lines, *pages]), self.configuration)
-        count = len(self.lines)
-        return Look(each[:count], {one.actor: page_of(one.answer) for one in each[count:]})
+    def play(self, distac: Distac, *asked: str) -> list[Answered]:
+        """Plays the lines, and behind them some that aren't kept. What is answered to these."""
+        texts = [*self.lines[len(self.answers) :], *asked]
+        output = distac.play(self.config, [*self.lines, *asked])[self.printed :]
+        each = answered([Line(number, text) for number, text in enumerate(texts, 1)], output, self.configuration)
+        count = len(texts) - len(asked)
+        for one in each[:count]:
+            self.answers.append(one)
+            self.printed += len(one.answer)
+        self.count(each[:count])
+        return each[count:]
+
+    def count(self, each: list[Answered]) -> None:
+        """Counts the messages and operations of lines that were just played."""
+        issued = [ISSUED.match(line) for one in each for line in one.answer]
+        self.issued = max((int(found["number"]) for found in issued if found), default=self.last_issued())
+        self.played = messages_in(each, self.played)
+        if self.is_counted and self.played != self.shipped:
+            raise Miscounted("distac shipped fewer messages than distac-view counted on")
+        self.shipped, self.is_counted = self.played, True
+
+    def last_issued(self) -> int:
+        """The number of the last operation in all answers."""
+        for one in reversed(self.answers):
+            for line in reversed(one.answer):
+                found = ISSUED.match(line)
+                if found:
+                    return int(found["number"])
+        return 0
 
 
-@dataclass(frozen=True)
-class Look:
-    """What is answered to each line of a story, and what each node knows at its end."""
-
-    answers: list[Answered]
-    pages: dict[str, Page]
-
-    @property
-    def able(self) -> list[str]:
-        """The nodes that can act, by what each of them knows."""
-        return [node for node, page in self.pages.items() if page.can_act(node)]
-
-    def is_at_rest(self, nodes: list[str]) -> bool:
-        """Whether nothing is left to be done, by the page of the first of some nodes."""
-        return not nodes or all(held.verdict not in PENDING for held in self.pages[nodes[0]].held.values())
+def messages_in(each: list[Answered], number: int) -> int:
+    """The number of the last message, before some lines and behind them."""
+    for one in each:
+        shipped, shared = SHIPPED.match(one.first), SHARED.match(one.first)
+        if shipped:
+            number = int(shipped["number"])
+        elif shared:
+            number += int(shared["count"])
+    return number

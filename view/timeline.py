@@ -202,8 +202,10 @@ class Drafting:
 
     def finished(self) -> Timeline:
         """The whole timeline: what is still open ends behind the last row."""
-        for open_one in (*self.open_bands.values(), *self.open_bars.values()):
-            open_one.end = len(self.timeline.rows)
+        for band in self.open_bands.values():
+            self.close(band, len(self.timeline.rows))
+        for bar in self.open_bars.values():
+            self.close(bar, len(self.timeline.rows))
         return self.timeline
 
 

@@ -63,3 +63,8 @@ def name_of(atom: str) -> str:
     """The name of an atom as `distac` spells it: between quotes only where it has to be."""
     inner = atom[1:-1] if atom.startswith("'") else atom
     return inner if BARE_ATOM.match(inner) and inner != "fun" else f"'{inner}'"
+
+
+def bare_name(name: str) -> str:
+    """A name as `distac` spells it, without the quotes that it may stand between."""
+    return name[1:-1] if name.startswith("'") else name

@@ -4,16 +4,18 @@ from __future__ import annotations
 
 from typing import Iterator
 
-from view.drawing import Drawing, hue_of, text_in
+from view.drawing import HEAD, LAST_GAP, ROW, ROWS_OF_PART, Drawing, color_of, text_in
 from view.timeline import Timeline
 
-STYLE = """
-:root { color-scheme: light dark; --back: #ffffff; --text: #1c2024; --soft: #6a737d; --stripe: #f4f6f8; --line: #9aa4ae;
-  --up: #8fbf9b; --said: #e6a55a; --dead: #c0392b; --share: #5b6b7b; --message: #3b4a5a; --bad: #c0392b; --bar: 44%; }
-@media (prefers-color-scheme: dark) { :root { --back: #15181c; --text: #e4e7eb; --soft: #97a1ac; --stripe: #1c2127;
-  --line: #5d6872;
-  --up: #3f7a50; --said: #b9772e; --dead: #d4503f; --share: #a9b7c5; --message: #c3ced9; --bad: #ff7b6b; --bar: 58%; }
-}
+# What a printed page has room for, in pixels of the style, and how much smaller its pictures are than on a screen.
+PAGE_HEIGHT, PAGE_WIDTH, PRINT_SCALE = 718, 1046, 0.85
+LEAST_ROWS = 8
+
+LIGHT = """color-scheme: light; --back: #ffffff; --text: #1c2024; --soft: #59626c; --stripe: #f4f6f8; --line: #7d8791;
+  --up: #3f8f57; --said: #ffc46b; --dead: #a31515; --share: #5b6b7b; --message: #3b4a5a; --bad: #b3261e; --bar: 44%;"""
+DARK = """color-scheme: dark; --back: #15181c; --text: #e4e7eb; --soft: #9fa9b4; --stripe: #1c2127; --line: #76828d;
+  --up: #5fb57a; --said: #8a5a12; --dead: #ff6b5a; --share: #a9b7c5; --message: #c3ced9; --bad: #ff8a7c; --bar: 58%;"""
+STYLE = f":root {{ {LIGHT} }}\n@media (prefers-color-scheme: dark) {{ :root {{ {DARK} }} }}" + """
 body { margin: 0; padding: 16px; background: var(--back); color: var(--text); font: 14px/1.45 system-ui, sans-serif; }
 h1 { font-size: 18px; margin: 0 0 6px; }
 h2 { font-size: 15px; margin: 18px 0 6px; }
@@ -22,7 +24,9 @@ h2 { font-size: 15px; margin: 18px 0 6px; }
 svg { display: block; }
 svg text { font: 12px ui-monospace, "DejaVu Sans Mono", monospace; fill: var(--text); }
 svg .soft { fill: var(--soft); }
-svg .note { fill: var(--soft); font-style: italic; paint-order: stroke; stroke: var(--back); stroke-width: 5px; }
+svg .note { fill: var(--soft); font-style: italic; }
+svg .veil { fill: var(--back); opacity: .84; }
+svg .veil.odd { fill: var(--stripe); }
 svg .name { font-weight: bold; }
 svg .end { text-anchor: end; }
 svg .moment { fill: var(--soft); }
@@ -31,15 +35,22 @@ svg .refusal { fill: var(--bad); }
 svg .stripe { fill: var(--stripe); }
 svg .up { fill: var(--up); }
 svg .off { fill: var(--line); opacity: .55; }
-svg .said { fill: var(--said); }
-svg .dead { fill: var(--dead); }
+svg .said { fill: url(#said); stroke: var(--text); stroke-width: 1; }
+svg .dead { fill: url(#dead); stroke: var(--dead); stroke-width: 1; }
+pattern .ground-said { fill: var(--said); }
+pattern .ground-dead { fill: var(--dead); }
+pattern path { fill: none; stroke-width: 1.3; }
+pattern .lines-said { stroke: var(--text); }
+pattern .lines-dead { stroke: var(--back); }
 svg .hand { fill: var(--share); }
-svg .bar { fill: hsl(var(--hue) 62% var(--bar)); }
-svg .loose { fill-opacity: .25; stroke: hsl(var(--hue) 62% var(--bar)); stroke-width: 1.5; }
-svg text.loose { fill: var(--text) !important; stroke: none; fill-opacity: 1; }
-svg text.term { font-size: 9px; font-weight: bold; fill: #ffffff; text-anchor: middle; pointer-events: none; }
+svg .bar { fill: hsl(var(--hue) 62% calc(var(--bar) + var(--shade, 0%))); }
+svg .loose { fill-opacity: .25; stroke: hsl(var(--hue) 62% calc(var(--bar) + var(--shade, 0%))); stroke-width: 1.5; }
+svg text.term { font-size: 9px; font-weight: bold; fill: #ffffff; paint-order: stroke; stroke: hsl(var(--hue) 62% 24%);
+  stroke-width: 2px; text-anchor: middle; pointer-events: none; }
+svg text.along { text-anchor: start; font-weight: normal; }
+svg text.term.loose { fill: var(--text); stroke: var(--back); fill-opacity: 1; }
 svg .share path { stroke: var(--share); stroke-width: 1.2; opacity: .55; }
-svg .share circle { fill: var(--share); }
+svg .share circle { fill: var(--share); stroke: var(--back); stroke-width: 1; }
 svg .message path { stroke: var(--message); stroke-width: 1.4; fill: none; }
 svg .whole path { stroke-width: 3; }
 svg .nothing path { stroke-dasharray: 1 3; stroke-linecap: round; }
@@ -52,10 +63,28 @@ table { border-collapse: collapse; }
 td, th { padding: 2px 14px 2px 0; text-align: left; }
 td.end, th.end { text-align: right; }
 p { margin: 4px 0; max-width: 60em; }
-"""
+.claims { max-height: 15em; overflow: auto; margin: 0 0 12px; }
+.part .head, svg .again { display: none; }
+@media print {
+  @page { size: A4 landscape; margin: 10mm; }
+  :root { PRINTED }
+  body { padding: 0; }
+  body > .head { display: none; }
+  svg .again { display: inline; }
+  .claims { max-height: none; overflow: visible; }
+  tr, .legend span { break-inside: avoid; }
+  .part { break-inside: avoid; margin: 0 0 4mm; }
+  .part .head { display: block; position: static; width: auto; }
+  .part svg { width: calc(var(--width) * PRINT_SCALE); max-width: 100%; height: auto; }
+}
+""".replace("PRINTED", LIGHT).replace("PRINT_SCALE", str(PRINT_SCALE))
 
 MARKERS = (
-    '<svg width="0" height="0" style="position:absolute"><defs>'
+    '<svg width="0" height="0" style="position:absolute" aria-hidden="true"><defs>'
+    '<pattern id="said" width="6" height="6" patternUnits="userSpaceOnUse"><rect width="6" height="6" class="ground-said"/>'
+    '<path d="M-1 1L1 -1M0 6L6 0M5 7L7 5" class="lines-said"/></pattern>'
+    '<pattern id="dead" width="6" height="6" patternUnits="userSpaceOnUse"><rect width="6" height="6" class="ground-dead"/>'
+    '<path d="M0 0L6 6M6 0L0 6" class="lines-dead"/></pattern>'
     '<marker id="tip" viewBox="0 0 10 10" refX="8" refY="5" markerWidth="9" markerHeight="9" '
     'markerUnits="userSpaceOnUse" orient="auto">'
     '<path d="M1 1L8 5L1 9"/></marker>'
@@ -67,29 +96,40 @@ MARKERS = (
 def page_text(name: str, timeline: Timeline, left_out: str) -> str:
     """The whole page."""
     drawing = Drawing(timeline)
-    head = f'<meta charset="utf-8"><meta name="viewport" content="width=device-width"><title>{text_in(name)}</title>'
+    metadata = f'<meta charset="utf-8"><meta name="viewport" content="width=device-width"><title>{text_in(name)}</title>'
     note = f"<p>{text_in(left_out)}</p>" if left_out else ""
+    head = f'<div class="head">{drawing.head()}</div>'
     parts = [
-        f'<!DOCTYPE html>\n<html lang="en"><head>{head}<style>{STYLE}</style></head><body>',
+        f'<!DOCTYPE html>\n<html lang="en"><head>{metadata}<style>{STYLE}</style></head><body>',
         f"<h1>{text_in(name)}</h1>{note}{MARKERS}",
-        f'<div class="legend">{legend(timeline)}</div>',
-        f'<div class="head">{drawing.head()}</div>{drawing.body()}',
         claims_table(timeline),
+        f'<div class="legend">{legend(timeline)}</div>',
+        head,
+        *(f'<div class="part" style="--width:{drawing.width:.0f}px">{head}{part}</div>' for part in drawing.parts(first_rows(timeline))),
         "</body></html>\n",
     ]
     return "\n".join(parts)
 
 
+def first_rows(timeline: Timeline) -> int:
+    """How many rows fit on a printed page below the title, the claims and the legend. If few do, they begin a page of their own."""
+    names = sum(len(name) + 6 for name in timeline.configuration.names)
+    above = 190 + 25 * len(timeline.claims) + 26 * (7.5 * names // PAGE_WIDTH)
+    rows = int((PAGE_HEIGHT - above) / (ROW * PRINT_SCALE) - (HEAD + LAST_GAP) / ROW)
+    return min(rows, ROWS_OF_PART) if rows >= LEAST_ROWS else ROWS_OF_PART
+
+
 def legend(timeline: Timeline) -> str:
     """What each shape stands for."""
-    apps = "".join(sample("bar", text_in(name), hue_of(number)) for number, name in enumerate(timeline.configuration.names))
+    names = timeline.configuration.names
+    apps = "".join(sample("bar", text_in(name), color_of(number, len(names))) for number, name in enumerate(names))
     states = sample("up", "up") + sample("off", "off") + sample("said", "said to be down") + sample("dead", "and has heard it")
     held = sample("bar loose", "held, but not kept there", "--hue:210")
     kinds = {**dict.fromkeys(("whole", "interval", "nothing", "repeated"), "tip"), **dict.fromkeys(("lost", "refused"), "cross")}
     messages = "".join(arrow_sample(kind, marker) for kind, marker in kinds.items())
     circles = '<circle cx="5" cy="7" r="4"/><circle cx="29" cy="7" r="4"/>'
-    dots = f'<svg width="34" height="14"><g class="share"><path d="M4 7H30"/>{circles}</g></svg>'
-    diamond = '<svg width="16" height="14"><path class="hand" d="M2 7l6 -6l6 6l-6 6z"/></svg>'
+    dots = f'<svg width="34" height="14" aria-hidden="true"><g class="share"><path d="M4 7H30"/>{circles}</g></svg>'
+    diamond = '<svg width="16" height="14" aria-hidden="true"><path class="hand" d="M2 7l6 -6l6 6l-6 6z"/></svg>'
     return (
         f"<div>{states}{apps}{held}<span>a number: the claim's term</span></div>"
         f"<div>{messages}<span>{dots} share</span><span>{diamond} a single operation</span></div>"
@@ -100,13 +140,13 @@ def sample(kind: str, words: str, style: str = "") -> str:
     """A box of the legend."""
     width = 2 if kind == "off" else 12
     shape = f'<rect x="{7 - width / 2}" y="1" width="{width}" height="13" rx="3" class="{kind}" style="{style}"/>'
-    return f'<span><svg width="16" height="15">{shape}</svg> {words}</span>'
+    return f'<span><svg width="16" height="15" aria-hidden="true">{shape}</svg> {words}</span>'
 
 
 def arrow_sample(kind: str, marker: str) -> str:
     """An arrow of the legend."""
     path = f'<g class="message {kind}"><path d="M2 7H28" marker-end="url(#{marker})"/></g>'
-    return f'<span><svg width="36" height="14">{path}</svg> {kind}</span>'
+    return f'<span><svg width="36" height="14" aria-hidden="true">{path}</svg> {kind}</span>'
 
 
 def claims_table(timeline: Timeline) -> str:
@@ -114,9 +154,10 @@ def claims_table(timeline: Timeline) -> str:
     rows = "".join(claim_rows(timeline))
     if not rows:
         return "<h2>No tick claims anything.</h2>"
-    heads = "<th>application</th><th>node</th><th>term</th><th>how</th>"
-    first = '<th class="end">line</th><th class="end">moment</th>'
-    return f"<h2>Claims of ticks</h2><table><tr>{first}{heads}</tr>{rows}</table>"
+    ends = "".join(f'<th scope="col" class="end">{head}</th>' for head in ("line", "moment"))
+    heads = "".join(f'<th scope="col">{head}</th>' for head in ("application", "node", "term", "how"))
+    table = f'<table aria-labelledby="claims"><thead><tr>{ends}{heads}</tr></thead><tbody>{rows}</tbody></table>'
+    return f'<h2 id="claims">Claims of ticks</h2><div class="claims" tabindex="0">{table}</div>'
 
 
 def claim_rows(timeline: Timeline) -> Iterator[str]:

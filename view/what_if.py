@@ -9,31 +9,38 @@ from __future__ import annotations
 import os
 from concurrent.futures import ThreadPoolExecutor
 from dataclasses import dataclass, field
+from typing import Iterator
 
-from view.answers import Answered
+from view.cases import Course, Loss, course_of, first_pages
+from view.cluster import Waiter
 from view.configuration import Configuration, name_order
 from view.distac import Distac
-from view.loading import Checked, answers_of, load_config, load_script
-from view.pages import CLAIM, Held
-from view.problems import Problem, Status
-from view.script import separator_in
-from view.story import PENDING, Look, Story
-from view.texts import bytes_of, shown
+from view.loading import Checked, load_config
+from view.noticing import USUAL_SECONDS, tick_time_of
+from view.openings import Side, opened, opened_after
+from view.pages import Held, Page
+from view.problems import Problem
+from view.running_now import Placed, opened_now, placed_by
+from view.texts import shown
 from view.tokens import BARE_ATOM, name_of
-from view.verbs import MOST_NUMBER, Role, word_of
 
 MOST_AT_ONCE = 8
-LATEST = MOST_NUMBER - 2**40
 
 
 @dataclass(frozen=True)
 class Question:
-    """What is asked: the configuration, which nodes go down together, where nothing is started, and after which script."""
+    """What is asked: the configuration, which nodes go down together and come back, where nothing is started, and how it begins.
+
+    It begins after a script, or with applications where they run now, or with a cluster that just came up.
+    """
 
     config: str
     down: list[str] = field(default_factory=list)
     not_started: list[str] = field(default_factory=list)
     after: str | None = None
+    back: list[str] = field(default_factory=list)
+    now: list[str] = field(default_factory=list)
+    placed: Placed | None = None
 
 
 @dataclass(frozen=True)
@@ -49,31 +56,43 @@ class Fate:
     marks: str
     was_stopped: bool
 
+    @property
+    def stays(self) -> bool:
+        """Whether nothing becomes of it: it is in one place all the time."""
+        return self.how in ("stays", "nobody") and self.now == self.then == self.back
+
 
 @dataclass(frozen=True)
 class Case:
-    """Some nodes that go down together, and what becomes of each application."""
+    """Some nodes that go down together, what becomes of each application, which nodes come back, and who waits at a start gate then."""
 
     down: list[str]
     fates: list[Fate]
+    back: list[str] = field(default_factory=list)
+    waiters: list[Waiter] = field(default_factory=list)
 
 
 @dataclass(frozen=True)
-class Settled:
-    """A cluster at rest: the script that leads there, and the nodes that can act."""
+class Answers:
+    """What is answered for nodes that hear each other: their start, and a case for each loss."""
 
-    story: Story
-    nodes: list[str]
-    held: dict[str, Held]
+    side: Side
+    cases: list[Case]
 
 
 @dataclass(frozen=True)
 class Reply:
-    """The whole answer."""
+    """The whole answer: for each side of a split, or for the one side that there is."""
 
     configuration: Configuration
     question: Question
-    cases: list[Case]
+    sides: list[Answers]
+    tick_time: int = USUAL_SECONDS
+
+    @property
+    def cases(self) -> list[Case]:
+        """The cases of all sides."""
+        return [case for answers in self.sides for case in answers.cases]
 
 
 def reply_to(distac: Distac, question: Question) -> Reply:
@@ -83,153 +102,75 @@ def reply_to(distac: Distac, question: Question) -> Reply:
 
 def reply_on(distac: Distac, checked: Checked, question: Question) -> Reply:
     """The answer to a question on a configuration that was read."""
-    configuration = checked.configuration
-    down = known_nodes(question.down, configuration)
-    not_started = known_nodes(question.not_started, configuration)
-    settled = settle(distac, opening(distac, checked, question, not_started))
-    groups = [down] if down else [[node] for node in configuration.nodes]
-    with ThreadPoolExecutor(min(MOST_AT_ONCE, os.cpu_count() or 1)) as pool:
-        cases = list(pool.map(lambda group: case_of(distac, settled, group, not_started), groups))
-    return Reply(configuration, question, cases)
+    down, not_started, back = (known_nodes(words, checked.configuration) for words in (question.down, question.not_started, question.back))
+    if any(node not in down for node in back):
+        raise Problem("a node of --back has to be one of --down")
+    found = []
+    for side in sides_of(distac, checked, question, not_started):
+        groups = [[node for node in down if node in side.members]] if down else [[node] for node in side.members]
+        losses = [Loss(group, [node for node in group if node in back or not back], not_started) for group in groups if group]
+        found.append(Answers(side, cases_of(distac, side, losses)))
+    return Reply(checked.configuration, question, found, tick_time_of(checked.text))
+
+
+def sides_of(distac: Distac, checked: Checked, question: Question, not_started: list[str]) -> list[Side]:
+    """How the question begins."""
+    if question.now:
+        if question.after or not_started:
+            raise Problem("--now can't stand beside --after or --not-started: it says itself what runs where")
+        return [opened_now(distac, checked, question.placed or placed_by(question.now, checked.configuration))]
+    if question.after:
+        return opened_after(distac, checked, question.after)
+    return [opened(distac, checked, not_started)]
 
 
 def known_nodes(words: list[str], configuration: Configuration) -> list[str]:
     """Nodes that the command line names, as the configuration spells them."""
-    found = []
-    for word in words:
-        name = name_of(word) if BARE_ATOM.match(word) or word.startswith("'") else f"'{word}'"
-        if name not in configuration.nodes:
-            raise Problem(f"the configuration has no node {shown(name)}: its nodes are {shown(', '.join(configuration.nodes))}")
-        found.append(name)
-    return sorted(set(found), key=name_order)
+    return sorted({known_node(word, configuration) for word in words}, key=name_order)
 
 
-def opening(distac: Distac, checked: Checked, question: Question, not_started: list[str]) -> Story:
-    """The script before all comes to rest: that of the question, or one in which all nodes come up and start everything."""
-    configuration = checked.configuration
-    for name in (*configuration.nodes, *configuration.names):
-        if " " in name:
-            raise Problem(f"the name {shown(name)} has a space, and no script can name it: what-if can't play it", Status.FAULT)
-    story = Story(playable(checked), configuration)
-    if question.after:
-        go_on_after(distac, story, question.after, checked)
-        return story
-    for node in configuration.nodes:
-        story.boot(node)
-    story.add("share")
-    story.start_all([node for node in configuration.nodes if node not in not_started])
-    return story
+def known_node(word: str, configuration: Configuration) -> str:
+    """A node that somebody names, as the configuration spells it."""
+    name = name_of(word) if BARE_ATOM.match(word) or word.startswith("'") else f"'{word}'"
+    if name not in configuration.nodes:
+        raise Problem(f"the configuration has no node {shown(name)}: its nodes are {shown(', '.join(configuration.nodes))}")
+    return name
 
 
-def playable(checked: Checked) -> bytes:
-    """The configuration as a script begins with it: its own text, unless a line of that would end it."""
-    return checked.text if separator_in(checked.text) is None else bytes_of(checked.canonical + "\n")
+def courses_of(distac: Distac, side: Side, losses: list[Loss]) -> Iterator[Course]:
+    """How some cases go, each told to the progress."""
+    pages = first_pages(distac, side.cluster, losses)
+    distac.cases += len(losses)
+    with ThreadPoolExecutor(min(MOST_AT_ONCE, os.cpu_count() or 1)) as pool:
+        for course in pool.map(lambda each: course_of(distac, side.cluster, *each), zip(losses, pages)):
+            distac.cases_done += 1
+            yield course
 
 
-def go_on_after(distac: Distac, story: Story, path: str, checked: Checked) -> None:
-    """Takes over the lines of a script of the same configuration, and its last moment."""
-    loaded = load_script(distac, path)
-    if distac.check(loaded.script.config).lines != [checked.canonical]:
-        raise Problem(f"{path} has another configuration: the script of --after has to begin with the same one", Status.FAULT)
-    answers_of(distac, loaded)
-    events = [line for line in loaded.lines if line.is_event]
-    story.add(*(line.text for line in events))
-    story.now = max((int(word_of(line.words, Role.MOMENT) or 0) for line in events), default=0)
-    if story.now > LATEST:
-        raise Problem(f"{path} ends at the moment {story.now}, and what-if has no room for later ones", Status.FAULT)
-    story.add("share")
+def cases_of(distac: Distac, side: Side, losses: list[Loss]) -> list[Case]:
+    """What becomes of each application in some cases."""
+    return [case_of(side, course) for course in courses_of(distac, side, losses)]
 
 
-def longest_wait(configuration: Configuration) -> int:
-    """After how long each wait of a failover or of a starting node is over, in milliseconds."""
-    sync = configuration.sync_timeout or "0"
-    return max([0 if sync == "infinity" else int(sync), *(each.timeout for each in configuration.applications)])
+def case_of(side: Side, course: Course) -> Case:
+    """What becomes of each application in a case."""
+    now, at_once, then, back = (held_on(page, side.cluster.configuration) for page in (side.page, course.at_once, course.then, course.back))
+    claims = {each.app: each.milliseconds for each in course.claims}
+    fates = [fate_of(now[name], at_once[name], then[name], back[name], claims.get(name)) for name in now]
+    old = side.cluster
+    waiters = [*course.cluster.ended[len(old.ended) :], *course.cluster.waiting]
+    return Case(course.loss.down, fates, course.loss.back, waiters)
 
 
-def settle(distac: Distac, story: Story) -> Settled:
-    """The cluster once it has come to rest: in as many rounds as there are applications, once all waits are over."""
-    look = rest_after(distac, story, story.look(distac).able)
-    return Settled(story, look.able, seen_by(look.able, look, story.configuration))
+def held_on(page: Page, configuration: Configuration) -> dict[str, Held]:
+    """The applications on a page. If there is no node that knows anything, nobody has any."""
+    return {name: page.held.get(name) or Held(name, None, 0, 0, "", "nobody", None, "") for name in configuration.names}
 
 
-def rest_after(distac: Distac, story: Story, nodes: list[str]) -> Look:
-    """Some nodes tick, all waits pass, and the cluster comes to rest. What there is to see then."""
-    story.rounds(nodes, 1)
-    story.now += longest_wait(story.configuration)
-    story.rounds(nodes, 1)
-    return story.settle(distac, nodes)
-
-
-def seen_by(nodes: list[str], look: Look, configuration: Configuration) -> dict[str, Held]:
-    """The applications as the first of some nodes sees them. Where there is no node, nobody has any."""
-    if nodes:
-        return look.pages[nodes[0]].held
-    return {name: Held(name, None, 0, 0, "", "nobody", None, "") for name in configuration.names}
-
-
-def case_of(distac: Distac, settled: Settled, down: list[str], not_started: list[str]) -> Case:
-    """What becomes of each application if some nodes go down together."""
-    left = [node for node in settled.nodes if node not in down]
-    story, configuration = settled.story.copy(), settled.story.configuration
-    go_down(story, down, left)
-    first, start = story.look(distac), len(story.lines)
-    at_once, last = seen_by(left, first, configuration), first
-    if not first.is_at_rest(left):
-        wait_out(story, left, at_once)
-        last = story.settle(distac, left)
-    later = seen_by(left, last, configuration)
-    claims = claims_in(last.answers[start:], story.moments[start:])
-    look = come_back(distac, story, down, left, not_started)
-    back = seen_by(look.able, look, configuration)
-    return Case(down, [fate_of(settled.held[name], at_once[name], later[name], back[name], claims.get(name)) for name in later])
-
-
-def go_down(story: Story, down: list[str], left: list[str]) -> None:
-    """Nodes go down, and of those that are left the first one is told, and tells the others."""
-    story.add(*(f"crash {node}" for node in down))
-    story.add(*(f"down {left[0]} {node}" for node in down if left))
-    story.add("share")
-
-
-def wait_out(story: Story, left: list[str], at_once: dict[str, Held]) -> None:
-    """Those that are left tick at once, and at each moment at which an application's wait is over.
-
-    At each moment there are as many rounds as applications that may be claimed then.
-    """
-    begin, timeouts = story.now, {each.name: each.timeout for each in story.configuration.applications}
-    pending = [held for held in at_once.values() if held.verdict in PENDING]
-    waits = [timeouts[held.app] if held.verdict == "failover" else 0 for held in pending]
-    story.rounds(left, 1)
-    for wait in sorted(set(waits)):
-        story.now = begin + wait
-        story.rounds(left, waits.count(wait))
-
-
-def claims_in(each: list[Answered], moments: list[int]) -> dict[str, int]:
-    """When each application was claimed last, counted from the first of some moments."""
-    found = {}
-    for moment, one in zip(moments, each):
-        for line in one.answer[1:]:
-            claim = CLAIM.match(line) if one.line.verb == "tick" else None
-            if claim:
-                found[claim["app"]] = moment - moments[0]
-    return found
-
-
-def come_back(distac: Distac, story: Story, down: list[str], left: list[str], not_started: list[str]) -> Look:
-    """The nodes come up again, everything is started there, and all comes to rest. What there is to see then."""
-    story.now += 1
-    for node in down:
-        story.boot(node)
-    story.add("share")
-    story.start_all([node for node in down if node not in not_started])
-    return rest_after(distac, story, sorted({*left, *down}, key=name_order))
-
-
-def fate_of(now: Held, verdict: Held, after: Held, back: Held, claimed: int | None) -> Fate:
+def fate_of(now: Held, at_once: Held, then: Held, back: Held, claimed: int | None) -> Fate:
     """What becomes of an application, by the pages before, at once behind, later and in the end."""
-    how = verdict.verdict
-    if how in ("kept", "halted"):
+    how = at_once.verdict
+    if how in ("kept", "halted") or (how == "nobody" and at_once.runs_at):
         how = "stays"
     was_stopped = now.verdict == "halted"
-    return Fate(now.app, now.runs_at, after.runs_at, how, claimed, back.runs_at, after.marks, was_stopped)
+    return Fate(now.app, now.runs_at, then.runs_at, how, claimed, back.runs_at, then.marks, was_stopped)

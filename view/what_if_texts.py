@@ -1,90 +1,89 @@
-"""The answer to a what-if question as a table with notes, and as JSON."""
+"""The answer to a what-if question as a table with notes."""
 
 from __future__ import annotations
 
-import json
-from typing import Iterator
+from typing import Iterable, Iterator
 
+from view.configuration import Configuration
+from view.noticing import outage_of
+from view.pages import Held, Page
 from view.texts import columns_of, listed, padded, shown
-from view.what_if import Case, Fate, Reply
+from view.what_if import Answers, Case, Fate, Reply, held_on
+from view.what_if_notes import notes_on
 
-HEADS = ("down", "application", "now", "then", "how", "after", "back")
-
-
-def table_of(reply: Reply) -> Iterator[str]:
-    """The answer as a table, and what is to be said of it."""
-    rows = [HEADS]
-    for case in reply.cases:
-        rows += [cells_of(case, fate) for fate in case.fates]
-    widths = [max(columns_of(row[place]) for row in rows) for place in range(len(HEADS))]
-    for row in rows:
-        yield "  ".join(padded(cell, width) for cell, width in zip(row, widths)).rstrip()
-    yield from notes_on(reply)
+HEADS = ("down", "application", "now", "then", "how", "after", "outage", "back")
 
 
-def cells_of(case: Case, fate: Fate) -> tuple[str, ...]:
-    """The row of an application."""
-    after = "" if fate.milliseconds is None else f"{fate.milliseconds} ms"
-    how = "stays stopped" if fate.was_stopped and fate.how == "stays" else fate.how
-    places = (fate.app, fate.now or "-", fate.then or "-", how, after, fate.back or "-")
-    return tuple(shown(text) for text in (" ".join(case.down), *places))
-
-
-def notes_on(reply: Reply) -> Iterator[str]:
-    """Why nobody has an application, and where OTP's answer may be another one."""
-    fates = [fate for case in reply.cases for fate in case.fates]
-    notes = [*nobody_notes(reply), *otp_notes(reply, fates)]
+def table_of(reply: Reply, shows_all: bool = False) -> Iterator[str]:
+    """The answer as a table for each side, and what is to be said of it. Rows that stay are left out, unless all are asked for."""
+    for number, answers in enumerate(reply.sides):
+        if len(reply.sides) > 1:
+            yield from [""] if number else []
+            yield shown(f"side of {listed(answers.side.members)}:")
+        yield from side_table(reply, answers, shows_all)
+    notes = [*nobody_lines(reply), *(f"- {note.text}" for note in notes_on(reply))]
     if notes:
         yield ""
         yield from notes
 
 
-def nobody_notes(reply: Reply) -> Iterator[str]:
-    """Why nobody has an application, by the marks of its list."""
+def side_table(reply: Reply, answers: Answers, shows_all: bool) -> Iterator[str]:
+    """What runs nowhere from the start on, and the table of one side."""
+    nowhere = nowhere_at_first(answers.side.page, reply.configuration)
+    yield from nowhere_lines(answers.side.page, reply.configuration)
+    rows = [HEADS]
+    for case in answers.cases:
+        rows += case_rows(case, [held.app for held in nowhere], reply.tick_time, shows_all)
+    yield from lines_of_rows(rows)
+
+
+def nowhere_at_first(page: Page, configuration: Configuration) -> list[Held]:
+    """The applications that run nowhere before any node goes down."""
+    return [held for held in held_on(page, configuration).values() if held.runs_at is None]
+
+
+def nowhere_lines(page: Page, configuration: Configuration) -> Iterator[str]:
+    """What runs nowhere before any node goes down, and why: said once, and not in each case."""
+    nowhere = nowhere_at_first(page, configuration)
+    for held in nowhere:
+        yield shown(f"{held.app} runs nowhere: {held.marks or 'no node is up'}")
+    if nowhere:
+        yield ""
+
+
+def case_rows(case: Case, nowhere: list[str], tick_time: int, shows_all: bool) -> Iterator[tuple[str, ...]]:
+    """The rows of a case: the applications that go anywhere, and how many stay. What runs nowhere all the time is in neither."""
+    down, shown_ones = " ".join(case.down), case.fates if shows_all else [fate for fate in case.fates if not fate.stays]
+    for fate in shown_ones:
+        yield tuple(shown(text) for text in (down, *cells_of(fate, tick_time)))
+    count = sum(fate.app not in nowhere for fate in case.fates if fate.stays)
+    if count and not shows_all:
+        stay = "stays" if count == 1 else "stay"
+        yield ("" if shown_ones else shown(down), f"+ {count} {stay}")
+
+
+def cells_of(fate: Fate, tick_time: int) -> tuple[str, ...]:
+    """The row of an application, without the nodes that are down."""
+    after = "" if fate.milliseconds is None else f"{fate.milliseconds} ms"
+    outage = outage_of(fate.milliseconds, tick_time) if fate.how == "failover" and fate.milliseconds is not None else ""
+    how = "stays stopped" if fate.was_stopped and fate.how == "stays" else fate.how
+    return (fate.app, fate.now or "-", fate.then or "-", how, after, outage, fate.back or "-")
+
+
+def lines_of_rows(rows: Iterable[tuple[str, ...]]) -> Iterator[str]:
+    """Rows as lines with columns of equal width. A row may end early, and what it ends with widens no column."""
+    all_rows = list(rows)
+    count = max(map(len, all_rows), default=0)
+    whole = [row for row in all_rows if len(row) == count]
+    widths = [max(columns_of(row[place]) for row in whole) for place in range(count)]
+    widths[:1] = [max(columns_of(row[0]) for row in all_rows)] if all_rows else []
+    for row in all_rows:
+        yield "  ".join(padded(cell, width) for cell, width in zip(row, widths)).rstrip()
+
+
+def nobody_lines(reply: Reply) -> Iterator[str]:
+    """Why nobody has an application that ran before, by the marks of its list."""
     for case in reply.cases:
         for fate in case.fates:
-            if fate.how == "nobody" and fate.marks:
+            if fate.then is None and fate.now is not None and fate.marks:
                 yield shown(f"{fate.app} without {listed(case.down)}: {fate.marks}")
-
-
-def otp_notes(reply: Reply, fates: list[Fate]) -> Iterator[str]:
-    """What differs from OTP, where it matters here."""
-    if any(fate.milliseconds and fate.how == "failover" for fate in fates):
-        yield "- The wait counts from a node's first tick after it heard of the loss. OTP's manual doesn't say who counts."
-    if any(is_of_tuple(reply, fate) for fate in fates):
-        yield "- In a tuple the node with fewer of these applications is chosen, then the least name. OTP counts all that run."
-    if any(fate.back != fate.then for fate in fates):
-        yield "- Back: the node is up and everything of its list is started there again. Here a start ends with the node's life."
-    if reply.question.not_started:
-        yield "- Where an application isn't started it is passed over. OTP wants it started at all nodes of its list."
-    if any(fate.was_stopped and fate.how == "failover" for fate in fates):
-        yield "- A stopped application fails over with its node. In OTP it stays stopped; here, stop it at every node."
-    if any(len(case.down) > 1 for case in reply.cases):
-        yield "- These nodes are down. Were they cut off alone, both sides might run an application until they hear each other."
-
-
-def is_of_tuple(reply: Reply, fate: Fate) -> bool:
-    """Whether an application came to a node of a tuple."""
-    application = next(each for each in reply.configuration.applications if each.name == fate.app)
-    return fate.milliseconds is not None and any(fate.then in group and len(group) > 1 for group in application.groups)
-
-
-def json_of(reply: Reply) -> str:
-    """The answer as JSON."""
-    cases = [{"down": case.down, "applications": [fields_of(fate) for fate in case.fates]} for case in reply.cases]
-    fates = [fate for case in reply.cases for fate in case.fates]
-    notes = [note[2:] for note in otp_notes(reply, fates)]
-    return json.dumps({"nodes": reply.configuration.nodes, "cases": cases, "notes": notes}, indent=2)
-
-
-def fields_of(fate: Fate) -> dict[str, object]:
-    """The fields of an application."""
-    return {
-        "application": fate.app,
-        "now": fate.now,
-        "then": fate.then,
-        "how": fate.how,
-        "milliseconds": fate.milliseconds,
-        "back": fate.back,
-        "list": fate.marks,
-    }

@@ -2,6 +2,7 @@
 
 from __future__ import annotations
 
+import codecs
 import json
 import os
 import subprocess
@@ -70,6 +71,26 @@ class Statuses(unittest.TestCase):
         self.expect(2, view("timeline", FAILOVER, "-o", "-", "--from", "1000"), "no line")
         self.expect(2, view("timeline", FAILOVER, "-o", "/no/such/folder/page.html"), "can't be written")
 
+    def test_several_files(self) -> None:
+        canonical = Path(MANUAL).with_suffix(".out").read_text()
+        said = view("check", MANUAL, TYPO, MANUAL)
+        self.expect(1, said)
+        self.assertTrue(said.output.startswith(f"{MANUAL}: {canonical}{TYPO}:"), said)
+        self.assertTrue(said.output.endswith(f"{MANUAL}: {canonical}"), said)
+        self.expect(2, view("check", TYPO, "/no/such/file", MANUAL), "can't be read")
+        self.expect(1, view("check", "--strict", MANUAL, WARNED), "UnknownPermission")
+        self.expect(0, view("check", MANUAL, WARNED), "UnknownPermission")
+
+    def test_byte_order_marks(self) -> None:
+        with tempfile.TemporaryDirectory() as room:
+            path = Path(room) / "file"
+            for mark in (codecs.BOM_UTF8, codecs.BOM_UTF16_LE, codecs.BOM_UTF16_BE):
+                for command, source in (("check", MANUAL), ("play", FAILOVER)):
+                    path.write_bytes(mark + Path(source).read_bytes())
+                    said = view(command, str(path))
+                    self.expect(1, said)
+                    self.assertIn("the file begins with a byte order mark", said.output)
+
     def test_files_that_cannot_be_read(self) -> None:
         for path in ("/no/such/file", str(TOP), "\0", "x" * 5_000):
             for words in (("check", path), ("play", path), ("timeline", path, "-o", "-"), ("what-if", path)):
@@ -126,8 +147,9 @@ class Programs(unittest.TestCase):
         self.expect(str(garbled), "can't be run")
 
     def test_the_command_line_comes_first(self) -> None:
-        said = run_view("check", MANUAL, "--distac", PROGRAM, program="/no/such/program")
-        self.assertEqual(said.status, 0, said)
+        for words in (("check", MANUAL, "--distac", PROGRAM), ("--distac", PROGRAM, "check", MANUAL)):
+            said = run_view(*words, program="/no/such/program")
+            self.assertEqual(said.status, 0, said)
 
     def test_a_reader_that_goes_away(self) -> None:
         for words in COMMANDS:

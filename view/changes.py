@@ -1,0 +1,119 @@
+"""What a new configuration changes: where applications run now, and where each one goes if a node goes down."""
+
+from __future__ import annotations
+
+from dataclasses import dataclass, replace
+
+from view.configuration import Configuration
+from view.distac import Distac
+from view.loading import Checked, load_config
+from view.problems import Problem
+from view.running_now import Placed, placed_by
+from view.what_if import Question, Reply, held_on, reply_on
+
+
+@dataclass(frozen=True)
+class Answer:
+    """Where an application is, now or in the end of a loss, and after how many milliseconds it comes there."""
+
+    place: str | None
+    milliseconds: int | None = None
+
+
+@dataclass(frozen=True)
+class Change:
+    """An answer that another configuration changes: of which application, and with which nodes down. Without any it is about now."""
+
+    app: str
+    down: list[str]
+    old: Answer
+    new: Answer
+
+
+@dataclass(frozen=True)
+class Changes:
+    """All that another configuration changes, and how many answers both have."""
+
+    old: Reply
+    new: Reply
+    changes: list[Change]
+    compared: int
+
+    @property
+    def are_any(self) -> bool:
+        """Whether the two configurations differ in anything that is asked about."""
+        return bool(self.changes) or any((*self.apps, *self.nodes))
+
+    @property
+    def apps(self) -> tuple[list[str], list[str]]:
+        """The applications that only the new configuration has, and those that only the old one has."""
+        return differences(self.old.configuration.names, self.new.configuration.names)
+
+    @property
+    def nodes(self) -> tuple[list[str], list[str]]:
+        """The nodes that only the new configuration has, and those that only the old one has."""
+        return differences(self.old.configuration.nodes, self.new.configuration.nodes)
+
+    @property
+    def is_no_rolling_one(self) -> bool:
+        """Whether the two have another `distributed`, with which nodes of OTP end each other."""
+        return entries_of(self.old.configuration) != entries_of(self.new.configuration)
+
+
+def differences(old: list[str], new: list[str]) -> tuple[list[str], list[str]]:
+    """What only the new list has, and what only the old one has."""
+    return [name for name in new if name not in old], [name for name in old if name not in new]
+
+
+def entries_of(configuration: Configuration) -> dict[str, tuple[int, list[list[str]]]]:
+    """The entries of `distributed`, by their names."""
+    return {each.name: (each.timeout, each.groups) for each in configuration.applications}
+
+
+def changes_by(distac: Distac, question: Question, path: str) -> Changes:
+    """What a new configuration changes."""
+    if question.after:
+        raise Problem("--then can't stand beside --after: a script has one configuration; --now says where applications run")
+    old, new = load_config(distac, question.config), load_config(distac, path)
+    return changes_between(distac, question, old, new)
+
+
+def changes_between(distac: Distac, question: Question, old: Checked, new: Checked) -> Changes:
+    """What a configuration changes that was read."""
+    first = reply_on(distac, old, question)
+    second = reply_on(distac, new, fitting(question, old.configuration, new.configuration))
+    answers, others = answers_in(first), answers_in(second)
+    both = [key for key in answers if key in others]
+    found = [Change(key[0], list(key[1]), answers[key], others[key]) for key in both if answers[key] != others[key]]
+    return Changes(first, second, found, len(both))
+
+
+def fitting(question: Question, old: Configuration, new: Configuration) -> Question:
+    """The question for the new configuration: of nodes and places only those that it has."""
+    spelled = {node.strip("'") for node in new.nodes}
+    kept = {name: [word for word in getattr(question, name) if word.strip("'") in spelled] for name in ("down", "not_started", "back")}
+    if question.down and not kept["down"]:
+        raise Problem("the new configuration has none of the nodes of --down")
+    return replace(question, **kept, placed=placed_in_both(placed_by(question.now, old), old, new) if question.now else None)
+
+
+def placed_in_both(placed: Placed, old: Configuration, new: Configuration) -> Placed:
+    """Where applications run now, as far as the new configuration allows it. What it has to place anew is started everywhere."""
+    lists = {each.name: each.nodes for each in new.applications}
+    places = {app: node for app, node in placed.places.items() if node in lists.get(app, [])}
+    fresh = [name for name in new.names if name not in places and (name not in old.names or name in placed.places)]
+    return Placed(places, [node for node in new.nodes if node in placed.up or node not in old.nodes], fresh)
+
+
+def answers_in(reply: Reply) -> dict[tuple[str, tuple[str, ...]], Answer]:
+    """All answers of a reply: by application, and by the nodes that are down."""
+    found = {(name, ()): Answer(place) for name, place in places_now(reply).items()}
+    for case in reply.cases:
+        found.update({(fate.app, tuple(case.down)): Answer(fate.then, fate.milliseconds) for fate in case.fates})
+    return found
+
+
+def places_now(reply: Reply) -> dict[str, str | None]:
+    """Where each application is now, or where it goes next if it stands where it isn't left."""
+    held = held_on(reply.sides[0].side.page, reply.configuration)
+    return {name: each.at if each.is_pending else each.runs_at for name, each in held.items()}

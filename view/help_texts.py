@@ -1,0 +1,53 @@
+"""What the help of each subcommand shows beside its words: examples that can be typed."""
+
+from __future__ import annotations
+
+EPILOG = """\
+exit status:
+  0  done
+  1  a file has a fault; with --strict, a warning; load is above a budget, rolling is barred, --then changes something
+  2  wrong use, a file that can't be read or written, or no answer from distac
+
+The program distac is taken from --distac PATH, else from the environment variable DISTAC, else from beside this one.
+A FILE that is a dash is standard input."""
+
+EXAMPLES = {
+    "check": """\
+  distac-view check sys.config                   one line: what distac understood, or the first fault
+  distac-view check --strict rel/*/sys.config    the files of all nodes, for CI: a warning ends it with 1""",
+    "play": """\
+  distac-view play failover.distac               each answer beside its line
+  distac-view play --page --explain split.distac
+                                                 what nodes know behind each share, and why a line is refused
+  distac-view play --plain split.distac | distac sim
+                                                 the same script without distac-view""",
+    "timeline": """\
+  distac-view timeline split.distac -o split.html
+                                                 a page for a browser, or for a printer
+  distac-view timeline long.distac -o part.html --from 400 --lines 200
+                                                 a part of a long script""",
+    "what-if": """\
+  distac-view what-if sys.config                 each node down alone
+  distac-view what-if sys.config --down shop1@rack1 shop2@rack1
+                                                 two nodes down together
+  distac-view what-if sys.config --after repair.distac --json
+                                                 from where a script ends, for another program
+  distac-view what-if sys.config --now billing=shop1@rack1 mail=shop2@rack1
+                                                 from where applications run now
+  distac-view what-if sys.config --then new.config
+                                                 what a new configuration changes""",
+    "rolling": """\
+  distac-view rolling sys.config                 the best order of restarts, and what moves in each step
+  distac-view rolling sys.config --now now.txt --order shop2@rack1 shop1@rack1 --drain
+                                                 this order, from where applications run now, with drains""",
+    "load": """\
+  distac-view load sys.config --pairs            applications on each node if one or two nodes are down
+  distac-view load sys.config --most 4 --fail-on lost,load
+                                                 a budget for CI: lost applications or more than 4 at a node end it with 1""",
+}
+
+
+def epilog_of(name: str) -> str:
+    """What stands below the help of a subcommand."""
+    examples = EXAMPLES.get(name)
+    return f"examples:\n{examples}\n\n{EPILOG}" if examples else EPILOG

@@ -1,0 +1,69 @@
+"""Answers as JSON, in the form that docs/FORMATS.md describes.
+
+It is an interface: within a version a field keeps its name and its meaning, and later programs add fields alone.
+"""
+
+from __future__ import annotations
+
+import json
+from typing import Dict, Iterable, List
+
+from view.notes import Note
+from view.noticing import notice_range
+from view.pages import marks_in
+from view.tokens import bare_name
+from view.what_if import Case, Fate, Reply
+
+VERSION = 1
+
+Fields = Dict[str, object]
+
+
+def json_of(question: str, fields: Fields, notes: Iterable[Note]) -> str:
+    """A whole answer: the version, which question it answers, the fields that the question has, and the notes."""
+    head: Fields = {"version": VERSION, "question": question}
+    tail: Fields = {"notes": [{"id": note.id, "text": note.text} for note in notes]}
+    return json.dumps({**head, **fields, **tail}, indent=2)
+
+
+def names_of(names: Iterable[str]) -> List[str]:
+    """Some names of nodes or applications, each without quotes."""
+    return [bare_name(name) for name in names]
+
+
+def name_or_none(name: str | None) -> str | None:
+    """The name of a node without quotes, or none where there is no node."""
+    return None if name is None else bare_name(name)
+
+
+def what_if_answer(reply: Reply, notes: Iterable[Note]) -> str:
+    """The answer of `what-if`."""
+    fields: Fields = {
+        "nodes": names_of(reply.configuration.nodes),
+        "net_ticktime": reply.tick_time,
+        "sides": [{"nodes": names_of(answers.side.members)} for answers in reply.sides],
+        "cases": [case_fields(case, reply.tick_time) for case in reply.cases],
+    }
+    return json_of("what-if", fields, notes)
+
+
+def case_fields(case: Case, tick_time: int) -> Fields:
+    """The fields of a case."""
+    nodes = {"down": names_of(case.down), "returning": names_of(case.back)}
+    return {**nodes, "applications": [fate_fields(fate, tick_time) for fate in case.fates]}
+
+
+def fate_fields(fate: Fate, tick_time: int) -> Fields:
+    """The fields of an application in a case."""
+    wait = fate.milliseconds if fate.how == "failover" else None
+    return {
+        "application": bare_name(fate.app),
+        "now": name_or_none(fate.now),
+        "then": name_or_none(fate.then),
+        "how": fate.how,
+        "milliseconds": fate.milliseconds,
+        "longest_outage": None if wait is None else wait + notice_range(tick_time)[1],
+        "back": name_or_none(fate.back),
+        "stopped": fate.was_stopped,
+        "list": [{"node": bare_name(node), "mark": mark} for node, mark in marks_in(fate.marks)],
+    }

@@ -1,0 +1,75 @@
+"""The answers of `rolling`, `load` and `what-if --then` as JSON, in the form that docs/FORMATS.md describes."""
+
+from __future__ import annotations
+
+from typing import Iterable
+
+from view.changes import Answer, Change, Changes
+from view.cluster import Waiter
+from view.json_answers import Fields, json_of, name_or_none, names_of
+from view.load import Load, Row
+from view.notes import Note
+from view.rolling import Move, Rolling, Step
+from view.tokens import bare_name
+
+
+def rolling_answer(rolling: Rolling, notes: Iterable[Note]) -> str:
+    """The answer of `rolling`."""
+    fields: Fields = {
+        "order": names_of(rolling.order),
+        "moves": rolling.moves,
+        "waits": rolling.waits,
+        "compared": rolling.compared,
+        "worst": rolling.worst,
+        "steps": [step_fields(step) for step in rolling.steps],
+    }
+    return json_of("rolling", fields, notes)
+
+
+def step_fields(step: Step) -> Fields:
+    """The fields of a step."""
+    moves = {name: [move_fields(move) for move in getattr(step, name)] for name in ("drained", "down", "back")}
+    waiters = [waiter_fields(waiter) for waiter in step.waiters]
+    return {"node": bare_name(step.node), **moves, "nowhere": names_of(step.nowhere), "barred": waiters}
+
+
+def move_fields(move: Move) -> Fields:
+    """The fields of a move."""
+    places: Fields = {"application": bare_name(move.app), "from": name_or_none(move.source), "to": bare_name(move.node)}
+    return {**places, "how": move.how, "milliseconds": move.milliseconds}
+
+
+def waiter_fields(waiter: Waiter) -> Fields:
+    """The fields of a node that waits at its start gate."""
+    return {"node": bare_name(waiter.node), "mandatory": names_of(waiter.mandatory), "optional": names_of(waiter.optional)}
+
+
+def load_answer(load: Load, notes: Iterable[Note]) -> str:
+    """The answer of `load`."""
+    rows = [row_fields(row) for row in (load.start, *load.rows)]
+    return json_of("load", {"nodes": names_of(load.configuration.nodes), "losses": rows}, notes)
+
+
+def row_fields(row: Row) -> Fields:
+    """The fields of a loss."""
+    counts = [{"node": bare_name(node), "applications": count} for node, count in row.counts.items()]
+    return {"down": names_of(row.down), "load": counts, "lost": names_of(row.lost), "last": names_of(row.last)}
+
+
+def changes_answer(changes: Changes, notes: Iterable[Note]) -> str:
+    """The answer of `what-if --then`."""
+    fields: Fields = {"compared": changes.compared, "changes": [change_fields(change) for change in changes.changes]}
+    for name, (added, gone) in (("applications", changes.apps), ("nodes", changes.nodes)):
+        fields[f"{name}_added"], fields[f"{name}_gone"] = names_of(added), names_of(gone)
+    return json_of("then", fields, notes)
+
+
+def change_fields(change: Change) -> Fields:
+    """The fields of a change."""
+    answers: Fields = {"old": place_fields(change.old), "new": place_fields(change.new)}
+    return {"application": bare_name(change.app), "down": names_of(change.down), **answers}
+
+
+def place_fields(answer: Answer) -> Fields:
+    """The fields of where an application is."""
+    return {"node": name_or_none(answer.place), "milliseconds": answer.milliseconds}

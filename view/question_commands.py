@@ -1,0 +1,126 @@
+"""The subcommands that ask what would happen: `what-if`, `rolling` and `load`, with the words that each of them takes."""
+
+from __future__ import annotations
+
+import argparse
+from typing import Iterable
+
+from view.changes import changes_by
+from view.changes_texts import lines_of as changes_lines
+from view.changes_texts import notes_on as change_notes
+from view.distac import Distac
+from view.json_answers import what_if_answer
+from view.load import load_of
+from view.load_texts import budget_faults
+from view.load_texts import table_of as load_table
+from view.loading import Faulty
+from view.output import Output, say
+from view.plan_answers import changes_answer, load_answer, rolling_answer
+from view.problems import Problem, Status
+from view.rolling import rolling_of
+from view.rolling_texts import drain_notes
+from view.rolling_texts import lines_of as rolling_lines
+from view.what_if import Question, reply_to
+from view.what_if_notes import below, notes_on, start_notes
+from view.what_if_texts import table_of
+
+
+def written(output: Output, lines: Iterable[str]) -> None:
+    """Writes an answer, line by line."""
+    for line in lines:
+        output.line(line)
+    output.flush()
+
+
+def what_if(distac: Distac, words: argparse.Namespace, output: Output) -> Status:
+    """Prints what becomes of each application if nodes go down, or what a new configuration changes."""
+    question = Question(words.config, words.down, words.not_started, words.after, words.back, words.now)
+    if words.then:
+        return what_changes(distac, question, words, output)
+    reply = reply_to(distac, question)
+    written(output, [what_if_answer(reply, notes_on(reply))] if words.json else table_of(reply, words.all))
+    return Status.FINE
+
+
+def what_changes(distac: Distac, question: Question, words: argparse.Namespace, output: Output) -> Status:
+    """Prints what a new configuration changes. The status is 1 if it changes anything, and 2 for all trouble, faults too."""
+    try:
+        changes = changes_by(distac, question, words.then)
+    except Faulty as faulty:
+        raise Problem(faulty.remark.text(faulty.path)) from faulty
+    except Problem as problem:
+        raise Problem(problem.sentence) from problem
+    written(output, [changes_answer(changes, change_notes(changes))] if words.json else changes_lines(changes))
+    return Status.FAULT if changes.are_any else Status.FINE
+
+
+def load(distac: Distac, words: argparse.Namespace, output: Output) -> Status:
+    """Prints how many applications each node has under each loss, and holds them to a budget."""
+    fail_on = [part for word in words.fail_on for part in word.split(",") if part]
+    if not set(fail_on) <= {"lost", "load"}:
+        raise Problem("--fail-on takes lost, load, or both parted by a comma")
+    if "load" in fail_on and words.most is None:
+        raise Problem("--fail-on load wants --most N: how many applications a node may have")
+    found = load_of(distac, Question(words.config, now=words.now), words.pairs)
+    notes = start_notes(found.side, bool(words.now))
+    written(output, [load_answer(found, notes)] if words.json else [*load_table(found, words.most), *below(notes)])
+    faults = list(budget_faults(found, fail_on, words.most))
+    for fault in faults:
+        say(f"distac-view: {fault}")
+    return Status.FAULT if faults else Status.FINE
+
+
+def rolling(distac: Distac, words: argparse.Namespace, output: Output) -> Status:
+    """Prints the steps of a rolling restart, in a given order or in the best one."""
+    found = rolling_of(distac, Question(words.config, now=words.now), words.order, words.drain)
+    notes = [*start_notes(found.side, bool(words.now)), *drain_notes(words.drain)]
+    written(output, [rolling_answer(found, notes)] if words.json else [*rolling_lines(found), *below(notes)])
+    return Status.FAULT if found.is_barred else Status.FINE
+
+
+def add_what_if(parser: argparse.ArgumentParser) -> None:
+    """The words of `what-if`."""
+    parser.add_argument("config", metavar="CONFIG", help="a configuration, as erl -config takes it")
+    parser.add_argument("--down", metavar="NODE", nargs="+", action="extend", default=[], help="nodes that go down together")
+    more = "nodes that come up without any application being started there"
+    parser.add_argument("--not-started", metavar="NODE", nargs="+", action="extend", default=[], help=more)
+    parser.add_argument("--after", metavar="SCRIPT", help="begin where this script ends, not with a cluster that just came up")
+    add_now(parser)
+    back = "those of --down that come back: all, if this is absent"
+    parser.add_argument("--back", metavar="NODE", nargs="+", action="extend", default=[], help=back)
+    then = "say what this configuration changes in place of CONFIG: the exit status is 1 if it changes anything"
+    parser.add_argument("--then", metavar="NEW.config", help=then)
+    parser.add_argument("--all", action="store_true", help="show the rows of applications that stay too")
+    add_json(parser)
+
+
+def add_load(parser: argparse.ArgumentParser) -> None:
+    """The words of `load`."""
+    parser.add_argument("config", metavar="CONFIG", help="a configuration, as erl -config takes it")
+    add_now(parser)
+    parser.add_argument("--pairs", action="store_true", help="ask about each two nodes that go down together too")
+    parser.add_argument("--most", metavar="N", type=int, help="how many applications a node may have")
+    budget = "make the exit status 1 if an application is lost, or if a node has more than --most: lost, load or lost,load"
+    parser.add_argument("--fail-on", metavar="WHAT", nargs="+", action="extend", default=[], help=budget)
+    add_json(parser)
+
+
+def add_rolling(parser: argparse.ArgumentParser) -> None:
+    """The words of `rolling`."""
+    parser.add_argument("config", metavar="CONFIG", help="a configuration, as erl -config takes it")
+    add_now(parser)
+    order = "restart these nodes in this order; if absent, the best order of all nodes is looked for"
+    parser.add_argument("--order", metavar="NODE", nargs="+", action="extend", default=[], help=order)
+    parser.add_argument("--drain", action="store_true", help="drain each node before it goes down, so that nothing waits")
+    add_json(parser)
+
+
+def add_json(parser: argparse.ArgumentParser) -> None:
+    """The word that asks for JSON."""
+    parser.add_argument("--json", action="store_true", help="print the answer as JSON")
+
+
+def add_now(parser: argparse.ArgumentParser) -> None:
+    """The words that say where applications run now."""
+    where = "where applications run now: a file with a line NODE APP APP .. for each node that is up, or APP=NODE .."
+    parser.add_argument("--now", metavar="FILE", nargs="+", action="extend", default=[], help=where)

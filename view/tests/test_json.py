@@ -1,0 +1,101 @@
+"""Answers as JSON have the form that docs/FORMATS.md describes."""
+
+from __future__ import annotations
+
+import json
+import tempfile
+import unittest
+from pathlib import Path
+from random import Random
+from typing import Tuple
+
+from support import EXAMPLES, view
+from json_schema import documented
+from test_what_if import random_config
+
+MANUAL, FAILOVER = str(EXAMPLES / "manual.config"), str(EXAMPLES / "failover.distac")
+QUOTED = "[{kernel,[{distributed,[{'Shop',5000,['shop1@10.0.0.11',{'shop-2@h','a=b@h'}]}]}]}].\n"
+
+
+class Answers(unittest.TestCase):
+    """Each answer fits the described schema."""
+
+    def setUp(self) -> None:
+        self.schema = documented()
+        self.room = tempfile.TemporaryDirectory()
+        self.addCleanup(self.room.cleanup)
+
+    def path(self, text: str) -> str:
+        """A file of a text."""
+        path = Path(self.room.name) / "cluster.config"
+        path.write_bytes(text.encode("utf-8", "surrogateescape"))
+        return str(path)
+
+    def expect(self, *words: str) -> dict:
+        """The answer to some words, which fits."""
+        said = view(*words, "--json")
+        self.assertEqual(said.status, 0, said)
+        self.assertEqual(self.schema.faults_of(said.output), [], said.output)
+        return json.loads(said.output)
+
+    def test_examples(self) -> None:
+        for path in sorted(EXAMPLES.glob("*.config")):
+            self.expect("what-if", str(path))
+        self.expect("what-if", MANUAL, "--after", FAILOVER)
+        self.expect("what-if", MANUAL, "--down", "cp1@cave", "cp2@cave", "cp3@cave")
+        self.expect("what-if", MANUAL, "--not-started", "cp1@cave", "--down", "cp1@cave", "cp2@cave")
+
+    def test_random_configurations(self) -> None:
+        for number in range(25):
+            text = random_config(Random(f"json {number}"))
+            with self.subTest(number=number, text=text):
+                self.expect("what-if", self.path(text))
+
+    def test_names_have_no_quotes(self) -> None:
+        answer = self.expect("what-if", self.path(QUOTED))
+        self.assertEqual(answer["nodes"], ["a=b@h", "shop-2@h", "shop1@10.0.0.11"])
+        fate = answer["cases"][2]["applications"][0]
+        self.assertEqual((fate["application"], fate["now"], fate["then"]), ("Shop", "shop1@10.0.0.11", "a=b@h"))
+        marks = [(place["node"], place["mark"]) for place in fate["list"]]
+        self.assertEqual(marks, [("shop1@10.0.0.11", "down"), ("a=b@h", "ok"), ("shop-2@h", "ok")])
+
+    def test_bytes_of_names_are_kept(self) -> None:
+        answer = self.expect("what-if", self.path(QUOTED.replace("shop-2", "\udcffé")))
+        self.assertIn("\udcffé@h", answer["nodes"])
+
+    def test_ids_of_notes(self) -> None:
+        def ids_of(*words: str) -> Tuple[str, ...]:
+            return tuple(note["id"] for note in self.expect("what-if", *words)["notes"])
+
+        self.assertEqual(ids_of(MANUAL), ("Outage", "FirstTick", "TupleLoad", "StartedAgain"))
+        both = ids_of(MANUAL, "--not-started", "cp2@cave", "--down", "cp1@cave")
+        both += ids_of(MANUAL, "--down", "cp1@cave", "cp2@cave")
+        self.assertTrue({"NotStarted", "NoSplit"} <= set(both), both)
+
+
+class Validator(unittest.TestCase):
+    """The validator refuses what isn't described."""
+
+    def test_what_is_refused(self) -> None:
+        schema = documented()
+        text = view("what-if", MANUAL, "--json").output
+        changes = (
+            ('"version": 1', '"version": 2'),
+            ('"version": 1', '"version": true'),
+            ('"question": "what-if"', '"question": "other"'),
+            ('"how": "failover"', '"how": "fails"'),
+            ('"milliseconds": 5000', '"milliseconds": "5000"'),
+            ('"stopped": false', '"stopped": null'),
+            ('"now": "cp1@cave",', ""),
+            ('"mark": "ok"', '"mark": "fine"'),
+            ('"id": "FirstTick"', '"id": "SomeOther"'),
+            ('"notes": [', '"more": 1, "notes": ['),
+        )
+        self.assertEqual(schema.faults_of(text), [])
+        for old, new in changes:
+            self.assertIn(old, text)
+            self.assertTrue(schema.faults_of(text.replace(old, new)), (old, new))
+
+
+if __name__ == "__main__":
+    unittest.main()
