@@ -12,7 +12,7 @@ from typing import Iterator
 
 from view.answers import Answered
 from view.configuration import Configuration
-from view.texts import cut, shown
+from view.texts import columns_of, cut, shown
 from view.timeline import Band, Bar, Hand, Message, Share, State, Timeline
 from view.verbs import Role, word_of
 
@@ -156,7 +156,7 @@ class Drawing:
     def note(self, row: int, one: Answered) -> str:
         """A comment. Where it is long the lanes below it are dimmed."""
         words = cut(shown(one.line.text), int((self.width - self.script_left) / SIGN))
-        end = self.script_left + SIGN * len(words) + 6
+        end = self.script_left + SIGN * columns_of(words) + 6
         kind = "veil odd" if row % 2 else "veil"
         veil = box(self.lanes_left, row * ROW, end - self.lanes_left, ROW, kind, "") if end > self.lanes_left else ""
         place = f'x="{self.script_left:.0f}" y="{row * ROW + 15}"'

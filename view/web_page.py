@@ -157,7 +157,7 @@ def claims_table(timeline: Timeline) -> str:
     ends = "".join(f'<th scope="col" class="end">{head}</th>' for head in ("line", "moment"))
     heads = "".join(f'<th scope="col">{head}</th>' for head in ("application", "node", "term", "how"))
     table = f'<table aria-labelledby="claims"><thead><tr>{ends}{heads}</tr></thead><tbody>{rows}</tbody></table>'
-    return f'<h2 id="claims">Claims of ticks</h2><div class="claims" tabindex="0">{table}</div>'
+    return f'<h2 id="claims">Claims of ticks</h2><div class="claims" role="region" aria-labelledby="claims" tabindex="0">{table}</div>'
 
 
 def claim_rows(timeline: Timeline) -> Iterator[str]:

@@ -18,6 +18,7 @@ from typing import List, Tuple
 
 from support import EXAMPLES, IS_STAND_IN, MISTAKES, PROGRAM, TOP, Said, view
 from json_schema import documented
+from view.command_line import SUBCOMMANDS
 
 SEED = os.environ.get("DISTAC_VIEW_SEED", "1")
 COUNT = int(os.environ.get("DISTAC_VIEW_INPUTS", "160" if IS_STAND_IN else "400"))
@@ -37,24 +38,34 @@ PIECES = (
     *(b",", b".", b"99999999999999999999", b"-1", b"4611686018427387904", b"\nshare\n", b"\ntell ", b"\npage ", b"\nhear ", b"\nfeed 00\n", b"fun"),
     *(b"\nstate ", b"\nbytes 1\n", b"\nhand ", b"\nphase\n", b"<b>", b"]]>", b"&amp;", b"<!--"),
 )
-WORDS: Tuple[Tuple[str, ...], ...] = (
-    ("check",),
-    ("check", "--strict"),
-    ("play",),
-    ("play", "--explain", "--page"),
-    ("play", "--plain"),
-    ("play", "--strict"),
-    ("timeline", "-o", "-"),
-    ("timeline", "-o", "-", "--from", "5", "--lines", "3"),
-    ("what-if",),
-    ("what-if", "--json"),
+FILE = "FILE"
+LINES: Tuple[Tuple[str, ...], ...] = (
+    ("check", FILE),
+    ("check", "--strict", FILE),
+    ("play", FILE),
+    ("play", "--explain", "--page", FILE),
+    ("play", "--plain", FILE),
+    ("play", "--strict", FILE),
+    ("timeline", FILE, "-o", "-"),
+    ("timeline", FILE, "-o", "-", "--from", "5", "--lines", "3"),
+    ("what-if", FILE),
+    ("what-if", FILE, "--json"),
+    ("what-if", FILE, "--then", str(EXAMPLES / "manual.config")),
+    ("rolling", FILE),
+    ("rolling", FILE, "--json"),
+    ("load", FILE, "--pairs"),
+    ("load", FILE, "--pairs", "--json"),
+    ("gather", "x@h=FILE"),
+    ("gather", "x@h=FILE", "--reader", "own"),
 )
+KNOWN = [name for name, _, _, _ in SUBCOMMANDS]
+WORDS = tuple(line for line in LINES if line[0] in KNOWN)
 TAGS = "html head meta title style body h1 h2 p div span table thead tbody tr th td svg defs pattern marker path rect circle text g"
 
 
 def changed(random: Random, subcommand: str) -> bytes:
     """A source with some changes: names put in place of others, pieces put in, and parts taken out, doubled or moved."""
-    fitting = CONFIGS if subcommand in ("check", "what-if") else SCRIPTS
+    fitting = SCRIPTS if subcommand in ("play", "timeline") else CONFIGS
     source = random.choice(random.choice((fitting, fitting, fitting, SCRIPTS, FAULTY)))
     if random.random() < 0.7:
         source = with_other_names(random, source)
@@ -103,9 +114,13 @@ class Fuzz(unittest.TestCase):
             source = changed(random, words[0])
             self.path.write_bytes(source)
             with self.subTest(number=number, words=words, source=source):
-                said = view(words[0], str(self.path), *words[1:])
+                said = view(*self.named(words))
                 self.check_answer(words, said)
                 self.assertEqual(self.path.read_bytes(), source)
+
+    def named(self, words: Tuple[str, ...]) -> List[str]:
+        """A command line with the name of the input in it."""
+        return [word.replace(FILE, str(self.path)) for word in words]
 
     def check_answer(self, words: Tuple[str, ...], said: Said) -> None:
         """What holds of each answer."""
@@ -125,7 +140,7 @@ class Fuzz(unittest.TestCase):
             source = changed(random, words[0])
             streams = " ".join(random.sample((">&-", "2>&-", "<&-", ">/dev/full"), random.choice((1, 2))))
             self.path.write_bytes(source)
-            line = [sys.executable, str(TOP / "distac-view"), words[0], str(self.path), *words[1:]]
+            line = [sys.executable, str(TOP / "distac-view"), *self.named(words)]
             whole = ["/bin/sh", "-c", f'exec "$@" {streams}', "sh", *line]
             done = subprocess.run(whole, stdin=subprocess.DEVNULL, capture_output=True, env={**os.environ, "DISTAC": PROGRAM})
             with self.subTest(number=number, words=words, streams=streams, source=source):

@@ -11,7 +11,7 @@ import sys
 import tempfile
 import unittest
 from pathlib import Path
-from typing import List
+from typing import Iterator, List
 
 from support import EXAMPLES, PROGRAM, TOP, view
 from view.command_line import SUBCOMMANDS, parser_of_words
@@ -19,6 +19,9 @@ from view.help_texts import EXAMPLES as HELP_EXAMPLES
 
 MANUAL = str(EXAMPLES / "manual.config")
 PACK = str(TOP / "view" / "pack.py")
+PYTHON_FILES = sorted([*(TOP / "models").glob("*.py"), *(TOP / "view").glob("*.py")])
+NEWER = (".removeprefix(", ".removesuffix(", "import pairwise", "import cache\n", ".with_stem(", "strict=True)", ".bit_count(", ".is_relative_to(")
+BUILT_IN = ("list", "dict", "tuple", "set", "frozenset", "type", "int", "bool", "bytes", "str")
 OLDER = "import sys\nsys.version_info = (3, 7, 16, 'final', 0)\nexec(compile(open(sys.argv[1]).read(), 'distac-view', 'exec'))\n"
 
 
@@ -86,14 +89,25 @@ class Pythons(unittest.TestCase):
         self.assertEqual(done.stderr, b"distac-view: this is Python 3.7, and 3.8 or later is needed\n")
 
     def test_the_grammar_of_each_module(self) -> None:
-        for path in sorted((TOP / "view").rglob("*.py")):
-            ast.parse(path.read_text(encoding="utf-8"), str(path), feature_version=(3, 8))
+        for path in PYTHON_FILES:
+            tree = ast.parse(path.read_text(encoding="utf-8"), str(path), feature_version=(3, 8))
+            self.assertEqual([ast.dump(node) for node in newer_types(tree)], [], path)
 
     def test_nothing_newer_is_used(self) -> None:
-        newer = (".removeprefix(", ".removesuffix(", "from itertools import pairwise", "functools import cache\n", ".with_stem(", "strict=")
-        for path in sorted((TOP / "view").glob("*.py")):
-            for word in newer:
-                self.assertNotIn(word, path.read_text(encoding="utf-8"), path)
+        for path in PYTHON_FILES:
+            for word in NEWER:
+                self.assertFalse(word in path.read_text(encoding="utf-8"), (path.name, word))
+
+
+def newer_types(tree: ast.Module) -> Iterator[ast.AST]:
+    """Types that Python 3.8 doesn't know where they are computed: outside of annotations and of texts."""
+    for statement in tree.body:
+        for node in ast.walk(statement) if isinstance(statement, ast.Assign) else ():
+            if isinstance(node, ast.Subscript) and isinstance(node.value, ast.Name) and node.value.id in BUILT_IN:
+                yield node
+            if isinstance(node, ast.BinOp) and isinstance(node.op, ast.BitOr) and isinstance(node.right, ast.Name):
+                if node.right.id in BUILT_IN or node.right.id.istitle():
+                    yield node
 
 
 class Helps(unittest.TestCase):
