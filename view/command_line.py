@@ -9,7 +9,7 @@ from typing import IO, Callable
 from view.completion import bash_completion
 from view.config_warnings import warnings_on
 from view.distac import Distac, found_distac
-from view.gather import EXAMPLES, gather
+from view.gather import gather
 from view.help_texts import EPILOG, epilog_of
 from view.loading import Faulty, Loaded, answers_of, load_config, load_script
 from view.looking import seen_lines
@@ -181,7 +181,6 @@ def count_from_one(word: str) -> int:
 
 def gather_words(parser: argparse.ArgumentParser) -> None:
     """The words of `gather`."""
-    parser.epilog = f"{EXAMPLES}\n\n{parser.epilog}"
     parser.set_defaults(version=VERSION)
     about_files = "a node and its files, in the order of erl -config; - is standard input"
     parser.add_argument("nodes", metavar="NODE=FILE[,FILE..]", nargs="*", help=about_files)

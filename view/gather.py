@@ -26,16 +26,6 @@ ELIXIR_LINE = (
     f':io.format(~c"~n{ANSWER_MARK}~tw~n~tw.~n", '
     "[node(), [kernel: (for p <- k, {:ok, v} <- [:application.get_env(:kernel, p)], do: {p, v})]])"
 )
-EXAMPLES = """\
-examples:
-  distac-view gather shop1=shop1/sys.config shop2=shop2/sys.config -o cluster.config
-                              one configuration from the files of two nodes
-  distac-view gather shop1@10.0.0.1=common.config,shop1.config shop2@10.0.0.2=common.config,shop2.config
-                              later files win, as with erl -config common -config shop1
-  distac-view gather --print-command | erl_call -name shop1@10.0.0.1 -c COOKIE -fetch_stdout -e > shop1.answer
-                              what a running node has: gather takes the answer as its FILE
-  bin/shop rpc "$(distac-view gather --print-command elixir)" > shop1.answer
-                              the same of a release that mix made"""
 LINES = {"erlang": ERLANG_LINE, "elixir": ELIXIR_LINE}
 
 
