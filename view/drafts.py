@@ -31,10 +31,11 @@ class Draft:
             is_new = wait > 0 or 0 in waits
 
     def write_rounds(self, nodes: list[str], count: int) -> None:
-        """Rounds of nodes that come back, the first one at once and the others long after."""
-        for _ in range(count):
+        """Rounds of nodes that come back: the first one at once, and the others when all waits are over."""
+        begin = self.cluster.story.now
+        for number in range(count):
+            self.cluster.story.now = begin + (longest_wait(self.cluster.configuration) if number else 0)
             self.write_round(nodes, True, len(self.cluster.configuration.applications))
-            self.cluster.story.now += longest_wait(self.cluster.configuration)
 
     def write_round(self, nodes: list[str], is_new: bool, most: int) -> None:
         """Some nodes hear what is new, if anything is, and tick. The hub is handed each operation that may have been issued."""

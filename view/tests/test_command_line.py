@@ -15,7 +15,8 @@ from support import EXAMPLES, MISTAKES, PROGRAM, TOP, Said, run_view, view
 
 FAILOVER, MANUAL = str(EXAMPLES / "failover.distac"), str(EXAMPLES / "manual.config")
 TYPO, WARNED = str(MISTAKES / "s01_typo_verb.distac"), str(MISTAKES / "c11_perm_typo.config")
-COMMANDS = (("check", MANUAL), ("gather", f"cp1@cave={MANUAL}"), ("play", FAILOVER), ("timeline", FAILOVER, "-o", "-"), ("what-if", MANUAL))
+QUESTIONS = (("what-if", MANUAL), ("rolling", MANUAL), ("load", MANUAL))
+COMMANDS = (("check", MANUAL), ("gather", f"cp1@cave={MANUAL}"), ("play", FAILOVER), ("timeline", FAILOVER, "-o", "-"), *QUESTIONS)
 
 
 class Statuses(unittest.TestCase):
@@ -36,7 +37,7 @@ class Statuses(unittest.TestCase):
             self.assertTrue(said.output)
 
     def test_faults(self) -> None:
-        for words in (("check", TYPO), ("play", TYPO), ("timeline", TYPO, "-o", "-"), ("what-if", TYPO)):
+        for words in (("check", TYPO), ("play", TYPO), ("timeline", TYPO, "-o", "-"), ("what-if", TYPO), ("rolling", TYPO), ("load", TYPO)):
             said = view(*words)
             self.expect(1, said)
             self.assertTrue(said.output.startswith(f"{TYPO}:"), said)
@@ -93,7 +94,7 @@ class Statuses(unittest.TestCase):
 
     def test_files_that_cannot_be_read(self) -> None:
         for path in ("/no/such/file", str(TOP), "\0", "x" * 5_000):
-            for words in (("check", path), ("play", path), ("timeline", path, "-o", "-"), ("what-if", path)):
+            for words in (("check", path), ("play", path), ("timeline", path, "-o", "-"), ("what-if", path), ("rolling", path), ("load", path)):
                 self.expect(2, view(*words), "can't be read")
 
     def test_standard_input(self) -> None:

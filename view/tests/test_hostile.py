@@ -28,6 +28,11 @@ SOURCES = (
     b'[{a,"\n--\n"},{kernel,[{distributed,[{a,[x,y]}]}]}].\n',
 )
 
+WORDS = (
+    *(("check",), ("play", "--explain"), ("play", "--page"), ("play", "--plain"), ("timeline", "-o", "-")),
+    *(("what-if",), ("what-if", "--all"), ("what-if", "--json"), ("load", "--pairs"), ("rolling",), ("rolling", "--drain")),
+)
+
 
 class Hostile(unittest.TestCase):
     """No input brings a traceback."""
@@ -40,7 +45,7 @@ class Hostile(unittest.TestCase):
     def try_all(self, source: bytes) -> None:
         """All subcommands on an input: a failing one raises here."""
         Path(self.path).write_bytes(source)
-        for words in (("check",), ("play", "--explain"), ("play", "--page"), ("play", "--plain"), ("timeline", "-o", "-"), ("what-if",)):
+        for words in WORDS:
             said = view(words[0], self.path, *words[1:])
             self.assertIn(said.status, (0, 1, 2))
             if said.status:

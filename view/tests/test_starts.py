@@ -15,6 +15,7 @@ from check import read_config
 from random_scripts import CALM, CONFIGS, DRAINS, PAUSES, ScriptMaker
 from test_what_if import random_config
 from view.cases import Course, Loss, careful_course, first_pages, quick_course
+from view.cluster import share_all
 from view.loading import Checked, check_config
 from view.noticing import outage_of
 from view.openings import Side, opened, opened_after
@@ -26,6 +27,8 @@ from view.what_if import Question, Reply, reply_on
 from view.what_if_notes import notes_on
 
 COUNT = 60 if IS_STAND_IN else 300
+# In this random case two rounds are needed at the moment at which the waits of a return are over.
+TWO_ROUNDS = 5209
 GATED = (
     "[{kernel,[{distributed,[{myapp,5000,[cp1@cave,{cp2@cave,cp3@cave}]}]},"
     "{sync_nodes_mandatory,[cp1@cave,cp2@cave,cp3@cave]},{sync_nodes_timeout,5000}]}].\n"
@@ -174,7 +177,7 @@ class Courses(Asked):
 
     def test_quick_and_careful_cases_are_equal(self) -> None:
         quick_ones = 0
-        for number in range(COUNT):
+        for number in (*range(COUNT), TWO_ROUNDS):
             random = Random(f"courses {number}")
             for side in some_sides(random, self.path):
                 loss = self.random_loss(random, side)
@@ -205,8 +208,9 @@ class Courses(Asked):
         return quick_ones[0] is not None
 
     def no_living_holder_is_missed(self, course: Course) -> None:
-        """What is nowhere in the end is held by no node that runs, by what any running node of the side knows."""
-        cluster = course.cluster
+        """What is nowhere in the end is held by no node that runs, by what any running node of the side knows once all was told."""
+        cluster = course.cluster.copy()
+        share_all(distac(), cluster)
         pages = {one.actor: page_of(one.answer) for one in cluster.story.play(distac(), *(f"page {node}" for node in cluster.nodes))}
         for page in pages.values():
             for name, held in page.held.items():
