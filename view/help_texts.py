@@ -18,13 +18,13 @@ EXAMPLES = {
   distac-view check --strict rel/*/sys.config    the files of all nodes, for CI: a warning ends it with 1""",
     "gather": """\
   distac-view gather shop1=shop1/sys.config shop2=shop2/sys.config -o cluster.config
-                              one configuration from the files of two nodes
+                                                 one configuration from the files of two nodes
   distac-view gather shop1@10.0.0.1=common.config,shop1.config shop2@10.0.0.2=common.config,shop2.config
-                              later files win, as with erl -config common -config shop1
+                                                 later files win, as with erl -config common -config shop1
   distac-view gather --print-command | erl_call -name shop1@10.0.0.1 -c COOKIE -fetch_stdout -e > shop1.answer
-                              what a running node has: gather takes the answer as its FILE
+                                                 what a running node has: gather takes the answer as its FILE
   bin/shop rpc "$(distac-view gather --print-command elixir)" > shop1.answer
-                              the same of a release that mix made""",
+                                                 the same of a release that mix made""",
     "play": """\
   distac-view play failover.distac               each answer beside its line
   distac-view play --page --explain split.distac

@@ -134,7 +134,7 @@ def equal_times_notes(reply: Reply) -> Iterator[Note]:
             names = names_that_hang(answers, case, reply.configuration)
             if names:
                 text = f"Without {listed(case.down)} OTP 25 may restart one of {listed(names)} alone and hang"
-                yield Note("EqualTimes", shown(f"{text}: give each its own time, 100 ms apart."))
+                yield Note("EqualTimes", shown(f"{text}: give each its own time, further apart than a start takes: 100 ms or more."))
 
 
 def names_that_hang(answers: Answers, case: Case, configuration: Configuration) -> list[str]:
