@@ -11,6 +11,9 @@ use std::alloc::Global;
 /// Whether nothing runs where nothing was started.
 fn is_nobody(config: &Config, state: &State) -> bool {
     let app = AppId(0);
+    if config.apps() == 0 {
+        return false;
+    }
     let none: u32 = load(config, state, app, NodeId(0));
     !eligible(config, state, app, NodeId(0))
         && none == 0
@@ -21,13 +24,16 @@ fn is_nobody(config: &Config, state: &State) -> bool {
 fn goes_on(alloc: Global, config: &Config, state: &State) -> Option<bool> {
     let mut waits = Waits::new(alloc, config).ok()?;
     waits.note(config, state, 1);
+    if config.apps() == 0 {
+        return None;
+    }
     let due: bool = waits.copy().ok()?.due(config, state, AppId(0), 1);
     let opening = match gate(config, state, 0, 1) {
         Opening::Opened => true,
         Opening::Shut => false,
         Opening::GiveUp => false,
     };
-    Some(opening && (due || !due))
+    Some(opening && due)
 }
 
 /// Whether a board shows the same, before and after it takes the state up again.
@@ -48,6 +54,9 @@ fn is_printed(alloc: Global, config: &Config, state: &State) -> Option<bool> {
         node: NodeId(0),
         inc: 1,
     };
+    if config.nodes() == 0 {
+        return None;
+    }
     let head: Vec<u8> = header(alloc, config, NodeId(0), Some(origin)).ok()?;
     let summary: Summary = Summary::of(config, state);
     let text: Vec<u8> = page(alloc, config, &summary).ok()?;

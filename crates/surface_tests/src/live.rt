@@ -89,15 +89,15 @@ fn is_called<L: SiteName, R: Wait>(
 /// The same, from the configuration on.
 fn is_opened<R: Wait>(rt: &R, alloc: Global) -> Option<bool> {
     let config = read_config(alloc, TWO).ok()?;
-    let blank: Result<SiteBlank, OpenFault> = blank_site(rt, alloc, &config, NodeId(0), 0, 1, 1);
-    is_called::<Brand, R>(rt, alloc, &config, blank.ok()?)
+    let blank: SiteBlank = blank_site(rt, alloc, &config, NodeId(0), 0, 1, 1).ok()?;
+    is_called::<Brand, R>(rt, alloc, &config, blank)
 }
 
 /// Whether a record is added to a journal that is lent, and is no call of another seat.
 fn is_recorded<R: Wait>(rt: &R, alloc: Global) -> Option<bool> {
     let config = read_config(alloc, TWO).ok()?;
-    let blank = blank_site(rt, alloc, &config, NodeId(0), 0, 2, 0).ok()?;
-    let mut desk = blank.into_desk();
+    let blank: Result<SiteBlank, OpenFault> = blank_site(rt, alloc, &config, NodeId(0), 0, 2, 0);
+    let mut desk = blank.ok()?.into_desk();
     let added = add_record(rt, &mut desk, 1, Event::Boot { now: 0 }).is_ok();
     let (journal, _page) = desk.end(rt);
     Some(added && same_calls(journal.records(), 2, &[]).is_none())
