@@ -33,7 +33,7 @@ fn goes_on(alloc: Global, config: &Config, state: &State) -> Option<bool> {
         Opening::Shut => false,
         Opening::GiveUp => false,
     };
-    Some(opening && due)
+    Some(opening && !due)
 }
 
 /// Whether a board shows the same, before and after it takes the state up again.
