@@ -19,6 +19,7 @@ import re
 from collections import Counter, defaultdict
 from collections.abc import Iterator
 from dataclasses import dataclass, field
+from typing import List, Tuple
 
 from check import Config, spelled
 from live import READ, Asked, LiveReader, Phase, Run, phases_of
@@ -34,9 +35,9 @@ VERDICTS = [word.encode() for word in (START, FAILOVER, MOVE, TAKEOVER, KEPT, HA
 HEARSAY = {b"stop": ("NotStarted",), b"takeover": ("NotEligible", "NotRunning", "AlreadyHolder", "LowerPriority")}
 
 # Whether a node runs, and its last moment if it does.
-Moment = tuple[bool, int]
+Moment = Tuple[bool, int]
 OFF: Moment = (False, 0)
-Row = list[tuple[Asked, bytes]]
+Row = List[Tuple[Asked, bytes]]
 
 
 class Broken(Exception):
@@ -117,7 +118,7 @@ def after(config: Config, asked: Asked, answer: bytes, moment: Moment) -> Iterat
 # Orders
 
 # How many lines of each caller were answered.
-Places = tuple[int, ...]
+Places = Tuple[int, ...]
 
 
 def steps(config: Config, rows: list[Row], places: Places, moments: set[Moment]) -> Iterator[tuple[Places, set[Moment]]]:
