@@ -32,4 +32,5 @@ mod owed;
 mod pages;
 mod pairs;
 mod report;
+mod same_pages;
 mod seats;

@@ -67,6 +67,7 @@ fn report_of(
     ensures seats { IfOk result (λ r. SeatsHold r.closed) }
     ensures links { IfOk result (λ r. LinksHold (length phases.now) r.closed) }
     ensures pages { IfOk result (λ r. PagesHold config.now r.closed r.pages) }
+    ensures read { IfOk result (λ r. r.pages ≡ outcome.pages.items) }
     ensures callers { IfOk result (λ r. CallersHold phases.now r.answers r.closed) }
     ensures lines { IfOk result (λ r. AreAnswered phases.now r.answers) }
 {

@@ -1,6 +1,6 @@
 //! The journals and the last pages of all nodes.
 
-ghost use Rattle.std.specs.Prelude.{◌≡◌, ◌≤◌, true, IfOk, MatchOption, length};
+ghost use Rattle.std.specs.Prelude.{◌≡◌, ◌≤◌, IfOk, length};
 ghost use Rattle.dac_base.specs.declared.limits.TheConstants.{MAX_NODES};
 ghost use Rattle.dac_config.specs.Table.{node_count};
 ghost use Rattle.dac_live.specs.Nodes.{AreNodes, IsFirstOf, PagesHold, IsTrueOf, AreTrueOf, last_page_of};
@@ -11,23 +11,19 @@ use dac_config::Config;
 use dac_run::{Closed, Page, RunFault};
 use std::alloc::Global;
 
-// The last page of a node, if one was read, and it is that of the whole journal.
+// The page that was read last of a node, if it is that of the whole journal.
 fn page_of(
     alloc: Global,
     config: &Config,
     me: NodeId,
     closed: &Closed,
-    read: Option<&Page>,
+    read: &Page,
 ) -> Result<Page, RunFault>
     ensures page { IfOk result (λ page. page ≡ last_page_of config.now closed.now) }
-    ensures read { IfOk result
-        (λ page. MatchOption read.entry ⊥ (λ one. ⟦<Page as PartialEq>⟧.eq page one.now ≡ true)) }
+    ensures read { IfOk result (λ page. page ≡ read.now) }
     ensures history { IfOk result (λ _. IsTrueOf config.now closed.now) }
     ensures named { IfOk result (λ _. IsFirstOf me.0 closed.now) }
 {
-    let Some(read) = read else {
-        return Err(RunFault::NoPage { node: me });
-    };
     match last_page(alloc, config, me, closed, read) {
         Ok(Some(page)) => Ok(page),
         Ok(None) => Err(RunFault::NoPage { node: me }),
@@ -35,11 +31,17 @@ fn page_of(
     }
 }
 
-/// The last page of each node, after all records of its journal. The journals stand by name, and so do the pages that
-/// were read.
+// That the next node is missing, where so many were found.
+fn missing(found: usize, nodes: u8) -> RunFault {
+    let node = NodeId(found.min(usize::from(nodes)) as u8);
+    RunFault::NoPage { node }
+}
+
+/// The pages that were read last, if each is that after all records of its node's journal. The journals stand by name, and so do
+/// the pages.
 ///
-/// `NoPage` names the first node whose journal or page is missing, or isn't the one that it is to be. The only other error is
-/// [`NoMemory`](RunFault::NoMemory).
+/// `NoPage` names the first node whose journal is missing, or the first whose page is missing. If none is, it names the first node
+/// whose journal or page isn't the one that it is to be. The only other error is [`NoMemory`](RunFault::NoMemory).
 pub fn last_pages(
     alloc: Global,
     config: &Config,
@@ -47,19 +49,22 @@ pub fn last_pages(
     read: &[Page],
 ) -> Result<Vec<Page>, RunFault>
     ensures pages { IfOk result (λ all. PagesHold config.now closed.now all.items) }
+    ensures read { IfOk result (λ all. all.items ≡ read.now) }
     ensures histories { IfOk result (λ _. AreTrueOf config.now closed.now) }
     ensures nodes { IfOk result (λ _. AreNodes (node_count config.now) closed.now) }
     ensures few { IfOk result (λ _. length closed.now ≤ MAX_NODES) }
 {
     let nodes = usize::from(config.nodes());
     if closed.len() != nodes {
-        let node = NodeId(closed.len().min(nodes) as u8);
-        return Err(RunFault::NoPage { node });
+        return Err(missing(closed.len(), config.nodes()));
+    }
+    if read.len() != nodes {
+        return Err(missing(read.len(), config.nodes()));
     }
     let mut all = Vec::new(alloc);
     for i in 0..closed.len() {
         let one = &closed[i];
-        let page = page_of(alloc, config, NodeId(i as u8), one, read.get(i))?;
+        let page = page_of(alloc, config, NodeId(i as u8), one, &read[i])?;
         let Ok(()) = all.push(page) else {
             return Err(RunFault::NoMemory);
         };

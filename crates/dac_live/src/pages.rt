@@ -1,17 +1,19 @@
 //! The last page of a closed journal.
 
-ghost use Rattle.std.specs.Prelude.{◌≡◌, true, IfOk, IfSome};
+ghost use Rattle.std.specs.Prelude.{◌≡◌, IfOk, IfSome};
 ghost use Rattle.dac_run.specs.Journals.{beginning_of, AreHistory};
 ghost use Rattle.dac_run.specs.Paged.{page_after};
 
 use crate::histories::are_history;
+use crate::same_pages::same_page;
 use dac_base::{NoMemory, NodeId};
 use dac_config::Config;
 use dac_run::{Closed, Page, replay};
 use std::alloc::Global;
 
-/// The page after all records of the journal, of a node that had no incarnation before it. `None` where another page was read,
-/// or the journal is another node's, has earlier incarnations or is no history of the node. [`NoMemory`] is the only error.
+/// The page that was read, if it is that after all records of the journal, of a node that had no incarnation before it. `None`
+/// where it is another one, or the journal is another node's, has earlier incarnations or is no history of the node. [`NoMemory`]
+/// is the only error.
 pub fn last_page(
     alloc: Global,
     config: &Config,
@@ -21,8 +23,7 @@ pub fn last_page(
 ) -> Result<Option<Page>, NoMemory>
     ensures page { IfOk result (λ o. IfSome o
         (λ page. page ≡ page_after (beginning_of config.now me 0) closed.now.records)) }
-    ensures read { IfOk result
-        (λ o. IfSome o (λ page. ⟦<Page as PartialEq>⟧.eq page read.now ≡ true)) }
+    ensures read { IfOk result (λ o. IfSome o (λ page. page ≡ read.now)) }
     ensures history { IfOk result
         (λ o. IfSome o (λ _. AreHistory (beginning_of config.now me 0) closed.now.records)) }
     ensures named { IfOk result
@@ -32,7 +33,8 @@ pub fn last_page(
         return Ok(None);
     }
     let there = replay(alloc, config, me, 0, closed.records())?;
-    if there != *read {
+    let same = same_page(&there, read);
+    if !same {
         return Ok(None);
     }
     if !are_history(alloc, config, me, closed.records())? {

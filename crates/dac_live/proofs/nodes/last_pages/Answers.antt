@@ -13,6 +13,7 @@ loop-i-preserved c =
     let there : c.index-closed-i.result ≡ journal_at js c.loop-i.i = get_or_read js _ _ c.loop-i-test.true c.index-closed-i.is (record { beginning = nowhere; records = [] }) in
     record {
       pages = grind (arith, common_steps);
+      read = grind (arith, common_steps);
       histories = below_more (λ (k : ℕ). IsTrueOf t (journal_at js k)) c.loop-i.i c.loop-i.invariant.histories (subst (IsTrueOf t) there c.in_ok-page.ensures.history);
       nodes = grind (arith, common_steps);
     }
