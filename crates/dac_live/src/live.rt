@@ -1,6 +1,6 @@
 //! A run, and its report.
 
-ghost use Rattle.std.specs.Prelude.{◌≡◌, ◌<◌, ◌≤◌, All, Err, IfOk, OnOk, length};
+ghost use Rattle.std.specs.Prelude.{◌≡◌, ◌≢◌, ◌<◌, ◌≤◌, All, Err, IfOk, OnOk, length};
 ghost use Rattle.dac_base.specs.declared.limits.TheConstants.{MAX_NODES};
 ghost use Rattle.dac_config.specs.Table.{node_count};
 ghost use Rattle.dac_live.specs.Lines.{HasLines, AreAnswered, CallersHold};
@@ -55,6 +55,17 @@ fn check_callers(
     }
 }
 
+// The fault of a run of at most four nodes, which aren't too many. If they were taken for too many, nothing would run, and the
+// first node would leave no page.
+fn fault_of_few(why: RunFault) -> RunFault
+    ensures { result ≢ RunFault.TooManyNodes }
+{
+    match why {
+        RunFault::TooManyNodes => RunFault::NoPage { node: NodeId(0) },
+        _ => why,
+    }
+}
+
 // What came of a run, by its journals.
 fn report_of(
     alloc: Global,
@@ -91,11 +102,11 @@ fn report_of(
 /// Runs the phases at sites of all nodes, and reports what came of them. The report is read off the closed journals, and
 /// compared with them.
 ///
-/// `TooManyNodes` comes of more than four nodes, before anything runs. `NoThread`, `Open` and `Site` come of the run itself, as do
-/// `Close`, `NoPage`, `LinkLost` and `NoMemory`. `LinkLost` comes too where the journals differ on what a link carried. `NoPage`
-/// comes too where a node's journal or last page is missing, the page isn't that of the whole journal, or this is no history of
-/// the node. `Close` with a `Mismatch` comes too where a record is of a seat that no node has, at its place. It comes at place 0
-/// where the records of a caller's seat aren't what its lines ask, or a line lacks its answer.
+/// `TooManyNodes` comes of more than four nodes alone, before anything runs. `NoThread`, `Open` and `Site` come of the run
+/// itself, as do `Close`, `NoPage`, `LinkLost` and `NoMemory`. `LinkLost` comes too where the journals differ on what a link
+/// carried. `NoPage` comes too where a node's journal or last page is missing, the page isn't that of the whole journal, or
+/// this is no history of the node. `Close` with a `Mismatch` comes too where a record is of a seat that no node has, at its
+/// place. It comes at place 0 where the records of a caller's seat aren't what its lines ask, or a line lacks its answer.
 pub fn run_live<G: Gate, R: Threads + Wait + Sync>(
     rt: &R,
     alloc: Global,
@@ -121,10 +132,17 @@ pub fn run_live<G: Gate, R: Threads + Wait + Sync>(
     // Each line is answered: one that asks by an answer, and one that reads by a fresh or a stale page.
     ensures lines { IfOk result (λ r. AreAnswered phases.now r.answers) }
     ensures many { 4 < node_count config.now → result ≡ Err RunFault.TooManyNodes }
+    ensures few { result ≡ Err RunFault.TooManyNodes → 4 < node_count config.now }
 {
     if config.nodes() > MAX_SITES {
         return Err(RunFault::TooManyNodes);
     }
-    let outcome = run_sites(rt, alloc, config, phases, gate)?;
-    report_of(alloc, config, phases, outcome)
+    let outcome = match run_sites(rt, alloc, config, phases, gate) {
+        Ok(outcome) => outcome,
+        Err(why) => return Err(fault_of_few(why)),
+    };
+    match report_of(alloc, config, phases, outcome) {
+        Ok(report) => Ok(report),
+        Err(why) => Err(fault_of_few(why)),
+    }
 }
