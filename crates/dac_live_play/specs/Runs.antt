@@ -1,5 +1,5 @@
 -- What the run of a script was.
-use Rattle.std.specs.Prelude.{◌≡◌, ◌≢◌, ℕ, ◌<◌, List, length}
+use Rattle.std.specs.Prelude.{◌≡◌, ◌≢◌, ◌↔◌, ℕ, ◌<◌, List, length}
 use Rattle.dac_base.specs.declared.NodeId.{NodeId}
 use Rattle.dac_config.specs.Table.{Table, node_count}
 use Rattle.dac_events.specs.declared.WorldEvent.{WorldEvent}
@@ -53,9 +53,9 @@ pub record IsUnwovenAt (table : Table) (script : List LiveLine) (node : NodeId) 
   pub ends : IsUnwoven table report.closed node place
   pub none : (events : List WorldEvent) → IsRecorded table report.closed events → ⊥
 
--- Why a script isn't run to its end. More than four nodes are always the fault, unless memory was refused. Want of
--- memory is no fault of a run.
+-- Why a script isn't run to its end. More than four nodes are always the fault, and no fewer are, unless memory was
+-- refused. Want of memory is no fault of a run.
 abbrev pub IsFaultOf : Table → List LiveLine → PlayFault → Type 0
-IsFaultOf table script (fault.Run why) = (why ≢ run.NoMemory) × (4 < node_count table → why ≡ run.TooManyNodes)
+IsFaultOf table script (fault.Run why) = (why ≢ run.NoMemory) × (why ≡ run.TooManyNodes ↔ 4 < node_count table)
 IsFaultOf table script (fault.Unwoven node place) = IsUnwovenAt table script node place
 IsFaultOf table script fault.NoMemory = Unit {0}
