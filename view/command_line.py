@@ -8,7 +8,7 @@ from typing import IO, Callable
 
 from view.completion import bash_completion
 from view.config_warnings import warnings_on
-from view.distac import MODELS, Distac, found_distac
+from view.distac import MODELS, Distac, found_distac, nobody
 from view.gather import gather
 from view.help_texts import EPILOG, epilog_of
 from view.loading import Faulty, Loaded, answers_of, load_config, load_script
@@ -219,7 +219,8 @@ def run(arguments: list[str]) -> int:
         return Status.WRONG_USE
     output, progress = Output(), Progress()
     try:
-        status: Status = words.subcommand(watched(found_distac(words.distac), progress), words, output)
+        distac = nobody() if getattr(words, "print_command", None) else found_distac(words.distac)
+        status: Status = words.subcommand(watched(distac, progress), words, output)
         output.flush()
         return status
     except (Faulty, Problem) as ended:

@@ -92,6 +92,15 @@ def found_distac(named: str | None) -> Distac:
     return Distac(lambda word, source: run(program, word, source))
 
 
+def nobody() -> Distac:
+    """For what is printed without a question: there is no program, and none is looked for."""
+
+    def asked(word: str, _source: bytes) -> tuple[bytes, int]:
+        raise Problem(f"there is no program to be asked for distac {word}")
+
+    return Distac(asked)
+
+
 def runnable(path: str) -> str:
     """The program of this name or at this path."""
     program = shutil.which(path) if os.sep not in path else path

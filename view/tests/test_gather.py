@@ -288,7 +288,7 @@ class Use(unittest.TestCase):
         self.assertEqual(gather(*DESKS, "--reader", "mine").status, 2)
 
     def test_the_line_for_a_remote_shell(self) -> None:
-        line = view("gather", "--print-command").output
+        line = view("gather", "--print-command", "--distac", "/no/program").output
         self.assertIn("application:get_env(kernel,P)", line)
         self.assertEqual((line.count("\n"), line.count("'")), (1, 0))
         self.assertIn(":application.get_env(:kernel, p)", view("gather", "--print-command", "elixir").output)
