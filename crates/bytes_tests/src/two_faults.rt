@@ -642,11 +642,11 @@ const INTERVAL_ONE: &[u8] =
     b"\x02\x00\x00\x00\x00\x01\x01\x00\x00\x00\x01\x00\x00\x00\x00\x00\x00\x00\x07\x00";
 
 /// The same of a state in a message.
-type Within = (&'static [(usize, u8)], usize, WireFaultKind, usize);
+type InMessage = (&'static [(usize, u8)], usize, WireFaultKind, usize);
 
 /// Changes of the state with every part, whose first byte is byte 40 of its message. In the second row the bytes end behind
 /// what is known.
-const WITHIN: &[Within] = &[
+const WITHIN: &[InMessage] = &[
     (
         &[(101, 2), (102, 0), (152, 1)],
         418,
@@ -658,7 +658,7 @@ const WITHIN: &[Within] = &[
 ];
 
 /// The same in version 1, where it is byte 32.
-const WITHIN_ONE: &[Within] = &[
+const WITHIN_ONE: &[InMessage] = &[
     (
         &[(85, 2), (86, 0), (124, 1)],
         262,
