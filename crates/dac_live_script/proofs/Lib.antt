@@ -1,5 +1,2 @@
-mod Digits
-mod Roles
 mod LiveFaults
-mod LineByLine
-mod WholeInput
+mod LiveAccepted

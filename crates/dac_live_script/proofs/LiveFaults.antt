@@ -19,12 +19,12 @@ use Rattle.dac_script.specs.Faults.{script_number}
 use Rattle.dac_script.specs.Words.{bytes_in}
 use Rattle.dac_script.specs.Asked.{◌>>=◌, one, three, four, name_word, truth, actor, node_and_number, nodes_in, node_and_about, node_and_app, wish_in}
 use Rattle.dac_script.specs.Line as sim
-use Rattle.dac_script.specs.LineFaults.{Role, AreWrong, IsLeast}
+use Rattle.dac_script.specs.LineFaults.{Role, AreWrong, IsFaultless, IsLeast}
 use Rattle.dac_live_script.specs.declared.line.Deed.{Deed}
 use Rattle.dac_live_script.specs.declared.line.LiveLine.{LiveLine}
 use Rattle.dac_live_script.specs.LiveLines.{deed_in, is_caller_word, caller_of, tail_of, with_caller, phase_line, fed, live_line_of}
-use Rattle.dac_live_script.specs.LiveFaults.{plain_roles, asked_roles, IsForCaller, IsNoCaller, IsAskedWrong, IsCallerWrong, IsOtherWrong, HasFault, IsFaultless}
-use Rattle.dac_live_script.proofs.Roles.{Judges, said, none_left, are_low, miscounted, number_judged, about_judged, app_judged, one_judged, command_judged, permit_judged, drain_judged, feed_judged}
+use Rattle.dac_live_script.specs.LiveFaults.{plain_roles, asked_roles, IsForCaller, IsNoCaller, IsAskedWrong, IsCallerWrong, IsOtherWrong, HasFault}
+use Rattle.dac_script.specs.laws.Roles.{Judges, said, none_left, are_low, miscounted, number_judged, about_judged, app_judged, one_judged, command_judged, permit_judged, drain_judged, feed_judged}
 
 -- ---- what follows what was read
 
@@ -187,7 +187,7 @@ other_judged table first words = by (is_caller_word first) (AllPass-from_list_al
         (caller_judged (IsNoCaller first) (IsAskedWrong table words) (caller_of first) (tail_of table words) (caller_is first) (tail_judged table words))
     by false is not = record { has = inl (refl, λ digits. false≢true (not digits)); least = λ kind h. first_kind kind }
 
-pub judged : (table : Table) (line : List (List ℕ)) → MatchResult (live_line_of table line) (λ _. IsFaultless table line) (IsLeast (HasFault table line))
+pub judged : (table : Table) (line : List (List ℕ)) → MatchResult (live_line_of table line) (λ _. IsFaultless (HasFault table line)) (IsLeast (HasFault table line))
 judged table [] = record { has = refl; least = λ kind h. omega (arith, ap script_number h) }
 judged table (first ∷ words) =
     choose (Line table words) first (codes "phase") (phase_judged table words) (λ phase.
@@ -196,16 +196,16 @@ judged table (first ∷ words) =
     (other_judged table first words)))
 
 -- what is answered in place of what a line says
-pub faultless_of : (table : Table) (line : List (List ℕ)) (r : Result LiveLine ScriptFaultKind) → r ≡ live_line_of table line → IfOk r (λ _. IsFaultless table line)
-faultless_of table line r is = by r (subst (λ r. MatchResult r (λ _. IsFaultless table line) (IsLeast (HasFault table line))) (sym is) (judged table line))
+pub faultless_of : (table : Table) (line : List (List ℕ)) (r : Result LiveLine ScriptFaultKind) → r ≡ live_line_of table line → IfOk r (λ _. IsFaultless (HasFault table line))
+faultless_of table line r is = by r (subst (λ r. MatchResult r (λ _. IsFaultless (HasFault table line)) (IsLeast (HasFault table line))) (sym is) (judged table line))
   where
-    by : (r : Result LiveLine ScriptFaultKind) → MatchResult r (λ _. IsFaultless table line) (IsLeast (HasFault table line)) → IfOk r (λ _. IsFaultless table line)
+    by : (r : Result LiveLine ScriptFaultKind) → MatchResult r (λ _. IsFaultless (HasFault table line)) (IsLeast (HasFault table line)) → IfOk r (λ _. IsFaultless (HasFault table line))
     by (Ok said) fine = fine
     by (Err kind) least = tt
 
 pub least_of : (table : Table) (line : List (List ℕ)) (r : Result LiveLine ScriptFaultKind) → r ≡ live_line_of table line → IfErr r (IsLeast (HasFault table line))
-least_of table line r is = by r (subst (λ r. MatchResult r (λ _. IsFaultless table line) (IsLeast (HasFault table line))) (sym is) (judged table line))
+least_of table line r is = by r (subst (λ r. MatchResult r (λ _. IsFaultless (HasFault table line)) (IsLeast (HasFault table line))) (sym is) (judged table line))
   where
-    by : (r : Result LiveLine ScriptFaultKind) → MatchResult r (λ _. IsFaultless table line) (IsLeast (HasFault table line)) → IfErr r (IsLeast (HasFault table line))
+    by : (r : Result LiveLine ScriptFaultKind) → MatchResult r (λ _. IsFaultless (HasFault table line)) (IsLeast (HasFault table line)) → IfErr r (IsLeast (HasFault table line))
     by (Ok said) fine = tt
     by (Err kind) least = least

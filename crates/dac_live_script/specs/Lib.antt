@@ -1,4 +1,5 @@
 pub mod LiveLines
 pub mod LiveFaults
-pub mod LiveScripts
 pub mod LiveInputs
+pub mod LiveForms
+pub mod LiveInWords

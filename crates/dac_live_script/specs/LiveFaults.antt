@@ -61,7 +61,3 @@ abbrev pub HasFault : Table → List (List ℕ) → ScriptFaultKind → Type 0
 HasFault table [] kind = kind ≡ BadWord
 HasFault table (first ∷ words) kind =
     MatchOption (plain_roles first) (IsOtherWrong table first words kind) (λ roles. AreWrong table roles words kind)
-
--- a line without a fault
-abbrev pub IsFaultless : Table → List (List ℕ) → Type 0
-IsFaultless table line = (kind : ScriptFaultKind) → ¬ HasFault table line kind

@@ -2,9 +2,10 @@
 //! between phases.
 //!
 //! [`prepare_live`] reads a whole input, or says which fault it has. A script is read exactly, up to the first fault of
-//! the first line that has one. Nothing is run or printed here.
+//! the first line that has one. [`laws`] has what an accepted line is, in words. Nothing is run or printed here.
 #![tactic(auto)]
 
+pub mod laws;
 mod line;
 mod preparing;
 mod script;

@@ -2,8 +2,8 @@
 
 ghost use Rattle.std.specs.Prelude.{◌≡◌, ◌<◌, IfOk, IfErr, map};
 ghost use Rattle.dac_config.specs.Table.{node_count};
-ghost use Rattle.dac_script.specs.LineFaults.{IsLeast};
-ghost use Rattle.dac_live_script.specs.LiveFaults.{HasFault, IsFaultless};
+ghost use Rattle.dac_script.specs.LineFaults.{IsFaultless, IsLeast};
+ghost use Rattle.dac_live_script.specs.LiveFaults.{HasFault};
 ghost use Rattle.dac_live_script.specs.LiveLines.{deed_of, deed_in, is_deed_verb, is_caller_word, caller_of, read_line, deed_line, tail_of, phase_line, feed_line, with_caller, live_line_of, HasActors};
 
 use dac_base::{NoMemory, NodeId};
@@ -218,7 +218,8 @@ pub fn live_line_of(
     ensures line { IfOk result
         (λ said. said ≡ live_line_of config.now (map (λ word. word.now) words.now)) }
     ensures faultless { IfOk result
-        (λ said. IfOk said (λ _. IsFaultless config.now (map (λ word. word.now) words.now))) }
+        (λ said. IfOk said
+        (λ _. IsFaultless (HasFault config.now (map (λ word. word.now) words.now)))) }
     ensures least { IfOk result
         (λ said. IfErr said (IsLeast (HasFault config.now (map (λ word. word.now) words.now)))) }
     ensures actors { IfOk result (λ said. IfOk said (HasActors (node_count config.now))) }

@@ -3,9 +3,11 @@
 ghost use Rattle.std.specs.Prelude.{◌≡◌, IfOk, IfErr, IfSome, All};
 ghost use Rattle.dac_config.specs.Table.{node_count};
 ghost use Rattle.dac_script.specs.Input.{IsReadWithinBound};
+ghost use Rattle.dac_script.specs.Inputs.{HasParts, IsPartsFailure};
 ghost use Rattle.dac_script.specs.Sources.{IsReadBy};
-ghost use Rattle.dac_live_script.specs.LiveLines.{HasActors};
-ghost use Rattle.dac_live_script.specs.LiveInputs.{HasParts, IsPartsFailure, SaysLiveScript, IsFailureOf};
+ghost use Rattle.dac_live_script.specs.LiveLines.{live_line_of, HasActors};
+ghost use Rattle.dac_live_script.specs.LiveFaults.{HasFault};
+ghost use Rattle.dac_live_script.specs.LiveInputs.{SaysLiveScript, IsLiveFailureOf};
 
 use crate::line::LiveLine;
 use crate::script::read_live_script;
@@ -16,9 +18,9 @@ use std::io::Read;
 
 /// Reads both parts of an input: its configuration, and then its script.
 fn parts_of(alloc: Global, text: &[u8]) -> Result<(Config, Vec<LiveLine>), Failure>
-    ensures says { IfOk result (λ both. HasParts text.now both.0 both.1.items) }
+    ensures says { IfOk result (λ both. HasParts live_line_of HasFault text.now both.0 both.1.items) }
     ensures actors { IfOk result (λ both. All (HasActors (node_count both.0)) both.1.items) }
-    ensures fails { IfErr result (IsPartsFailure text.now) }
+    ensures fails { IfErr result (IsPartsFailure live_line_of HasFault text.now) }
 {
     let Some((config, script)) = split_input(text) else {
         return Err(Failure::Input(InputFault::NoScript));
@@ -37,7 +39,8 @@ pub fn prepare_live<R: Read>(
     ensures says { IfOk result
         (λ both. IfSome source.old.left (λ bytes. SaysLiveScript bytes both.0 both.1.items)) }
     ensures actors { IfOk result (λ both. All (HasActors (node_count both.0)) both.1.items) }
-    ensures fails { IfErr result (λ why. IfSome source.old.left (λ bytes. IsFailureOf bytes why)) }
+    ensures fails { IfErr result
+        (λ why. IfSome source.old.left (λ bytes. IsLiveFailureOf bytes why)) }
     ensures reads { IsReadBy result source.new }
     // However it ends, no more was read than the bound and one byte.
     ensures bound { IsReadWithinBound source.old.left source.new.left }

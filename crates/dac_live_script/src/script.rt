@@ -2,9 +2,9 @@
 
 ghost use Rattle.std.specs.Prelude.{◌≡◌, Ok, IfOk, IfErr, All};
 ghost use Rattle.dac_config.specs.Table.{node_count};
-ghost use Rattle.dac_script.specs.Script.{lines_of};
-ghost use Rattle.dac_live_script.specs.LiveLines.{HasActors};
-ghost use Rattle.dac_live_script.specs.LiveScripts.{line_in, ReadsAs, IsScriptFailure, IsLineFailure};
+ghost use Rattle.dac_script.specs.Script.{lines_of, line_in, ReadsAs, IsScriptFailure, IsLineFailure};
+ghost use Rattle.dac_live_script.specs.LiveLines.{live_line_of, HasActors};
+ghost use Rattle.dac_live_script.specs.LiveFaults.{HasFault};
 
 use crate::line::{LiveLine, live_line_of};
 use dac_config::Config;
@@ -18,9 +18,9 @@ fn read_line(
     number: usize,
     line: &[u8],
 ) -> Result<LiveLine, Failure>
-    ensures ok { IfOk result (λ said. line_in config.now line.now ≡ Ok said) }
+    ensures ok { IfOk result (λ said. line_in live_line_of config.now line.now ≡ Ok said) }
     ensures actors { IfOk result (HasActors (node_count config.now)) }
-    ensures fault { IfErr result (IsLineFailure config.now number line.now) }
+    ensures fault { IfErr result (IsLineFailure live_line_of config.now number line.now) }
 {
     let words = words_of(alloc, line)?;
     match live_line_of(alloc, config, &words)? {
@@ -39,9 +39,11 @@ pub fn read_live_script(
     config: &Config,
     text: &[u8],
 ) -> Result<Vec<LiveLine>, Failure>
-    ensures ok { IfOk result (λ script. ReadsAs config.now (lines_of text.now) script.items) }
+    ensures ok { IfOk result
+        (λ script. ReadsAs live_line_of HasFault config.now (lines_of text.now) script.items) }
     ensures actors { IfOk result (λ script. All (HasActors (node_count config.now)) script.items) }
-    ensures fault { IfErr result (IsScriptFailure config.now (lines_of text.now)) }
+    ensures fault { IfErr result
+        (IsScriptFailure live_line_of HasFault config.now (lines_of text.now)) }
 {
     let mut script = Vec::new(alloc);
     for (place, line) in text.split(|byte| *byte == b'\n').enumerate() {

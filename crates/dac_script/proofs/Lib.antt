@@ -1,6 +1,4 @@
-mod Digits
 mod LineFaults
-mod LineByLine
 mod Parting
-mod WholeInput
 mod ReadOn
+mod Accepted

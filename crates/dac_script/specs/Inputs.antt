@@ -1,5 +1,5 @@
--- What an input says, and why it says nothing.
-use Rattle.std.specs.Prelude.{◌≡◌, ◌≢◌, ℕ, ◌<◌, List, length, All, Err}
+-- What an input says, and why it says nothing: of a script of `sim` or of `live`.
+use Rattle.std.specs.Prelude.{◌≡◌, ◌≢◌, ℕ, ◌<◌, List, length, All, Result, Err}
 use Rattle.dac_tokens.specs.declared.fault.ConfigFault.{ConfigFault}
 use Rattle.dac_config.specs.Table.{Table}
 use Rattle.dac_config.specs.Says.{IsConfigOf}
@@ -9,17 +9,12 @@ use Rattle.dac_script.specs.declared.failure.Failure.TheVariants as failure
 use Rattle.dac_script.specs.declared.fault.InputFault.TheVariants.{TooLong, NoScript, Read}
 use Rattle.dac_script.specs.declared.fault.ScriptFault.{ScriptFault}
 use Rattle.dac_script.specs.declared.input.TheConstants.{MAX_INPUT}
+use Rattle.dac_script.specs.declared.fault.ScriptFaultKind.{ScriptFaultKind}
 use Rattle.dac_script.specs.declared.line.ScriptLine.{ScriptLine}
 use Rattle.dac_script.specs.Script.{lines_of, ReadsAs, IsFirstFault}
+use Rattle.dac_script.specs.Line.{line_of}
+use Rattle.dac_script.specs.LineFaults as sim
 use Rattle.dac_script.specs.Input.{IsTaken, divider, IsParted}
-
--- a text has two parts, which say this configuration and this script
-pub record HasParts (text : List ℕ) (table : Table) (lines : List ScriptLine) : Type 0 where
-  pub config : List ℕ
-  pub script : List ℕ
-  pub parted : IsParted text config script
-  pub table_is : IsConfigOf config table
-  pub lines_are : ReadsAs table (lines_of script) lines
 
 -- the configuration of a text has this fault
 pub record HasConfigFault (text : List ℕ) (fault : ConfigFault) : Type 0 where
@@ -28,36 +23,55 @@ pub record HasConfigFault (text : List ℕ) (fault : ConfigFault) : Type 0 where
   pub parted : IsParted text config script
   pub fault_is : config_at config ≡ Err fault
 
--- the configuration of a text has no fault, and its script has this one
-pub record HasScriptFault (text : List ℕ) (fault : ScriptFault) : Type 0 where
-  pub config : List ℕ
-  pub script : List ℕ
-  pub parted : IsParted text config script
-  pub table : Table
-  pub table_is : IsConfigOf config table
-  pub fault_is : IsFirstFault table (lines_of script) fault
+-- inputs in general, by what words say and by which kinds of fault they have
+module _ {Line : Type 0} (read : Table → List (List ℕ) → Result Line ScriptFaultKind)
+    (HasFault : Table → List (List ℕ) → ScriptFaultKind → Type 0) where
+  -- a text has two parts, which say this configuration and this script
+  pub record HasParts (text : List ℕ) (table : Table) (lines : List Line) : Type 0 where
+    pub config : List ℕ
+    pub script : List ℕ
+    pub parted : IsParted text config script
+    pub table_is : IsConfigOf config table
+    pub lines_are : ReadsAs read HasFault table (lines_of script) lines
 
--- why the parts of a text aren't read: it has only one, its configuration or its script has a fault, or memory is
--- refused
-abbrev pub IsPartsFailure : List ℕ → Failure → Type 0
-IsPartsFailure text (failure.Input TooLong) = ⊥
-IsPartsFailure text (failure.Input NoScript) = All (λ line. line ≢ divider) (lines_of text)
-IsPartsFailure text (failure.Input Read) = ⊥
-IsPartsFailure text (failure.Config fault) = HasConfigFault text fault
-IsPartsFailure text (failure.Script fault) = HasScriptFault text fault
-IsPartsFailure text failure.NoMemory = Unit {0}
+  -- the configuration of a text has no fault, and its script has this one
+  pub record HasScriptFault (text : List ℕ) (fault : ScriptFault) : Type 0 where
+    pub config : List ℕ
+    pub script : List ℕ
+    pub parted : IsParted text config script
+    pub table : Table
+    pub table_is : IsConfigOf config table
+    pub fault_is : IsFirstFault read HasFault table (lines_of script) fault
 
--- an input isn't too long, and says this configuration and this script
-pub record SaysScript (bytes : List ℕ) (table : Table) (lines : List ScriptLine) : Type 0 where
-  pub taken : IsTaken bytes
-  pub parts : HasParts bytes table lines
+  -- why the parts of a text aren't read: it has only one, its configuration or its script has a fault, or memory is
+  -- refused
+  abbrev pub IsPartsFailure : List ℕ → Failure → Type 0
+  IsPartsFailure text (failure.Input TooLong) = ⊥
+  IsPartsFailure text (failure.Input NoScript) = All (λ line. line ≢ divider) (lines_of text)
+  IsPartsFailure text (failure.Input Read) = ⊥
+  IsPartsFailure text (failure.Config fault) = HasConfigFault text fault
+  IsPartsFailure text (failure.Script fault) = HasScriptFault text fault
+  IsPartsFailure text failure.NoMemory = Unit {0}
 
--- Why an input isn't read. What it says is looked at only where it isn't too long. Of a failed read, and where memory
--- is refused, the input says nothing.
+  -- an input isn't too long, and says this configuration and this script
+  pub record SaysAll (bytes : List ℕ) (table : Table) (lines : List Line) : Type 0 where
+    pub taken : IsTaken bytes
+    pub parts : HasParts bytes table lines
+
+  -- Why an input isn't read. What it says is looked at only where it isn't too long. Of a failed read, and where memory
+  -- is refused, the input says nothing.
+  abbrev pub IsInputFailure : List ℕ → Failure → Type 0
+  IsInputFailure bytes (failure.Input TooLong) = MAX_INPUT < length bytes
+  IsInputFailure bytes (failure.Input NoScript) = IsTaken bytes × All (λ line. line ≢ divider) (lines_of bytes)
+  IsInputFailure bytes (failure.Input Read) = Unit {0}
+  IsInputFailure bytes (failure.Config fault) = IsTaken bytes × HasConfigFault bytes fault
+  IsInputFailure bytes (failure.Script fault) = IsTaken bytes × HasScriptFault bytes fault
+  IsInputFailure bytes failure.NoMemory = Unit {0}
+
+-- an input of `sim` isn't too long, and says this configuration and this script
+abbrev pub SaysScript : List ℕ → Table → List ScriptLine → Type 0
+SaysScript bytes table lines = SaysAll line_of sim.HasFault bytes table lines
+
+-- why an input of `sim` isn't read
 abbrev pub IsFailureOf : List ℕ → Failure → Type 0
-IsFailureOf bytes (failure.Input TooLong) = MAX_INPUT < length bytes
-IsFailureOf bytes (failure.Input NoScript) = IsTaken bytes × All (λ line. line ≢ divider) (lines_of bytes)
-IsFailureOf bytes (failure.Input Read) = Unit {0}
-IsFailureOf bytes (failure.Config fault) = IsTaken bytes × HasConfigFault bytes fault
-IsFailureOf bytes (failure.Script fault) = IsTaken bytes × HasScriptFault bytes fault
-IsFailureOf bytes failure.NoMemory = Unit {0}
+IsFailureOf bytes why = IsInputFailure line_of sim.HasFault bytes why

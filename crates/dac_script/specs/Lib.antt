@@ -9,3 +9,6 @@ pub mod Input
 pub mod Failures
 pub mod Inputs
 pub mod Limits
+pub mod Forms
+pub mod InWords
+pub mod laws

@@ -72,9 +72,9 @@ HasFault table [] kind = kind ≡ BadWord
 HasFault table (first ∷ words) kind =
     MatchOption (verb_of first) (kind ≡ BadWord) (λ verb. AreWrong table (roles_of verb) words kind)
 
--- a line without a fault
-abbrev pub IsFaultless : Table → List (List ℕ) → Type 0
-IsFaultless table line = (kind : ScriptFaultKind) → ¬ HasFault table line kind
+-- none of these kinds
+abbrev pub IsFaultless : (ScriptFaultKind → Type 0) → Type 0
+IsFaultless P = (kind : ScriptFaultKind) → ¬ P kind
 
 -- the least of these kinds
 pub record IsLeast (P : ScriptFaultKind → Type 0) (kind : ScriptFaultKind) : Type 0 where

@@ -1,7 +1,8 @@
 //! What an input of `distac sim` says: a configuration, a line `--`, and a script, line by line.
 //!
 //! [`prepare`] reads a whole input, or says which fault it has. An input is parted at its first line `--`. A script
-//! is read exactly, up to the first fault of the first line that has one. Nothing is played or printed here.
+//! is read exactly, up to the first fault of the first line that has one. [`laws`] has what an accepted line is, in words.
+//! Nothing is played or printed here.
 #![tactic(auto)]
 
 mod asked;
@@ -9,6 +10,7 @@ mod byte_list;
 mod failure;
 mod fault;
 mod input;
+pub mod laws;
 mod line;
 mod preparing;
 mod script;

@@ -2,7 +2,8 @@
 
 ghost use Rattle.std.specs.Prelude.{◌≡◌, IfOk, IfErr, IfSome, All};
 ghost use Rattle.dac_config.specs.Table.{node_count};
-ghost use Rattle.dac_script.specs.Line.{HasActors};
+ghost use Rattle.dac_script.specs.Line.{line_of, HasActors};
+ghost use Rattle.dac_script.specs.LineFaults.{HasFault};
 ghost use Rattle.dac_script.specs.Inputs.{HasParts, IsPartsFailure, SaysScript, IsFailureOf};
 ghost use Rattle.dac_script.specs.Input.{IsReadWithinBound};
 ghost use Rattle.dac_script.specs.Sources.{IsReadBy};
@@ -19,9 +20,9 @@ use std::io::Read;
 
 /// Reads both parts of an input: its configuration, and then its script.
 fn parts_of(alloc: Global, text: &[u8]) -> Result<(Config, Vec<ScriptLine>), Failure>
-    ensures says { IfOk result (λ both. HasParts text.now both.0 both.1.items) }
+    ensures says { IfOk result (λ both. HasParts line_of HasFault text.now both.0 both.1.items) }
     ensures actors { IfOk result (λ both. All (HasActors (node_count both.0)) both.1.items) }
-    ensures fails { IfErr result (IsPartsFailure text.now) }
+    ensures fails { IfErr result (IsPartsFailure line_of HasFault text.now) }
 {
     let Some((config, script)) = split_input(text) else {
         return Err(Failure::Input(InputFault::NoScript));

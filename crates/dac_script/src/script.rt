@@ -2,7 +2,8 @@
 
 ghost use Rattle.std.specs.Prelude.{◌≡◌, IfOk, IfErr, All};
 ghost use Rattle.dac_config.specs.Table.{node_count};
-ghost use Rattle.dac_script.specs.Line.{HasActors};
+ghost use Rattle.dac_script.specs.Line.{line_of, HasActors};
+ghost use Rattle.dac_script.specs.LineFaults.{HasFault};
 ghost use Rattle.dac_script.specs.Script.{lines_of, is_said, line_in, ReadsAs, IsScriptFailure, IsLineFailure};
 
 use crate::failure::Failure;
@@ -29,9 +30,9 @@ fn read_line(
     number: usize,
     line: &[u8],
 ) -> Result<ScriptLine, Failure>
-    ensures ok { IfOk result (λ said. line_in config.now line.now ≡ Ok said) }
+    ensures ok { IfOk result (λ said. line_in line_of config.now line.now ≡ Ok said) }
     ensures actors { IfOk result (HasActors (node_count config.now)) }
-    ensures fault { IfErr result (IsLineFailure config.now number line.now) }
+    ensures fault { IfErr result (IsLineFailure line_of config.now number line.now) }
 {
     let words = words_of(alloc, line)?;
     match line_of(alloc, config, &words)? {
@@ -46,9 +47,10 @@ fn read_line(
 /// The first line that has a fault is answered, with the first kind of fault that it has. `NoMemory` comes only where
 /// memory is refused before a fault is met.
 pub fn read_script(alloc: Global, config: &Config, text: &[u8]) -> Result<Vec<ScriptLine>, Failure>
-    ensures ok { IfOk result (λ script. ReadsAs config.now (lines_of text.now) script.items) }
+    ensures ok { IfOk result
+        (λ script. ReadsAs line_of HasFault config.now (lines_of text.now) script.items) }
     ensures actors { IfOk result (λ script. All (HasActors (node_count config.now)) script.items) }
-    ensures fault { IfErr result (IsScriptFailure config.now (lines_of text.now)) }
+    ensures fault { IfErr result (IsScriptFailure line_of HasFault config.now (lines_of text.now)) }
 {
     let mut script = Vec::new(alloc);
     for (place, line) in text.split(|byte| *byte == b'\n').enumerate() {

@@ -9,8 +9,6 @@ mod command_lines;
 #[cfg(test)]
 mod configs;
 #[cfg(test)]
-mod examples;
-#[cfg(test)]
 mod faults;
 #[cfg(test)]
 mod lives;

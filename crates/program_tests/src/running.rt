@@ -1,6 +1,5 @@
 //! Runs of the program.
 use crate::configs::CASES;
-use crate::examples::EXAMPLES;
 use crate::faults::{CONFIG_FAULTS, INPUT_FAULTS, SCRIPT_FAULTS};
 use crate::lives::{LIVES, PHASES, PHASES_PRINTED};
 use crate::placements::PLACEMENTS;
@@ -128,16 +127,6 @@ fn plays_scripts_of_wires(rt: HostRuntime) {
         assert!(rt;
             plays(&rt, rt.alloc(), config, script, 0, printed),
             "{script}"
-        );
-    }
-}
-
-#[test]
-fn prints_what_stands_beside_each_example(rt: HostRuntime) {
-    for (word, input, printed) in EXAMPLES {
-        assert!(rt;
-            prints(&rt, rt.alloc(), word, input.as_bytes(), 0, printed),
-            "{input}"
         );
     }
 }

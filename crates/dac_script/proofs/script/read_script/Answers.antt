@@ -6,9 +6,11 @@ use Rattle.std.proofs.lemmas.Iterator.Consumers.{YieldsList-at, YieldsList-from_
 use Rattle.std.proofs.lemmas.Iterator.Splits.{YieldsList-from_slice_split}
 use Rattle.std.proofs.lemmas.List.FromFn.{length-enumerate_from}
 use Rattle.dac_config.specs.Table.{node_count}
-use Rattle.dac_script.specs.Line.{HasActors}
+use Rattle.dac_script.specs.Line.{line_of, HasActors}
+use Rattle.dac_script.specs.LineFaults.{HasFault}
 use Rattle.dac_script.specs.Script.{lines_of}
-use Rattle.dac_script.proofs.LineByLine.{reads_silent, reads_more, reads_all, turn_at, script_fails}
+use Rattle.dac_script.proofs.LineFaults.{judged}
+use Rattle.dac_script.specs.laws.LineByLine.{reads_silent, reads_more, reads_all, turn_at, script_fails}
 use Rattle.dac_script.proofs.script.read_script.Goals as goal
 
 pub returns-in_err-read_line-clause-fault : goal.returns-in_err-read_line-clause-fault
@@ -16,14 +18,14 @@ returns-in_err-read_line-clause-fault c =
     let t = YieldsList-turn (YieldsList-from_enumerate (YieldsList-at (search rules) (YieldsList-from_slice_split {s = c.split.result} _ (λ b. eqb b 10) c.args.text.now c.split.ensures.rest c.split.ensures.done c.split.ensures.closure (λ x r q k. search (rules, tests)))) (search rules)) c.loop-place.yielded _ c.loop-place.yielded_by _ _ (c.in-Some.place, c.in-Some.line) c.in-Some.is c.next.ensures.steps in
     let turn = turn_at (lines_of c.args.text.now) _ _ _ t in
     let p = err_from_is_err_and c.from_residual.result c.from_residual.ensures.1 in
-    rw (p.1, p.2) (script_fails c.args.config.now (lines_of c.args.text.now) c.loop-place.script.items _ _ _ _ turn (sym c.if-is_said.ensures) c.in_err-read_line.ensures.fault c.loop-place.invariant.reads)
+    rw (p.1, p.2) (script_fails line_of HasFault judged c.args.config.now (lines_of c.args.text.now) c.loop-place.script.items _ _ _ _ turn (sym c.if-is_said.ensures) c.in_err-read_line.ensures.fault c.loop-place.invariant.reads)
 
 pub loop-place-preserved-in_ok-push : goal.loop-place-preserved-in_ok-push
 loop-place-preserved-in_ok-push c =
     let t = YieldsList-turn (YieldsList-from_enumerate (YieldsList-at (search rules) (YieldsList-from_slice_split {s = c.split.result} _ (λ b. eqb b 10) c.args.text.now c.split.ensures.rest c.split.ensures.done c.split.ensures.closure (λ x r q k. search (rules, tests)))) (search rules)) c.loop-place.yielded _ c.loop-place.yielded_by _ _ (c.in-Some.place, c.in-Some.line) c.in-Some.is c.next.ensures.steps in
     let turn = turn_at (lines_of c.args.text.now) _ _ _ t in
     record {
-      reads = rw (length_push, c.in_ok-push.ensures.items) (reads_more c.args.config.now (lines_of c.args.text.now) c.loop-place.script.items _ c.in-Some.line.now c.in_ok-read_line.field-0 turn.within turn.line_is (sym c.if-is_said.ensures) c.in_ok-read_line.ensures.ok c.loop-place.invariant.reads);
+      reads = rw (length_push, c.in_ok-push.ensures.items) (reads_more line_of HasFault judged c.args.config.now (lines_of c.args.text.now) c.loop-place.script.items _ c.in-Some.line.now c.in_ok-read_line.field-0 turn.within turn.line_is (sym c.if-is_said.ensures) c.in_ok-read_line.ensures.ok c.loop-place.invariant.reads);
       actors = rw c.in_ok-push.ensures.items (All-push (HasActors (node_count c.args.config.now)) _ _ c.loop-place.invariant.actors c.in_ok-read_line.ensures.actors);
     }
 
@@ -32,11 +34,11 @@ loop-place-preserved c =
     let t = YieldsList-turn (YieldsList-from_enumerate (YieldsList-at (search rules) (YieldsList-from_slice_split {s = c.split.result} _ (λ b. eqb b 10) c.args.text.now c.split.ensures.rest c.split.ensures.done c.split.ensures.closure (λ x r q k. search (rules, tests)))) (search rules)) c.loop-place.yielded _ c.loop-place.yielded_by _ _ (c.in-Some.place, c.in-Some.line) c.in-Some.is c.next.ensures.steps in
     let turn = turn_at (lines_of c.args.text.now) _ _ _ t in
     record {
-      reads = rw length_push (reads_silent c.args.config.now (lines_of c.args.text.now) c.loop-place.script.items _ c.in-Some.line.now turn.within turn.line_is (sym c.if-is_said.ensures) c.loop-place.invariant.reads);
+      reads = rw length_push (reads_silent line_of HasFault judged c.args.config.now (lines_of c.args.text.now) c.loop-place.script.items _ c.in-Some.line.now turn.within turn.line_is (sym c.if-is_said.ensures) c.loop-place.invariant.reads);
       actors = c.loop-place.invariant.actors;
     }
 
 pub returns-clause-ok : goal.returns-clause-ok
 returns-clause-ok c =
     let t = YieldsList-end (YieldsList-from_enumerate (YieldsList-at (search rules) (YieldsList-from_slice_split {s = c.split.result} _ (λ b. eqb b 10) c.args.text.now c.split.ensures.rest c.split.ensures.done c.split.ensures.closure (λ x r q k. search (rules, tests)))) (search rules)) c.loop-place.yielded _ c.loop-place.yielded_by _ _ c.in-None.is c.next.ensures.steps in
-    reads_all c.args.config.now (lines_of c.args.text.now) c.loop-place.script.items (length c.loop-place.yielded) (omega (arith, t.1, length-enumerate_from 0 (lines_of c.args.text.now))) c.loop-place.invariant.reads
+    reads_all line_of HasFault judged c.args.config.now (lines_of c.args.text.now) c.loop-place.script.items (length c.loop-place.yielded) (omega (arith, t.1, length-enumerate_from 0 (lines_of c.args.text.now))) c.loop-place.invariant.reads

@@ -1,5 +1,5 @@
--- Words in their roles, behind what a caller asks for and behind `feed`. They are read where they have no fault, and are
--- else answered the least kind of their faults. The reader looks for faults in the order of their kinds. Behind each look
+-- Words in their roles, for scripts of `sim` and of `live`. They are read where they have no fault, and are else answered
+-- the least kind of their faults. The reader looks for faults in the order of their kinds. Behind each look
 -- no fault of the words is below the kinds that are still to come.
 use Rattle.std.proofs.Common.{◌≡◌, ℕ, zero, suc, ◌<◌, ◌≤◌, Bool, true, false, List, [], ◌∷◌, length, get_or, Option, Some, None, Result, Ok, Err, refl, sym, ap, subst, ◌∙◌, arith, inl, inr, cond}
 use Rattle.std.specs.Prelude.{◌≢◌, codes, is_some}
@@ -19,14 +19,14 @@ use Rattle.dac_script.specs.declared.line.ScriptLine.{ScriptLine}
 use Rattle.dac_script.specs.Faults.{script_number}
 use Rattle.dac_script.specs.Words.{name_in, number_in, bytes_in}
 use Rattle.dac_script.specs.Asked.{◌>>=◌, one, three, name_word, truth, actor, node_and_number, nodes_in, node_and_about, node_and_app, wish_in}
-use Rattle.dac_script.specs.Line.{permit_line, drain_line, feed_line}
-use Rattle.dac_script.specs.LineFaults.{Role, IsNoFlag, IsNoHex, IsWrong, AreWrong, IsLeast}
+use Rattle.dac_script.specs.Line.{permit_line, drain_line, same_line, bytes_line, feed_line}
+use Rattle.dac_script.specs.LineFaults.{Role, IsNoFlag, IsNoHex, IsWrong, AreWrong, IsFaultless, IsLeast}
 use Rattle.dac_script.specs.LineFaults.Role.{Actor, Application, About, Number, Flag, Hex}
-use Rattle.dac_live_script.proofs.Digits.{no_bytes, some_bytes}
+use Rattle.dac_script.specs.laws.Digits.{no_bytes, some_bytes}
 
--- what is answered, where a line has these kinds of fault
+-- what is answered if a line has these kinds of fault
 abbrev pub Judges : {X : Type 0} → (ScriptFaultKind → Type 0) → Result X ScriptFaultKind → Type 0
-Judges P result = MatchResult result (λ _. (kind : ScriptFaultKind) → ¬ P kind) (IsLeast P)
+Judges P result = MatchResult result (λ _. IsFaultless P) (IsLeast P)
 
 -- none of these kinds has a lower number
 abbrev Low : ℕ → (ScriptFaultKind → Type 0) → Type 0
@@ -277,3 +277,29 @@ module _ (table : Table) where
       look P BadHex (bytes_in a) _ (are_low 6 roles words refl (hex_low a, tt)) (λ none. inr (0, (Hex, a), omega arith, refl, (refl, no_bytes a none))) (λ bytes is.
       none_left P (are_low 7 roles words refl (hex_given a bytes is, tt)))
   feed_judged (a ∷ b ∷ words) = miscounted (Hex ∷ []) (a ∷ b ∷ words) (λ e. absurd (omega (arith, e)))
+
+  pub same_judged : (words : List (List ℕ)) → Judges (AreWrong table (Actor ∷ Actor ∷ []) words) (same_line table words)
+  same_judged [] = miscounted (Actor ∷ Actor ∷ []) [] (λ e. absurd (omega (arith, e)))
+  same_judged (a ∷ []) = miscounted (Actor ∷ Actor ∷ []) (a ∷ []) (λ e. absurd (omega (arith, e)))
+  same_judged (a ∷ b ∷ []) =
+      let roles = Actor ∷ Actor ∷ [] in
+      let words = a ∷ b ∷ [] in
+      let P = AreWrong table roles words in
+      let low = are_low 3 roles words refl (all_low roles words) in
+      look P BadName (name_in a) _ low (λ none. inr (0, (Actor, a), omega arith, refl, inl (refl, none))) (λ name is.
+      look P BadName (name_in b) _ low (λ none. inr (1, (Actor, b), omega arith, refl, inl (refl, none))) (λ other also.
+      let named = are_low 5 roles words refl (actor_named a name is, (actor_named b other also, tt)) in
+      look P UnknownActor (node_named table name) _ named (λ none. inr (0, (Actor, a), omega arith, refl, actor_unknown a name is none)) (λ node known.
+      look P UnknownActor (node_named table other) _ named (λ none. inr (1, (Actor, b), omega arith, refl, actor_unknown b other also none)) (λ second seen.
+      none_left P (are_low 7 roles words refl (actor_known a name is node known, (actor_known b other also second seen, tt)))))))
+  same_judged (a ∷ b ∷ c ∷ words) = miscounted (Actor ∷ Actor ∷ []) (a ∷ b ∷ c ∷ words) (λ e. absurd (omega (arith, e)))
+
+  pub bytes_judged : (words : List (List ℕ)) → Judges (AreWrong table (Number ∷ []) words) (bytes_line words)
+  bytes_judged [] = miscounted (Number ∷ []) [] (λ e. absurd (omega (arith, e)))
+  bytes_judged (a ∷ []) =
+      let roles = Number ∷ [] in
+      let words = a ∷ [] in
+      let P = AreWrong table roles words in
+      look P BadNumber (number_in a) _ (are_low 4 roles words refl (number_low a, tt)) (λ none. inr (0, (Number, a), omega arith, refl, (refl, none))) (λ n is.
+      none_left P (are_low 7 roles words refl (given BadNumber (number_in a) n is, tt)))
+  bytes_judged (a ∷ b ∷ words) = miscounted (Number ∷ []) (a ∷ b ∷ words) (λ e. absurd (omega (arith, e)))

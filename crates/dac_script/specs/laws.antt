@@ -1,0 +1,8 @@
+pub mod Digits
+pub mod Roles
+pub mod LineByLine
+pub mod WholeInput
+pub mod Atoms
+pub mod Numbers
+pub mod Spaces
+pub mod Looks
