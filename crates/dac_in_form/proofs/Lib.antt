@@ -1,2 +1,9 @@
+mod MayIssue
 mod MeaningForm
 mod HeldForm
+mod Commands
+mod Claims
+mod Heads
+mod Deeds
+mod Runs
+mod ReadAgain

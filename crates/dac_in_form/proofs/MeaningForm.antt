@@ -16,7 +16,7 @@ use Rattle.dac_base.specs.declared.AppId.{AppId}
 use Rattle.dac_base.specs.laws.Ids.{nodes_total, exact_nodes, apps_total, exact_apps}
 use Rattle.dac_origins.specs.declared.dot.Dot.{Dot}
 use Rattle.dac_origins.specs.declared.dot.Origin.{Origin}
-use Rattle.dac_origins.specs.Dots.{dot_cmp}
+use Rattle.dac_origins.specs.Dots.{dot, dot_cmp}
 use Rattle.dac_origins.specs.Keys.{has_key}
 use Rattle.dac_origins.specs.laws.Dots.{exact_dots}
 use Rattle.dac_lattice.specs.declared.flags.Flag.{Flag}
@@ -44,7 +44,9 @@ use Rattle.dac_part_bytes.specs.ChainForm.{IsLifeInForm, IsClaimInForm as IsClai
 use Rattle.dac_part_bytes.specs.KeyedForm.{IsKey, IsKnownDot, IsKnownWrite}
 use Rattle.dac_state.specs.StateForm.{IsInForm}
 use Rattle.dac_wire.specs.Form.{IsAct, IsClaimInForm}
+use Rattle.dac_model_node.specs.Step.{up as boot_of}
 use Rattle.dac_in_form.specs.InForm.{StateFits, AreInForm}
+use Rattle.dac_in_form.proofs.MayIssue.{MayIssue}
 
 none_some : {X : Type 0} {v : X} {Y : Type 0} → ◌≡◌ {A = Option X} None (Some v) → Y
 none_some e = cc
@@ -167,4 +169,13 @@ module _ (t : Table) (os : List Operation) (agree : DotsDetermine os) (form : Ar
       lives = record { each = of_entries nodes_total exact_nodes (IsLifeInForm Two nodes) s.lives life_in_form; count = fits.lives };
       claims = record { each = of_entries apps_total exact_apps (IsClaimEntry Two t) s.claims claim_in_form; count = fits.claims };
       drains = record { each = drain_in_form; keys = fits.drains.keys; dots = fits.drains.dots };
+    }
+
+    -- so an incarnation that knows these operations issues operations in form
+    pub may_issue : (own : Origin) → IsOrigin Two nodes own → IsOperationOf (boot_of own) os → MayIssue t own s
+    may_issue own is booted = record {
+      claim = record { origin = is; knows = (known os (dot own 1)).1 (boot_of own, (booted, inl refl)); claimers = λ app c e. (claim_in_form app c e).origin.node };
+      state = states os;
+      known = known_dots;
+      lives = λ node l e. (life_in_form node l e).inc;
     }

@@ -1,2 +1,4 @@
 pub mod InForm
 pub mod HeldForm
+pub mod Issued
+pub mod ReadAgain

@@ -1,0 +1,104 @@
+-- What a tick claims is in form. A candidate is in the application's list, and what is taken was held by a node.
+use Rattle.std.proofs.Common.{◌≡◌, ℕ, ◌<◌, true, false, nat_eq, List, [], ◌∷◌, Option, Some, refl, sym, ap, subst, ◌∙◌, inl, inr, true≢false, eq-eqb}
+use Rattle.std.specs.FinMap as map
+use Rattle.std.proofs.lemmas.Map.Views.{exact_unsigned_eq}
+use Rattle.dac_base.specs.declared.NodeId.{NodeId}
+use Rattle.dac_base.specs.declared.AppId.{AppId}
+use Rattle.dac_origins.specs.declared.dot.Origin.{Origin}
+use Rattle.dac_chains.specs.declared.claims.Claim.{Claim as ClaimValue}
+use Rattle.dac_chains.specs.declared.claims.How.{How}
+use Rattle.dac_operations.specs.declared.act.Act.{Act}
+use Rattle.dac_operations.specs.declared.act.Act.TheVariants.{Claim as Claims}
+use Rattle.dac_operations.specs.Operations.{Operation, operation}
+use Rattle.dac_meaning.specs.StateValue.{StateValue, join}
+use Rattle.dac_meaning.specs.Meaning.{IsOperationOf, meaning_of}
+use Rattle.dac_config.specs.Table.{Table, node_count, app_count}
+use Rattle.dac_placement.specs.declared.verdicts.Verdict.{Verdict}
+use Rattle.dac_placement.specs.declared.verdicts.Verdict.TheVariants.{Start, Failover, Halted, Move, Takeover, Kept, Nobody}
+use Rattle.dac_placement.specs.Placement.{IsFirst, IsVerdict, candidate_of}
+use Rattle.dac_decide.specs.FailoverWait.{Note, IsHeldAt}
+use Rattle.dac_bytes.specs.declared.version.Version.TheVariants.{Two}
+use Rattle.dac_part_bytes.specs.ChainForm.{IsFromFor}
+use Rattle.dac_wire.specs.Form.{IsOperation}
+use Rattle.dac_commands.specs.Commands.{claim_act, next_operation}
+use Rattle.dac_commands.specs.laws.Counters.{next-is}
+use Rattle.dac_commands.specs.laws.Terms.{next_term_only}
+use Rattle.dac_ticks.specs.InWords.{IsMine, IsClaimOf, ComesBy, IsTurn}
+use Rattle.dac_ticks.specs.laws.Claimed.{own_claim, other_claim}
+use Rattle.dac_ticks.specs.laws.Counters.{knows_after}
+use Rattle.dac_ticks.specs.laws.Turning.{AreBelow}
+use Rattle.dac_model_node.specs.laws.Options.{some_same}
+use Rattle.dac_model_world.specs.laws.Carried.{none_some}
+use Rattle.dac_in_form.specs.InForm.{AreInForm}
+use Rattle.dac_in_form.proofs.MayIssue.{MayClaim, claim_is}
+
+-- one operation in form, and more
+pub one_more : (t : Table) (o : Operation) (os : List Operation) → IsOperation Two t o → AreInForm t os → AreInForm t (o ∷ os)
+one_more t o os first rest x (inl e) = subst (IsOperation Two t) (sym e) first
+one_more t o os first rest x (inr i) = rest x i
+
+module _ (t : Table) (s : StateValue) (app : AppId) where
+  -- whoever is a candidate is the first choice
+  first_of : (verdict : Verdict) (n : NodeId) → IsVerdict t s app verdict → candidate_of verdict ≡ Some n → IsFirst t s app n
+  first_of (Start m) n is e = subst (IsFirst t s app) (some_same m n e) is.1
+  first_of (Failover m) n is e = subst (IsFirst t s app) (some_same m n e) is.1
+  first_of (Halted m) n is e = none_some e
+  first_of (Move m) n is e = subst (IsFirst t s app) (some_same m n e) is.1
+  first_of (Takeover m) n is e = subst (IsFirst t s app) (some_same m n e) is.2
+  first_of (Kept m) n is e = none_some e
+  first_of Nobody n is e = none_some e
+
+module _ (t : Table) (own : Origin) (s : StateValue) (may : MayClaim t own s) (app : AppId) where
+  holder_there : (holder : NodeId) → IsHeldAt s app holder → holder.0 < node_count t
+  holder_there holder held = subst (λ (n : NodeId). n.0 < node_count t) held.2 (may.claimers app held.0 held.1)
+
+  -- where a claim comes from fits how it comes
+  from_is : (verdict : Verdict) (how : How) (from : Option NodeId) → ComesBy s app verdict how from → IsFromFor (node_count t) how from
+  from_is (Start n) how from by = subst (λ h. IsFromFor (node_count t) h from) (sym by.0) by.1
+  from_is (Failover n) how from by = subst (λ h. IsFromFor (node_count t) h from) (sym by.0) (by.1, by.2.1, holder_there by.1 by.2.0)
+  from_is (Halted n) how from by = absurd by
+  from_is (Move n) how from by = subst (λ h. IsFromFor (node_count t) h from) (sym by.0) by.1
+  from_is (Takeover n) how from by = subst (λ h. IsFromFor (node_count t) h from) (sym by.0) (by.1, by.2.1, holder_there by.1 by.2.0)
+  from_is (Kept n) how from by = absurd by
+  from_is Nobody how from by = absurd by
+
+  module _ (how : How) (from : Option NodeId) where
+    abbrev after : StateValue
+    after = join s (meaning_of (next_operation s own (claim_act s app how from) ∷ []))
+
+    -- who made the claims that stand after a claim by the incarnation
+    claimers_after : (b : AppId) (c : ClaimValue) → map.get after.claims b ≡ Some c → c.origin.node.0 < node_count t
+    claimers_after b c e = elim (nat_eq b.0 app.0) as (λ same. nat_eq b.0 app.0 ≡ same → c.origin.node.0 < node_count t) [
+      | true ↦ λ same.
+          let here : b ≡ app = ap (λ k. record { 0 = k }) (exact_unsigned_eq b.0 app.0 same) in
+          let claim = some_same _ c (sym (own_claim own s app how from) ∙ (ap (λ (a : AppId). map.get after.claims a) (sym here) ∙ e)) in
+          subst (λ (x : ClaimValue). x.origin.node.0 < node_count t) claim may.origin.node
+      | false ↦ λ other. may.claimers b c (sym (other_claim own s app how from b (λ same. true≢false (sym (eq-eqb b.0 app.0 same) ∙ other))) ∙ e)
+    ] refl
+
+    may_after : MayClaim t own after
+    may_after = record { origin = may.origin; knows = knows_after own s (claim_act s app how from) refl may.knows; claimers = claimers_after }
+
+  module _ (named : app.0 < app_count t) (notes : List Note) (now : ℕ) (verdict : Verdict) (o : Operation) (mine : IsMine t own notes now s app verdict) (claim : IsClaimOf own s app verdict o) where
+    claimed_is : IsOperation Two t o
+    claimed_is = subst (λ (a : Act). IsOperation Two t (operation o.dot a)) (sym claim.claims.is)
+        (claim_is t own s may o.dot claim.dot app claim.claims.term claim.how claim.from claim.claims.next claim.claims.at_most named (first_of t s app verdict own.node mine.verdict_is mine.candidate).eligible.listed (from_is verdict claim.how claim.from claim.comes))
+
+    same_claim : next_operation s own (claim_act s app claim.how claim.from) ≡ o
+    same_claim = λ i. record { dot = sym (next-is s.known own o.dot claim.dot) i; act = sym (claim.claims.is ∙ ap (λ (n : ℕ). Claims app n claim.how claim.from) (next_term_only s app claim.claims.term claim.claims.next)) i }
+
+    may_go_on : MayClaim t own (join s (meaning_of (o ∷ [])))
+    may_go_on = subst (λ (x : Operation). MayClaim t own (join s (meaning_of (x ∷ [])))) same_claim (may_after claim.how claim.from)
+
+-- each claim of a turn is in form
+pub turn_is : (t : Table) (own : Origin) (notes : List Note) (now : ℕ) (apps : List AppId) → AreBelow (app_count t) apps → (s : StateValue) → MayClaim t own s → (ops : List Operation) (passed : List AppId) → IsTurn t own notes now s apps ops passed → AreInForm t ops
+turn_is t own notes now [] below s may ops passed turn = λ o i. absurd (subst (IsOperationOf o) turn.0 i)
+turn_is t own notes now (app ∷ apps) below s may ops passed (inl left) = turn_is t own notes now apps below.1 s may ops passed left.1
+turn_is t own notes now (app ∷ apps) below s may ops passed (inr (inl claimed)) =
+    let o = claimed.1 in
+    let mine = claimed.3.1.0 in
+    let claim = claimed.3.1.1.0 in
+    subst (AreInForm t) (sym claimed.3.0)
+    (one_more t o claimed.2 (claimed_is t own s may app below.0 notes now claimed.0 o mine claim)
+    (turn_is t own notes now apps below.1 (join s (meaning_of (o ∷ []))) (may_go_on t own s may app below.0 notes now claimed.0 o mine claim) claimed.2 passed claimed.3.1.1.1))
+turn_is t own notes now (app ∷ apps) below s may ops passed (inr (inr gone)) = turn_is t own notes now apps below.1 s may ops gone.1 gone.2.1.1.1
