@@ -9,6 +9,7 @@ pub mod Hearing
 pub mod Refused
 pub mod Writing
 pub mod Keeping
+pub mod Dropping
 pub mod Effect
 pub mod Again
 pub mod laws

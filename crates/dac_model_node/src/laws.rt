@@ -1,7 +1,8 @@
-//! The laws of refusals, of ticks and of ships, each as a clause of a function that does nothing.
+//! The laws of refusals, of ticks, of ships and of what is kept no longer, each as a clause of a function that does nothing.
 ghost use Rattle.dac_model_node.specs.Refused.{AnswersTheLeast, RefusesNoOther, NeverWantsMemory};
 ghost use Rattle.dac_model_node.specs.Again.{SecondTickClaimsNothing};
 ghost use Rattle.dac_model_node.specs.Shipping.{ShipsInWords};
+ghost use Rattle.dac_model_node.specs.Dropping.{DropsInWords};
 ghost use Rattle.dac_model_node.specs.Effect.{EventsTakeEffect};
 
 /// The table of causes answers, of the causes that the event can have and that hold in words, the one with the least
@@ -23,6 +24,13 @@ pub fn second_tick_claims_nothing()
 /// position alone.
 pub fn ships_in_words()
     ensures { ShipsInWords }
+{}
+
+/// What `Keeps` says of the deltas that a node keeps, in words. Of the deltas that there are after an event, a node that runs on
+/// keeps one no longer exactly in these cases. It kept it no longer before, 256 later ones are there, or a message came and all
+/// others have acknowledged the delta by then.
+pub fn drops_in_words()
+    ensures { DropsInWords }
 {}
 
 /// An event that is accepted takes effect: a command in the state that its operation leaves, and the claims of a tick in the

@@ -1,8 +1,8 @@
 -- The worked run: the world is ready once two nodes noted the loss, and their round is the one that fails over.
 use Rattle.std.proofs.Common.{◌≡◌, append-nil, ℕ, ◌+◌, ◌≤◌, Bool, true, false, not, cond, ◌||◌, ◌&&◌, List, [], ◌∷◌, ◌++◌, length, Option, Some, None, option_map, Ok, refl, sym, ap, subst, ◌∙◌, arith, inl, inr}
-use Rattle.std.specs.Prelude.{nat_eq, nat_lt, IsSome, Result, ◌==◌}
+use Rattle.std.specs.Prelude.{nat_eq, nat_lt, IsSome, ◌==◌}
 use Rattle.std.specs.Option.{is_some, option_map_or, option_and_then}
-use Rattle.std.proofs.lemmas.Bool.{true≢false, false_from_ne_true, leb-true, le-ltb}
+use Rattle.std.proofs.lemmas.Bool.{true≢false, false_from_ne_true}
 use Rattle.std.proofs.lemmas.List.{length-append}
 use Rattle.dac_base.specs.declared.NodeId.{NodeId}
 use Rattle.dac_base.specs.declared.limits.TheConstants.{MAX_COUNTER}
@@ -11,8 +11,12 @@ use Rattle.dac_operations.specs.Operations.{Operation}
 use Rattle.dac_meaning.specs.StateValue.{StateValue, join}
 use Rattle.dac_meaning.specs.Meaning.{AreOperationsOf, meaning_of}
 use Rattle.dac_meaning.specs.laws.Joins.{meaning-same}
+use Rattle.dac_meaning.specs.laws.Readers.{starts-meaning}
+use Rattle.dac_origins.specs.Dots.{dot}
+use Rattle.dac_wishes.specs.Writes.{write}
+use Rattle.dac_model_world.specs.laws.Operations.{DistinctDots-agree}
 use Rattle.dac_config.specs.Table.{app_count}
-use Rattle.dac_placement.specs.Placement.{is_up}
+use Rattle.dac_placement.specs.Placement.{is_up, key_at}
 use Rattle.dac_placement.specs.declared.verdicts.Verdict.TheVariants.{Failover}
 use Rattle.dac_placement.specs.laws.Tests.{up_is}
 use Rattle.dac_decide.specs.FailoverWait.{is_due_by, is_over_at, lost_in, lost_if, since_of, is_same, noted_of, noted_at, Note, IsLost, waits_of}
@@ -22,69 +26,61 @@ use Rattle.dac_events.specs.declared.Command.TheVariants.{Start}
 use Rattle.dac_events.specs.declared.WorldEvent.{WorldEvent}
 use Rattle.dac_events.specs.declared.What.TheVariants.{Boot as Booting, Crash as Crashing, Command as Telling, Tick as Ticking, Hand}
 use Rattle.dac_messages.specs.declared.event.Event.TheVariants.{Boot, Crash, Command as Commanded, Tick, HearOp}
-use Rattle.dac_messages.specs.declared.reply.Reply.{Reply}
-use Rattle.dac_messages.specs.declared.reply.Reply.TheVariants.{Booted, Crashed, Issued, Ticked, Heard}
+use Rattle.dac_messages.specs.declared.reply.Reply.TheVariants.{Booted, Crashed, Issued, Ticked}
 use Rattle.dac_events.specs.declared.refusal.Refusal.{Refusal}
 use Rattle.dac_events.specs.declared.refusal.Refusal.TheVariants.{DeclaredDown, MomentBack, DotsUsedUp}
 use Rattle.dac_commands.specs.Commands.{greatest_counter}
 use Rattle.dac_commands.specs.Causes.{first, terms_used_up}
-use Rattle.dac_peers.specs.Peers.{no_peers}
 use Rattle.dac_ticks.specs.Ticks.{Turn, turn_of, turn_from, claim_of, is_mine, is_mine_by}
-use Rattle.dac_events.specs.declared.world_fault.WorldFault.{WorldFault}
 use Rattle.dac_model_world.specs.ModelNode.{ModelNode, ModelRunning, joined, shown, base_after}
 use Rattle.dac_model_world.specs.EventRefusals.{refusal_of}
-use Rattle.dac_model_world.specs.Deeds.{meanings, brings}
+use Rattle.dac_model_world.specs.Deeds.{meanings}
 use Rattle.dac_model_world.specs.Step.{step_by}
 use Rattle.dac_model_world.specs.Histories.{off_after}
-use Rattle.dac_meaning.specs.Below.{is_below}
-use Rattle.dac_model_world.specs.ModelWorld.{ModelWorld, WorldStepped, Run, start, happens, answered_by, world_after}
+use Rattle.dac_model_world.specs.ModelWorld.{ModelWorld, AnsweredAs, Run, happens, answered_by, world_after}
 use Rattle.dac_model_world.specs.SetWorld.{NodeSet, SetWorld, no_sets, set_run}
-use Rattle.dac_model_world.specs.laws.Runs.{Run-push}
-use Rattle.dac_model_world.specs.laws.Sound.{Sound, held_at, sound_run, sound_start}
+use Rattle.dac_model_world.specs.laws.Sound.{Sound, sound_run, sound_start}
 use Rattle.dac_settle.specs.Settling.{IsReady}
 use Rattle.dac_settle.specs.WorldRounds.{members_of, AreRounds, EndsInRounds}
-use Rattle.dac_settle.specs.Worked.{first_node, second_node, IsEither, the_app, first_of, up_of}
-use Rattle.dac_settle.specs.WorkedLoss.{lost_node, loss_table, lost_claim, losing, waited, RunsCanFailOver}
-use Rattle.dac_settle.specs.laws.AnyPlacement.{one}
+use Rattle.dac_settle.specs.Worked.{first_node, second_node, IsEither, the_app, worked_table, first_of, up_of, both_go_round}
+use Rattle.dac_settle.specs.WorkedLoss.{lost_node, lost_claim, losing, RunsCanFailOver}
 use Rattle.dac_settle.specs.laws.WorldsSettle.{worlds_settle}
-use Rattle.dac_settle.proofs.LostClaim.{start_at, claiming, started_op, booted, starts_on, begun_log, begun_node, lost_ticks, lost_turn}
-use Rattle.dac_settle.proofs.Losing.{loss_set, loss_state, loss_note, claimed, is_lost, few, up_there, verdict_is, the_claim, fails_over}
-use Rattle.dac_settle.proofs.LossRound.{happens_so, is_ready, later_answers, the_rounds}
-
-abbrev Answer : Type 0
-Answer = Result Reply WorldFault
+use Rattle.dac_settle.proofs.ComingUp.{CanClaim, start_at, started_op, booted, starts_on, begun, begun_log, begun_node, ticks_alone, turn_alone}
+use Rattle.dac_settle.proofs.Handed.{Answer, w0, pushed, known_there, run_of, waiting, with_op, base_with, hearing, few_by, longer, hears_op, wide}
+use Rattle.dac_settle.proofs.Losing.{claiming, loss_set, loss_state, loss_note, is_live, only_live, late, claimed, is_lost, few, up_there, terms_left, mine, claims_it, verdict_is, the_claim, fails_over}
+use Rattle.dac_settle.proofs.RoundOfTwo.{happens_so, is_ready, told, turn, turn_is, the_rounds}
 
 -- ---- the events up to the handing
-abbrev w0 : ModelWorld
-w0 = start loss_table
-
--- one event more, which is accepted
-pushed : (w : ModelWorld) (es : List WorldEvent) (answers : List Answer) (e : WorldEvent) (d : ModelNode) (reply : Reply) → Run loss_table w0 es answers w → happens loss_table w e ≡ answered_by w e.node d (Ok reply) →
-    Run loss_table w0 (es ++ e ∷ []) (answers ++ Ok reply ∷ []) (answered_by w e.node d (Ok reply)).world
-pushed w es answers e d reply run is = Run-push loss_table w0 es answers w e (Ok reply) (answered_by w e.node d (Ok reply)).world run (inl (record { answered = sym (ap (λ (by : WorldStepped). by.answer) is); went_on = sym (ap (λ (by : WorldStepped). by.world) is) }))
-
 abbrev w1 : ModelWorld
 w1 = (answered_by w0 lost_node (booted lost_node) (Ok (Booted (up_of lost_node)))).world
 
-run1 : Run loss_table w0 ((record { node = lost_node; what = Booting 0 }) ∷ []) (Ok (Booted (up_of lost_node)) ∷ []) w1
+run1 : Run worked_table w0 ((record { node = lost_node; what = Booting 0 }) ∷ []) (Ok (Booted (up_of lost_node)) ∷ []) w1
 run1 = pushed w0 [] [] (record { node = lost_node; what = Booting 0 }) (booted lost_node) (Booted (up_of lost_node)) (tt, refl) (happens_so w0 lost_node (Booting 0) (Boot 0) refl refl refl)
 
 abbrev w2 : ModelWorld
 w2 = (answered_by w1 lost_node (begun_node lost_node (start_at lost_node)) (Ok (Issued (start_at lost_node)))).world
 
-is2 : happens loss_table w1 (record { node = lost_node; what = Telling (Start the_app lost_node) }) ≡ answered_by w1 lost_node (begun_node lost_node (start_at lost_node)) (Ok (Issued (start_at lost_node)))
+is2 : happens worked_table w1 (record { node = lost_node; what = Telling (Start the_app lost_node) }) ≡ answered_by w1 lost_node (begun_node lost_node (start_at lost_node)) (Ok (Issued (start_at lost_node)))
 is2 =
     happens_so w1 lost_node (Telling (Start the_app lost_node)) (Commanded (Start the_app lost_node)) refl refl (starts_on lost_node refl refl)
     ∙ ap (λ (o : Operation). answered_by w1 lost_node (begun_node lost_node o) (Ok (Issued o))) (started_op lost_node)
 
+lost_can : CanClaim lost_node
+lost_can = record {
+  there = omega arith;
+  listed = refl;
+  started = (dot (first_of lost_node) 2, starts-meaning (begun lost_node) (write (key_at the_app lost_node 1) (dot (first_of lost_node) 2)));
+  agree = DistinctDots-agree (begun lost_node) (refl, (refl, tt));
+}
+
 abbrev d3 : ModelNode
-d3 = (step_by None loss_table lost_node (begun_node lost_node (start_at lost_node)) (Tick 0)).node
+d3 = (step_by None worked_table lost_node (begun_node lost_node (start_at lost_node)) (Tick 0)).node
 
 abbrev w3 : ModelWorld
 w3 = (answered_by w2 lost_node d3 (Ok (Ticked (claiming ∷ []) []))).world
 
-is3 : happens loss_table w2 (record { node = lost_node; what = Ticking 0 }) ≡ answered_by w2 lost_node d3 (Ok (Ticked (claiming ∷ []) []))
-is3 = happens_so w2 lost_node (Ticking 0) (Tick 0) refl refl lost_ticks ∙ ap (λ (u : Turn). answered_by w2 lost_node d3 (Ok (Ticked u.ops u.passed))) lost_turn
+is3 : happens worked_table w2 (record { node = lost_node; what = Ticking 0 }) ≡ answered_by w2 lost_node d3 (Ok (Ticked (claiming ∷ []) []))
+is3 = happens_so w2 lost_node (Ticking 0) (Tick 0) refl refl (ticks_alone lost_node lost_can) ∙ ap (λ (u : Turn). answered_by w2 lost_node d3 (Ok (Ticked u.ops u.passed))) (turn_alone lost_node lost_can)
 
 abbrev gone : ModelNode
 gone = record { last = 1; running = None }
@@ -92,20 +88,20 @@ gone = record { last = 1; running = None }
 abbrev w4 : ModelWorld
 w4 = (answered_by w3 lost_node gone (Ok Crashed)).world
 
-is4 : happens loss_table w3 (record { node = lost_node; what = Crashing }) ≡ answered_by w3 lost_node gone (Ok Crashed)
+is4 : happens worked_table w3 (record { node = lost_node; what = Crashing }) ≡ answered_by w3 lost_node gone (Ok Crashed)
 is4 = happens_so w3 lost_node Crashing Crash refl refl refl
 
 -- ---- each of the others comes up, and may run the application
 abbrev w5 : ModelWorld
 w5 = (answered_by w4 first_node (booted first_node) (Ok (Booted (up_of first_node)))).world
 
-is5 : happens loss_table w4 (record { node = first_node; what = Booting 0 }) ≡ answered_by w4 first_node (booted first_node) (Ok (Booted (up_of first_node)))
+is5 : happens worked_table w4 (record { node = first_node; what = Booting 0 }) ≡ answered_by w4 first_node (booted first_node) (Ok (Booted (up_of first_node)))
 is5 = happens_so w4 first_node (Booting 0) (Boot 0) refl refl refl
 
 abbrev w6 : ModelWorld
 w6 = (answered_by w5 first_node (begun_node first_node (start_at first_node)) (Ok (Issued (start_at first_node)))).world
 
-is6 : happens loss_table w5 (record { node = first_node; what = Telling (Start the_app first_node) }) ≡ answered_by w5 first_node (begun_node first_node (start_at first_node)) (Ok (Issued (start_at first_node)))
+is6 : happens worked_table w5 (record { node = first_node; what = Telling (Start the_app first_node) }) ≡ answered_by w5 first_node (begun_node first_node (start_at first_node)) (Ok (Issued (start_at first_node)))
 is6 =
     happens_so w5 first_node (Telling (Start the_app first_node)) (Commanded (Start the_app first_node)) refl refl (starts_on first_node refl refl)
     ∙ ap (λ (o : Operation). answered_by w5 first_node (begun_node first_node o) (Ok (Issued o))) (started_op first_node)
@@ -113,55 +109,18 @@ is6 =
 abbrev w7 : ModelWorld
 w7 = (answered_by w6 second_node (booted second_node) (Ok (Booted (up_of second_node)))).world
 
-is7 : happens loss_table w6 (record { node = second_node; what = Booting 0 }) ≡ answered_by w6 second_node (booted second_node) (Ok (Booted (up_of second_node)))
+is7 : happens worked_table w6 (record { node = second_node; what = Booting 0 }) ≡ answered_by w6 second_node (booted second_node) (Ok (Booted (up_of second_node)))
 is7 = happens_so w6 second_node (Booting 0) (Boot 0) refl refl refl
 
 abbrev w8 : ModelWorld
 w8 = (answered_by w7 second_node (begun_node second_node (start_at second_node)) (Ok (Issued (start_at second_node)))).world
 
-is8 : happens loss_table w7 (record { node = second_node; what = Telling (Start the_app second_node) }) ≡ answered_by w7 second_node (begun_node second_node (start_at second_node)) (Ok (Issued (start_at second_node)))
+is8 : happens worked_table w7 (record { node = second_node; what = Telling (Start the_app second_node) }) ≡ answered_by w7 second_node (begun_node second_node (start_at second_node)) (Ok (Issued (start_at second_node)))
 is8 =
     happens_so w7 second_node (Telling (Start the_app second_node)) (Commanded (Start the_app second_node)) refl refl (starts_on second_node refl refl)
     ∙ ap (λ (o : Operation). answered_by w7 second_node (begun_node second_node o) (Ok (Issued o))) (started_op second_node)
 
 -- ---- operations that are handed
-abbrev run_of : NodeId → Bool → List Note → List StateValue → ℕ → ModelRunning
-run_of n opened notes log base = record { origin = first_of n; moments = record { booted = 0; last = 0 }; is_open = opened; notes = notes; log = log; base = base; peers = no_peers }
-
--- a node that came up and looked after nothing yet
-abbrev waiting : NodeId → List StateValue → ℕ → ModelNode
-waiting n log base = record { last = 1; running = Some (run_of n false [] log base) }
-
--- its log once it is handed an operation
-abbrev with_op : List StateValue → Operation → List StateValue
-with_op log o = log ++ brings (joined log) (meaning_of (o ∷ []))
-
-abbrev base_with : ℕ → List StateValue → Operation → ℕ
-base_with base log o = base_after base (length (with_op log o)) 0
-
-abbrev hearing : List StateValue → Operation → Reply
-hearing log o = Heard (not (is_below (meaning_of (o ∷ [])) (joined log)))
-
--- whatever is new, there are numbers left for it
-has_room : (b : Bool) → first ((b && false, DotsUsedUp) ∷ []) ≡ None
-has_room true = refl
-has_room false = refl
-
-few_by : (l : ℕ) → l ≤ 9 → nat_lt MAX_COUNTER (l + 1) ≡ false
-few_by l h = le-ltb MAX_COUNTER (l + 1) (omega (arith, leb-true 10 MAX_COUNTER refl))
-
-longer : (log : List StateValue) (o : Operation) → length (with_op log o) ≤ length log + 1
-longer log o = by_test (is_below (meaning_of (o ∷ [])) (joined log))
-  where
-    by_test : (b : Bool) → length (log ++ cond b [] (meaning_of (o ∷ []) ∷ [])) ≤ length log + 1
-    by_test true = let l = length-append log [] in omega arith
-    by_test false = let l = length-append log (meaning_of (o ∷ []) ∷ []) in omega arith
-
-hears_op : (n : NodeId) (log : List StateValue) (base : ℕ) (o : Operation) → length log ≤ 9 → refusal_of loss_table (shown loss_table (waiting n log base)) (HearOp o) ≡ None
-hears_op n log base o short =
-    let fresh = not (is_below (meaning_of (o ∷ [])) (joined log)) in
-    (λ i. first ((fresh && few_by (length log) short i, DotsUsedUp) ∷ [])) ∙ has_room fresh
-
 -- each is handed the claim, and what the other issued
 abbrev other_of : NodeId → NodeId
 other_of n = cond (nat_eq n.0 0) second_node first_node
@@ -199,44 +158,41 @@ short2 n = let l = longer (log1 n) (up_of (other_of n)) in let k = short1 n in o
 short3 : (n : NodeId) → length (log3 n) ≤ 5
 short3 n = let l = longer (log2 n) (start_at (other_of n)) in let k = short2 n in omega arith
 
-wide : (l k : ℕ) → l ≤ k → k ≤ 9 → l ≤ 9
-wide l k h small = omega arith
-
 abbrev w9 : ModelWorld
 w9 = (answered_by w8 first_node (waiting first_node (log1 first_node) (base1 first_node)) (Ok (hearing (log0 first_node) claiming))).world
 
-is9 : happens loss_table w8 (record { node = first_node; what = Hand 3 }) ≡ answered_by w8 first_node (waiting first_node (log1 first_node) (base1 first_node)) (Ok (hearing (log0 first_node) claiming))
-is9 = happens_so w8 first_node (Hand 3) (HearOp claiming) refl refl (hears_op first_node (log0 first_node) base0 claiming (omega arith))
+is9 : happens worked_table w8 (record { node = first_node; what = Hand 3 }) ≡ answered_by w8 first_node (waiting first_node (log1 first_node) (base1 first_node)) (Ok (hearing (log0 first_node) claiming))
+is9 = happens_so w8 first_node (Hand 3) (HearOp claiming) refl refl (hears_op first_node false [] (log0 first_node) base0 claiming (omega arith))
 
 abbrev w10 : ModelWorld
 w10 = (answered_by w9 first_node (waiting first_node (log2 first_node) (base2 first_node)) (Ok (hearing (log1 first_node) (up_of second_node)))).world
 
-is10 : happens loss_table w9 (record { node = first_node; what = Hand 6 }) ≡ answered_by w9 first_node (waiting first_node (log2 first_node) (base2 first_node)) (Ok (hearing (log1 first_node) (up_of second_node)))
-is10 = happens_so w9 first_node (Hand 6) (HearOp (up_of second_node)) refl refl (hears_op first_node (log1 first_node) (base1 first_node) (up_of second_node) (wide (length (log1 first_node)) 3 (short1 first_node) (omega arith)))
+is10 : happens worked_table w9 (record { node = first_node; what = Hand 6 }) ≡ answered_by w9 first_node (waiting first_node (log2 first_node) (base2 first_node)) (Ok (hearing (log1 first_node) (up_of second_node)))
+is10 = happens_so w9 first_node (Hand 6) (HearOp (up_of second_node)) refl refl (hears_op first_node false [] (log1 first_node) (base1 first_node) (up_of second_node) (wide (length (log1 first_node)) 3 (short1 first_node) (omega arith)))
 
 abbrev w11 : ModelWorld
 w11 = (answered_by w10 first_node (waiting first_node (log3 first_node) (base3 first_node)) (Ok (hearing (log2 first_node) (start_at second_node)))).world
 
-is11 : happens loss_table w10 (record { node = first_node; what = Hand 7 }) ≡ answered_by w10 first_node (waiting first_node (log3 first_node) (base3 first_node)) (Ok (hearing (log2 first_node) (start_at second_node)))
-is11 = happens_so w10 first_node (Hand 7) (HearOp (start_at second_node)) refl refl (hears_op first_node (log2 first_node) (base2 first_node) (start_at second_node) (wide (length (log2 first_node)) 4 (short2 first_node) (omega arith)))
+is11 : happens worked_table w10 (record { node = first_node; what = Hand 7 }) ≡ answered_by w10 first_node (waiting first_node (log3 first_node) (base3 first_node)) (Ok (hearing (log2 first_node) (start_at second_node)))
+is11 = happens_so w10 first_node (Hand 7) (HearOp (start_at second_node)) refl refl (hears_op first_node false [] (log2 first_node) (base2 first_node) (start_at second_node) (wide (length (log2 first_node)) 4 (short2 first_node) (omega arith)))
 
 abbrev w12 : ModelWorld
 w12 = (answered_by w11 second_node (waiting second_node (log1 second_node) (base1 second_node)) (Ok (hearing (log0 second_node) claiming))).world
 
-is12 : happens loss_table w11 (record { node = second_node; what = Hand 3 }) ≡ answered_by w11 second_node (waiting second_node (log1 second_node) (base1 second_node)) (Ok (hearing (log0 second_node) claiming))
-is12 = happens_so w11 second_node (Hand 3) (HearOp claiming) refl refl (hears_op second_node (log0 second_node) base0 claiming (omega arith))
+is12 : happens worked_table w11 (record { node = second_node; what = Hand 3 }) ≡ answered_by w11 second_node (waiting second_node (log1 second_node) (base1 second_node)) (Ok (hearing (log0 second_node) claiming))
+is12 = happens_so w11 second_node (Hand 3) (HearOp claiming) refl refl (hears_op second_node false [] (log0 second_node) base0 claiming (omega arith))
 
 abbrev w13 : ModelWorld
 w13 = (answered_by w12 second_node (waiting second_node (log2 second_node) (base2 second_node)) (Ok (hearing (log1 second_node) (up_of first_node)))).world
 
-is13 : happens loss_table w12 (record { node = second_node; what = Hand 4 }) ≡ answered_by w12 second_node (waiting second_node (log2 second_node) (base2 second_node)) (Ok (hearing (log1 second_node) (up_of first_node)))
-is13 = happens_so w12 second_node (Hand 4) (HearOp (up_of first_node)) refl refl (hears_op second_node (log1 second_node) (base1 second_node) (up_of first_node) (wide (length (log1 second_node)) 3 (short1 second_node) (omega arith)))
+is13 : happens worked_table w12 (record { node = second_node; what = Hand 4 }) ≡ answered_by w12 second_node (waiting second_node (log2 second_node) (base2 second_node)) (Ok (hearing (log1 second_node) (up_of first_node)))
+is13 = happens_so w12 second_node (Hand 4) (HearOp (up_of first_node)) refl refl (hears_op second_node false [] (log1 second_node) (base1 second_node) (up_of first_node) (wide (length (log1 second_node)) 3 (short1 second_node) (omega arith)))
 
 abbrev w14 : ModelWorld
 w14 = (answered_by w13 second_node (waiting second_node (log3 second_node) (base3 second_node)) (Ok (hearing (log2 second_node) (start_at first_node)))).world
 
-is14 : happens loss_table w13 (record { node = second_node; what = Hand 5 }) ≡ answered_by w13 second_node (waiting second_node (log3 second_node) (base3 second_node)) (Ok (hearing (log2 second_node) (start_at first_node)))
-is14 = happens_so w13 second_node (Hand 5) (HearOp (start_at first_node)) refl refl (hears_op second_node (log2 second_node) (base2 second_node) (start_at first_node) (wide (length (log2 second_node)) 4 (short2 second_node) (omega arith)))
+is14 : happens worked_table w13 (record { node = second_node; what = Hand 5 }) ≡ answered_by w13 second_node (waiting second_node (log3 second_node) (base3 second_node)) (Ok (hearing (log2 second_node) (start_at first_node)))
+is14 = happens_so w13 second_node (Hand 5) (HearOp (start_at first_node)) refl refl (hears_op second_node false [] (log2 second_node) (base2 second_node) (start_at first_node) (wide (length (log2 second_node)) 4 (short2 second_node) (omega arith)))
 
 -- ---- the run up to there
 abbrev e1 : WorldEvent
@@ -323,43 +279,43 @@ e14 = record { node = second_node; what = Hand 5 }
 abbrev a14 : Answer
 a14 = Ok (hearing (log2 second_node) (start_at first_node))
 
-run2 : Run loss_table w0 (e1 ∷ e2 ∷ []) (a1 ∷ a2 ∷ []) w2
+run2 : Run worked_table w0 (e1 ∷ e2 ∷ []) (a1 ∷ a2 ∷ []) w2
 run2 = pushed w1 (e1 ∷ []) (a1 ∷ []) e2 (begun_node lost_node (start_at lost_node)) (Issued (start_at lost_node)) run1 is2
 
-run3 : Run loss_table w0 (e1 ∷ e2 ∷ e3 ∷ []) (a1 ∷ a2 ∷ a3 ∷ []) w3
+run3 : Run worked_table w0 (e1 ∷ e2 ∷ e3 ∷ []) (a1 ∷ a2 ∷ a3 ∷ []) w3
 run3 = pushed w2 (e1 ∷ e2 ∷ []) (a1 ∷ a2 ∷ []) e3 d3 (Ticked (claiming ∷ []) []) run2 is3
 
-run4 : Run loss_table w0 (e1 ∷ e2 ∷ e3 ∷ e4 ∷ []) (a1 ∷ a2 ∷ a3 ∷ a4 ∷ []) w4
+run4 : Run worked_table w0 (e1 ∷ e2 ∷ e3 ∷ e4 ∷ []) (a1 ∷ a2 ∷ a3 ∷ a4 ∷ []) w4
 run4 = pushed w3 (e1 ∷ e2 ∷ e3 ∷ []) (a1 ∷ a2 ∷ a3 ∷ []) e4 gone Crashed run3 is4
 
-run5 : Run loss_table w0 (e1 ∷ e2 ∷ e3 ∷ e4 ∷ e5 ∷ []) (a1 ∷ a2 ∷ a3 ∷ a4 ∷ a5 ∷ []) w5
+run5 : Run worked_table w0 (e1 ∷ e2 ∷ e3 ∷ e4 ∷ e5 ∷ []) (a1 ∷ a2 ∷ a3 ∷ a4 ∷ a5 ∷ []) w5
 run5 = pushed w4 (e1 ∷ e2 ∷ e3 ∷ e4 ∷ []) (a1 ∷ a2 ∷ a3 ∷ a4 ∷ []) e5 (booted first_node) (Booted (up_of first_node)) run4 is5
 
-run6 : Run loss_table w0 (e1 ∷ e2 ∷ e3 ∷ e4 ∷ e5 ∷ e6 ∷ []) (a1 ∷ a2 ∷ a3 ∷ a4 ∷ a5 ∷ a6 ∷ []) w6
+run6 : Run worked_table w0 (e1 ∷ e2 ∷ e3 ∷ e4 ∷ e5 ∷ e6 ∷ []) (a1 ∷ a2 ∷ a3 ∷ a4 ∷ a5 ∷ a6 ∷ []) w6
 run6 = pushed w5 (e1 ∷ e2 ∷ e3 ∷ e4 ∷ e5 ∷ []) (a1 ∷ a2 ∷ a3 ∷ a4 ∷ a5 ∷ []) e6 (begun_node first_node (start_at first_node)) (Issued (start_at first_node)) run5 is6
 
-run7 : Run loss_table w0 (e1 ∷ e2 ∷ e3 ∷ e4 ∷ e5 ∷ e6 ∷ e7 ∷ []) (a1 ∷ a2 ∷ a3 ∷ a4 ∷ a5 ∷ a6 ∷ a7 ∷ []) w7
+run7 : Run worked_table w0 (e1 ∷ e2 ∷ e3 ∷ e4 ∷ e5 ∷ e6 ∷ e7 ∷ []) (a1 ∷ a2 ∷ a3 ∷ a4 ∷ a5 ∷ a6 ∷ a7 ∷ []) w7
 run7 = pushed w6 (e1 ∷ e2 ∷ e3 ∷ e4 ∷ e5 ∷ e6 ∷ []) (a1 ∷ a2 ∷ a3 ∷ a4 ∷ a5 ∷ a6 ∷ []) e7 (booted second_node) (Booted (up_of second_node)) run6 is7
 
-run8 : Run loss_table w0 (e1 ∷ e2 ∷ e3 ∷ e4 ∷ e5 ∷ e6 ∷ e7 ∷ e8 ∷ []) (a1 ∷ a2 ∷ a3 ∷ a4 ∷ a5 ∷ a6 ∷ a7 ∷ a8 ∷ []) w8
+run8 : Run worked_table w0 (e1 ∷ e2 ∷ e3 ∷ e4 ∷ e5 ∷ e6 ∷ e7 ∷ e8 ∷ []) (a1 ∷ a2 ∷ a3 ∷ a4 ∷ a5 ∷ a6 ∷ a7 ∷ a8 ∷ []) w8
 run8 = pushed w7 (e1 ∷ e2 ∷ e3 ∷ e4 ∷ e5 ∷ e6 ∷ e7 ∷ []) (a1 ∷ a2 ∷ a3 ∷ a4 ∷ a5 ∷ a6 ∷ a7 ∷ []) e8 (begun_node second_node (start_at second_node)) (Issued (start_at second_node)) run7 is8
 
-run9 : Run loss_table w0 (e1 ∷ e2 ∷ e3 ∷ e4 ∷ e5 ∷ e6 ∷ e7 ∷ e8 ∷ e9 ∷ []) (a1 ∷ a2 ∷ a3 ∷ a4 ∷ a5 ∷ a6 ∷ a7 ∷ a8 ∷ a9 ∷ []) w9
+run9 : Run worked_table w0 (e1 ∷ e2 ∷ e3 ∷ e4 ∷ e5 ∷ e6 ∷ e7 ∷ e8 ∷ e9 ∷ []) (a1 ∷ a2 ∷ a3 ∷ a4 ∷ a5 ∷ a6 ∷ a7 ∷ a8 ∷ a9 ∷ []) w9
 run9 = pushed w8 (e1 ∷ e2 ∷ e3 ∷ e4 ∷ e5 ∷ e6 ∷ e7 ∷ e8 ∷ []) (a1 ∷ a2 ∷ a3 ∷ a4 ∷ a5 ∷ a6 ∷ a7 ∷ a8 ∷ []) e9 (waiting first_node (log1 first_node) (base1 first_node)) (hearing (log0 first_node) claiming) run8 is9
 
-run10 : Run loss_table w0 (e1 ∷ e2 ∷ e3 ∷ e4 ∷ e5 ∷ e6 ∷ e7 ∷ e8 ∷ e9 ∷ e10 ∷ []) (a1 ∷ a2 ∷ a3 ∷ a4 ∷ a5 ∷ a6 ∷ a7 ∷ a8 ∷ a9 ∷ a10 ∷ []) w10
+run10 : Run worked_table w0 (e1 ∷ e2 ∷ e3 ∷ e4 ∷ e5 ∷ e6 ∷ e7 ∷ e8 ∷ e9 ∷ e10 ∷ []) (a1 ∷ a2 ∷ a3 ∷ a4 ∷ a5 ∷ a6 ∷ a7 ∷ a8 ∷ a9 ∷ a10 ∷ []) w10
 run10 = pushed w9 (e1 ∷ e2 ∷ e3 ∷ e4 ∷ e5 ∷ e6 ∷ e7 ∷ e8 ∷ e9 ∷ []) (a1 ∷ a2 ∷ a3 ∷ a4 ∷ a5 ∷ a6 ∷ a7 ∷ a8 ∷ a9 ∷ []) e10 (waiting first_node (log2 first_node) (base2 first_node)) (hearing (log1 first_node) (up_of second_node)) run9 is10
 
-run11 : Run loss_table w0 (e1 ∷ e2 ∷ e3 ∷ e4 ∷ e5 ∷ e6 ∷ e7 ∷ e8 ∷ e9 ∷ e10 ∷ e11 ∷ []) (a1 ∷ a2 ∷ a3 ∷ a4 ∷ a5 ∷ a6 ∷ a7 ∷ a8 ∷ a9 ∷ a10 ∷ a11 ∷ []) w11
+run11 : Run worked_table w0 (e1 ∷ e2 ∷ e3 ∷ e4 ∷ e5 ∷ e6 ∷ e7 ∷ e8 ∷ e9 ∷ e10 ∷ e11 ∷ []) (a1 ∷ a2 ∷ a3 ∷ a4 ∷ a5 ∷ a6 ∷ a7 ∷ a8 ∷ a9 ∷ a10 ∷ a11 ∷ []) w11
 run11 = pushed w10 (e1 ∷ e2 ∷ e3 ∷ e4 ∷ e5 ∷ e6 ∷ e7 ∷ e8 ∷ e9 ∷ e10 ∷ []) (a1 ∷ a2 ∷ a3 ∷ a4 ∷ a5 ∷ a6 ∷ a7 ∷ a8 ∷ a9 ∷ a10 ∷ []) e11 (waiting first_node (log3 first_node) (base3 first_node)) (hearing (log2 first_node) (start_at second_node)) run10 is11
 
-run12 : Run loss_table w0 (e1 ∷ e2 ∷ e3 ∷ e4 ∷ e5 ∷ e6 ∷ e7 ∷ e8 ∷ e9 ∷ e10 ∷ e11 ∷ e12 ∷ []) (a1 ∷ a2 ∷ a3 ∷ a4 ∷ a5 ∷ a6 ∷ a7 ∷ a8 ∷ a9 ∷ a10 ∷ a11 ∷ a12 ∷ []) w12
+run12 : Run worked_table w0 (e1 ∷ e2 ∷ e3 ∷ e4 ∷ e5 ∷ e6 ∷ e7 ∷ e8 ∷ e9 ∷ e10 ∷ e11 ∷ e12 ∷ []) (a1 ∷ a2 ∷ a3 ∷ a4 ∷ a5 ∷ a6 ∷ a7 ∷ a8 ∷ a9 ∷ a10 ∷ a11 ∷ a12 ∷ []) w12
 run12 = pushed w11 (e1 ∷ e2 ∷ e3 ∷ e4 ∷ e5 ∷ e6 ∷ e7 ∷ e8 ∷ e9 ∷ e10 ∷ e11 ∷ []) (a1 ∷ a2 ∷ a3 ∷ a4 ∷ a5 ∷ a6 ∷ a7 ∷ a8 ∷ a9 ∷ a10 ∷ a11 ∷ []) e12 (waiting second_node (log1 second_node) (base1 second_node)) (hearing (log0 second_node) claiming) run11 is12
 
-run13 : Run loss_table w0 (e1 ∷ e2 ∷ e3 ∷ e4 ∷ e5 ∷ e6 ∷ e7 ∷ e8 ∷ e9 ∷ e10 ∷ e11 ∷ e12 ∷ e13 ∷ []) (a1 ∷ a2 ∷ a3 ∷ a4 ∷ a5 ∷ a6 ∷ a7 ∷ a8 ∷ a9 ∷ a10 ∷ a11 ∷ a12 ∷ a13 ∷ []) w13
+run13 : Run worked_table w0 (e1 ∷ e2 ∷ e3 ∷ e4 ∷ e5 ∷ e6 ∷ e7 ∷ e8 ∷ e9 ∷ e10 ∷ e11 ∷ e12 ∷ e13 ∷ []) (a1 ∷ a2 ∷ a3 ∷ a4 ∷ a5 ∷ a6 ∷ a7 ∷ a8 ∷ a9 ∷ a10 ∷ a11 ∷ a12 ∷ a13 ∷ []) w13
 run13 = pushed w12 (e1 ∷ e2 ∷ e3 ∷ e4 ∷ e5 ∷ e6 ∷ e7 ∷ e8 ∷ e9 ∷ e10 ∷ e11 ∷ e12 ∷ []) (a1 ∷ a2 ∷ a3 ∷ a4 ∷ a5 ∷ a6 ∷ a7 ∷ a8 ∷ a9 ∷ a10 ∷ a11 ∷ a12 ∷ []) e13 (waiting second_node (log2 second_node) (base2 second_node)) (hearing (log1 second_node) (up_of first_node)) run12 is13
 
-run14 : Run loss_table w0 (e1 ∷ e2 ∷ e3 ∷ e4 ∷ e5 ∷ e6 ∷ e7 ∷ e8 ∷ e9 ∷ e10 ∷ e11 ∷ e12 ∷ e13 ∷ e14 ∷ []) (a1 ∷ a2 ∷ a3 ∷ a4 ∷ a5 ∷ a6 ∷ a7 ∷ a8 ∷ a9 ∷ a10 ∷ a11 ∷ a12 ∷ a13 ∷ a14 ∷ []) w14
+run14 : Run worked_table w0 (e1 ∷ e2 ∷ e3 ∷ e4 ∷ e5 ∷ e6 ∷ e7 ∷ e8 ∷ e9 ∷ e10 ∷ e11 ∷ e12 ∷ e13 ∷ e14 ∷ []) (a1 ∷ a2 ∷ a3 ∷ a4 ∷ a5 ∷ a6 ∷ a7 ∷ a8 ∷ a9 ∷ a10 ∷ a11 ∷ a12 ∷ a13 ∷ a14 ∷ []) w14
 run14 = pushed w13 (e1 ∷ e2 ∷ e3 ∷ e4 ∷ e5 ∷ e6 ∷ e7 ∷ e8 ∷ e9 ∷ e10 ∷ e11 ∷ e12 ∷ e13 ∷ []) (a1 ∷ a2 ∷ a3 ∷ a4 ∷ a5 ∷ a6 ∷ a7 ∷ a8 ∷ a9 ∷ a10 ∷ a11 ∷ a12 ∷ a13 ∷ []) e14 (waiting second_node (log3 second_node) (base3 second_node)) (hearing (log2 second_node) (start_at first_node)) run13 is14
 
 abbrev es14 : List WorldEvent
@@ -423,25 +379,19 @@ abbrev run_at : NodeId → ModelRunning
 run_at n = run_of n false [] (log3 n) (base3 n)
 
 sound14 : Sound w14 s14
-sound14 = sound_run loss_table w0 no_sets es14 as14 w14 (sound_start loss_table) run14
-
-known_by : (n : NodeId) → IsEither n → (w14.node n).running ≡ Some (run_at n) → s14.node n ≡ Some (holding_set n) → joined (log3 n) ≡ loss_state
-known_by n either runs holds =
-    let held = held_at w14 s14 n (run_at n) sound14 runs in
-    let same : holding_set n ≡ held.set = one (sym holds ∙ held.is) in
-    held.state ∙ sym (ap (λ (x : NodeSet). meaning_of x.operations) same) ∙ means n either
+sound14 = sound_run worked_table w0 no_sets es14 as14 w14 (sound_start worked_table) run14
 
 known_at : (n : NodeId) → IsEither n → joined (log3 n) ≡ loss_state
 known_at n either = elim either [
-  | inl a ↦ subst (λ (k : NodeId). joined (log3 k) ≡ loss_state) (sym a) (known_by first_node (inl refl) refl refl)
-  | inr b ↦ subst (λ (k : NodeId). joined (log3 k) ≡ loss_state) (sym b) (known_by second_node (inr refl) refl refl)
+  | inl a ↦ subst (λ (k : NodeId). joined (log3 k) ≡ loss_state) (sym a) (known_there w14 s14 first_node (run_at first_node) (holding_set first_node) sound14 refl refl ∙ means first_node (inl refl))
+  | inr b ↦ subst (λ (k : NodeId). joined (log3 k) ≡ loss_state) (sym b) (known_there w14 s14 second_node (run_at second_node) (holding_set second_node) sound14 refl refl ∙ means second_node (inr refl))
 ]
 
 -- ---- each notes the loss, whose time isn't over
 few3 : (n : NodeId) → nat_lt MAX_COUNTER (length (log3 n) + 1) ≡ false
 few3 n = few_by (length (log3 n)) (wide (length (log3 n)) 5 (short3 n) (omega arith))
 
-ticks_first : (n : NodeId) → IsEither n → refusal_of loss_table (shown loss_table (waiting n (log3 n) (base3 n))) (Tick 0) ≡ None
+ticks_first : (n : NodeId) → IsEither n → refusal_of worked_table (shown worked_table (waiting n (log3 n) (base3 n))) (Tick 0) ≡ None
 ticks_first n either =
     (λ i. refused (not (is_up (known_at n either i) (first_of n))) (nat_lt MAX_COUNTER (greatest_counter (first_of n) (known_at n either i).known + 1)) (few3 n i))
     ∙ (λ i. refused (not (up_there n either i)) (few n either i) false)
@@ -459,32 +409,32 @@ and_none : (b : Bool) → (b && false) ≡ false
 and_none true = refl
 and_none false = refl
 
-not_due : is_due_by loss_table (noted_of the_app (loss_note ∷ [])) loss_state the_app 0 (Failover first_node) ≡ false
+not_due : is_due_by worked_table (noted_of the_app (loss_note ∷ [])) loss_state the_app 0 (Failover first_node) ≡ false
 not_due =
     (λ i. option_map_or (λ (claim : Claim). claim.origin.node.0 == first_node.0) (claimed i) false || is_over_at 5000 0 (lost_is i) (option_map (since_of None 0) (lost_is i)))
     ∙ and_none (is_same lost_claim lost_claim)
 
 abbrev own_waits : List (Option Noted)
-own_waits = waits_of loss_table (loss_note ∷ [])
+own_waits = waits_of worked_table (loss_note ∷ [])
 
-not_mine : (n : NodeId) → is_mine loss_table (first_of n) own_waits 0 loss_state the_app ≡ false
+not_mine : (n : NodeId) → is_mine worked_table (first_of n) own_waits 0 loss_state the_app ≡ false
 not_mine n =
-    let due : is_due_by loss_table (noted_at own_waits the_app) loss_state the_app 0 (Failover first_node) ≡ false =
-    ap (λ noted. is_due_by loss_table noted loss_state the_app 0 (Failover first_node)) (kept_is loss_table (loss_note ∷ []) the_app (omega arith)) ∙ not_due in
-    ap (is_mine_by loss_table (first_of n) own_waits 0 loss_state the_app) verdict_is
+    let due : is_due_by worked_table (noted_at own_waits the_app) loss_state the_app 0 (Failover first_node) ≡ false =
+    ap (λ noted. is_due_by worked_table noted loss_state the_app 0 (Failover first_node)) (kept_is worked_table (loss_note ∷ []) the_app (omega arith)) ∙ not_due in
+    ap (is_mine_by worked_table (first_of n) own_waits 0 loss_state the_app) verdict_is
     ∙ (λ i. (first_node.0 == n.0) && due i)
     ∙ and_none (first_node.0 == n.0)
 
 own_turn_by : NodeId → StateValue → Turn
-own_turn_by n u = turn_of loss_table (first_of n) (waits_of loss_table (record { state = u; moment = 0 } ∷ [])) 0 u
+own_turn_by n u = turn_of worked_table (first_of n) (waits_of worked_table (record { state = u; moment = 0 } ∷ [])) 0 u
 
 claims_so : NodeId → Turn
-claims_so n = let o = claim_of loss_table (first_of n) loss_state the_app in record { ops = o ∷ []; passed = []; state = join loss_state (meaning_of (o ∷ [])) }
+claims_so n = let o = claim_of worked_table (first_of n) loss_state the_app in record { ops = o ∷ []; passed = []; state = join loss_state (meaning_of (o ∷ [])) }
 
 abbrev passes : Turn
 passes = record { ops = []; passed = the_app ∷ []; state = loss_state }
 
-own_turn : (n : NodeId) → IsEither n → turn_of loss_table (first_of n) (waits_of loss_table (record { state = joined (log3 n); moment = 0 } ∷ [])) 0 (joined (log3 n)) ≡ turn_from loss_state
+own_turn : (n : NodeId) → IsEither n → turn_of worked_table (first_of n) (waits_of worked_table (record { state = joined (log3 n); moment = 0 } ∷ [])) 0 (joined (log3 n)) ≡ turn_from loss_state
 unfolding own_turn_by claims_so
 own_turn n either = (λ i. own_turn_by n (known_at n either i)) ∙ (λ i. cond (not_mine n i) (cond (terms_used_up loss_state the_app) passes (claims_so n)) (turn_from loss_state))
 
@@ -497,7 +447,7 @@ noted_node n = noting n loss_state (turn_from loss_state)
 abbrev w15 : ModelWorld
 w15 = (answered_by w14 first_node (noted_node first_node) (Ok (Ticked [] []))).world
 
-is15 : happens loss_table w14 (record { node = first_node; what = Ticking 0 }) ≡ answered_by w14 first_node (noted_node first_node) (Ok (Ticked [] []))
+is15 : happens worked_table w14 (record { node = first_node; what = Ticking 0 }) ≡ answered_by w14 first_node (noted_node first_node) (Ok (Ticked [] []))
 is15 =
     happens_so w14 first_node (Ticking 0) (Tick 0) refl refl (ticks_first first_node (inl refl))
     ∙ (λ i. answered_by w14 first_node (noting first_node (known_at first_node (inl refl) i) (own_turn first_node (inl refl) i)) (Ok (Ticked (own_turn first_node (inl refl) i).ops (own_turn first_node (inl refl) i).passed)))
@@ -505,7 +455,7 @@ is15 =
 abbrev w16 : ModelWorld
 w16 = (answered_by w15 second_node (noted_node second_node) (Ok (Ticked [] []))).world
 
-is16 : happens loss_table w15 (record { node = second_node; what = Ticking 0 }) ≡ answered_by w15 second_node (noted_node second_node) (Ok (Ticked [] []))
+is16 : happens worked_table w15 (record { node = second_node; what = Ticking 0 }) ≡ answered_by w15 second_node (noted_node second_node) (Ok (Ticked [] []))
 is16 =
     happens_so w15 second_node (Ticking 0) (Tick 0) refl refl (ticks_first second_node (inr refl))
     ∙ (λ i. answered_by w15 second_node (noting second_node (known_at second_node (inr refl) i) (own_turn second_node (inr refl) i)) (Ok (Ticked (own_turn second_node (inr refl) i).ops (own_turn second_node (inr refl) i).passed)))
@@ -513,7 +463,7 @@ is16 =
 abbrev the_replies : List Answer
 the_replies = as14 ++ Ok (Ticked [] []) ∷ Ok (Ticked [] []) ∷ []
 
-run16 : Run loss_table w0 losing the_replies w16
+run16 : Run worked_table w0 losing the_replies w16
 run16 =
     pushed w15 (es14 ++ record { node = first_node; what = Ticking 0 } ∷ []) (as14 ++ Ok (Ticked [] []) ∷ []) (record { node = second_node; what = Ticking 0 }) (noted_node second_node) (Ticked [] [])
     (pushed w14 es14 as14 (record { node = first_node; what = Ticking 0 }) (noted_node first_node) (Ticked [] []) run14 is15) is16
@@ -555,11 +505,36 @@ short4 n = let l = length-append (log3 n) [] in let k = short3 n in omega arith
 known4 : (n : NodeId) → IsEither n → joined (log4 n) ≡ loss_state
 known4 n either = ap joined (append-nil (log3 n)) ∙ known_at n either
 
-world_is_ready : IsReady (members_of w16 s16)
-world_is_ready = is_ready log4 base4 holding w16.operations w14.node s14.node s16.issued short4 known4 means alike no_run no_set
+-- both noted it at moment 0
+abbrev own_notes : NodeId → List Note
+own_notes n = loss_note ∷ []
 
-round_comes : AreRounds loss_table (app_count loss_table) w16 s16 waited (Ok (Ticked (the_claim ∷ []) []) ∷ later_answers log4 base4 holding w16.operations w14.node s14.node s16.issued short4 known4 means alike no_run no_set)
-round_comes = the_rounds log4 base4 holding w16.operations w14.node s14.node s16.issued short4 known4 means alike no_run no_set
+abbrev are_open : NodeId → Bool
+are_open n = true
+
+world_is_ready : IsReady (members_of w16 s16)
+world_is_ready = is_ready loss_state are_open own_notes is_live only_live few terms_left (λ n either. late) (λ n either app claim lost. lost) log4 base4 holding w16.operations w14.node s14.node s16.issued short4 known4 means alike no_run no_set
+
+-- ---- the first tick fails over
+abbrev turn_of_node : NodeId → Turn
+turn_of_node = turn loss_state are_open own_notes is_live only_live few terms_left (λ n either. late) (λ n either app claim lost. lost) log4 base4 holding w16.operations w14.node s14.node s16.issued short4 known4 means alike no_run no_set
+
+first_turn : turn_of_node first_node ≡ claims_it
+first_turn =
+    turn_is loss_state are_open own_notes is_live only_live few terms_left (λ n either. late) (λ n either app claim lost. lost) log4 base4 holding w16.operations w14.node s14.node s16.issued short4 known4 means alike no_run no_set first_node (inl refl)
+    ∙ (λ i. cond (mine i) (cond (terms_used_up loss_state the_app) passes claims_it) (turn_from loss_state))
+    ∙ (λ i. cond (terms_left i) passes claims_it)
+
+-- the answers after the first tick
+abbrev later_answers : List Answer
+later_answers = Ok (Ticked (turn_of_node second_node).ops (turn_of_node second_node).passed) ∷ told loss_state are_open own_notes is_live only_live few terms_left (λ n either. late) (λ n either app claim lost. lost) log4 base4 holding w16.operations w14.node s14.node s16.issued short4 known4 means alike no_run no_set
+
+-- the answers to the round
+abbrev all_answers : List Answer
+all_answers = Ok (Ticked (the_claim ∷ []) []) ∷ later_answers
+
+round_comes : AreRounds worked_table (app_count worked_table) w16 s16 both_go_round all_answers
+round_comes = the_rounds loss_state are_open own_notes is_live only_live few terms_left (λ n either. late) (λ n either app claim lost. lost) log4 base4 holding w16.operations w14.node s14.node s16.issued short4 known4 means alike no_run no_set claims_it (turn_of_node second_node) first_turn refl
 
 holds_at : (n : NodeId) → IsEither n → s16.node n ≡ Some (holding_set n)
 holds_at n either = elim either [
@@ -567,33 +542,32 @@ holds_at n either = elim either [
   | inr b ↦ subst (λ (k : NodeId). s16.node k ≡ Some (holding_set k)) (sym b) refl
 ]
 
--- the answers to the round
-abbrev all_answers : List Answer
-all_answers = Ok (Ticked (the_claim ∷ []) []) ∷ later_answers log4 base4 holding w16.operations w14.node s14.node s16.issued short4 known4 means alike no_run no_set
-
-ready_there : IsReady (members_of (world_after loss_table w0 losing the_replies) s16)
+ready_there : IsReady (members_of (world_after worked_table w0 losing the_replies) s16)
 ready_there = subst (λ (w : ModelWorld). IsReady (members_of w s16)) run16.1 world_is_ready
 
-rounds_there : AreRounds loss_table (app_count loss_table) (world_after loss_table w0 losing the_replies) s16 waited all_answers
-rounds_there = subst (λ (w : ModelWorld). AreRounds loss_table (app_count loss_table) w s16 waited all_answers) run16.1 round_comes
+rounds_there : AreRounds worked_table (app_count worked_table) (world_after worked_table w0 losing the_replies) s16 both_go_round all_answers
+rounds_there = subst (λ (w : ModelWorld). AreRounds worked_table (app_count worked_table) w s16 both_go_round all_answers) run16.1 round_comes
 
-in_rounds : EndsInRounds loss_table (losing ++ waited) (the_replies ++ all_answers)
+before_round : AnsweredAs worked_table w0 losing the_replies
+before_round = run16.0
+
+in_rounds : EndsInRounds worked_table (losing ++ both_go_round) (the_replies ++ all_answers)
 in_rounds = record {
   before = losing;
-  rounds = waited;
+  rounds = both_go_round;
   replies = the_replies;
   more = all_answers;
   events_are = refl;
   answers_are = refl;
-  answered = run16.0;
+  answered = before_round;
   ready = ready_there;
   last = rounds_there;
 }
 
-both_run : (n : NodeId) → IsEither n → IsSome ((set_run no_sets (losing ++ waited) (the_replies ++ all_answers)).node n)
+both_run : (n : NodeId) → IsEither n → IsSome ((set_run no_sets (losing ++ both_go_round) (the_replies ++ all_answers)).node n)
 both_run n either = elim either [
-  | inl a ↦ ap (λ k. is_some ((set_run no_sets (losing ++ waited) (the_replies ++ all_answers)).node k)) a
-  | inr b ↦ ap (λ k. is_some ((set_run no_sets (losing ++ waited) (the_replies ++ all_answers)).node k)) b
+  | inl a ↦ ap (λ k. is_some ((set_run no_sets (losing ++ both_go_round) (the_replies ++ all_answers)).node k)) a
+  | inr b ↦ ap (λ k. is_some ((set_run no_sets (losing ++ both_go_round) (the_replies ++ all_answers)).node k)) b
 ]
 
 pub runs_can_fail_over : RunsCanFailOver
@@ -606,9 +580,9 @@ runs_can_fail_over = record {
   lost = λ n either. subst (λ (s : StateValue). IsLost s the_app lost_claim) (sym (means n either)) is_lost;
   claim = the_claim;
   fails_over = fails_over;
-  later = later_answers log4 base4 holding w16.operations w14.node s14.node s16.issued short4 known4 means alike no_run no_set;
+  later = later_answers;
   kinds = tt;
   rounds = rounds_there;
   run = both_run;
-  settled = λ v ran n state runs. (worlds_settle loss_table (losing ++ waited) (the_replies ++ all_answers) v ran).each in_rounds n state runs the_app (omega arith);
+  settled = λ v ran n state runs. (worlds_settle worked_table (losing ++ both_go_round) (the_replies ++ all_answers) v ran).each in_rounds n state runs the_app (omega arith);
 }

@@ -1,4 +1,6 @@
-pub mod LostClaim
+pub mod ComingUp
+pub mod RoundOfTwo
+pub mod Handed
 pub mod Losing
-pub mod LossRound
 pub mod FailsOver
+pub mod Moves

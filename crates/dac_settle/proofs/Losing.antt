@@ -45,18 +45,22 @@ use Rattle.dac_ticks.specs.Ticks.{Turn, claim_of, claimed_by, is_mine}
 use Rattle.dac_ticks.specs.laws.Words.{if_own}
 use Rattle.dac_ticks.specs.laws.Claimed.{MayRunAlike}
 use Rattle.dac_settle.specs.Settling.{IsLate}
-use Rattle.dac_settle.specs.Worked.{first_node, second_node, IsEither, the_app, first_of, start_of, begun}
+use Rattle.dac_settle.specs.Worked.{first_node, second_node, IsEither, the_app, worked_table, first_of, start_of, begun}
 use Rattle.dac_settle.specs.laws.AnyPlacement.{same_node, one}
 use Rattle.dac_settle.specs.laws.OnlyClaims.{AddsClaims, is_claim, alike, claim_greatest}
 use Rattle.dac_settle.specs.laws.Due.{candidate_due}
 use Rattle.dac_settle.specs.laws.Started.{AreStarts, are_live, live_only, no_claim_said}
 use Rattle.dac_settle.specs.laws.BothTick.{no_row}
-use Rattle.dac_settle.specs.WorkedLoss.{lost_node, loss_table, lost_claim}
-use Rattle.dac_settle.proofs.LostClaim.{none_some, claiming}
+use Rattle.dac_settle.specs.WorkedLoss.{lost_node, lost_claim}
+use Rattle.dac_settle.proofs.ComingUp.{none_some, claiming_at}
 
 -- ---- what is known
 abbrev the_starts : List Operation
 the_starts = start_of the_app first_node 2 ∷ start_of the_app second_node 2 ∷ []
+
+-- the third node's claim
+abbrev pub claiming : Operation
+claiming = claiming_at lost_node
 
 -- both are up, the application is started at both, and the third node claimed it
 abbrev pub loss_set : List Operation
@@ -184,7 +188,7 @@ up_there n either = (up_is loss_state (first_of n)).1 (is_live n either)
 abbrev pub loss_note : Note
 loss_note = record { state = loss_state; moment = 0 }
 
-pub late : IsLate loss_table (loss_note ∷ []) 5000
+pub late : IsLate worked_table (loss_note ∷ []) 5000
 late app claim since noted = by_row noted.row noted.begin noted.before noted.parts noted.lost noted.moment
   where
     begin_is : (begin : Note) (before : List Note) → loss_note ∷ [] ≡ begin ∷ before → loss_note ≡ begin
@@ -193,10 +197,10 @@ late app claim since noted = by_row noted.row noted.begin noted.before noted.par
     rest_is : (x begin : Note) (row before : List Note) → loss_note ∷ [] ≡ x ∷ (row ++ begin ∷ before) → [] ≡ row ++ begin ∷ before
     rest_is x begin row before e = cc
 
-    wait : the_app ≡ app → 0 ≡ since → since + timeout_of loss_table app ≤ 5000
-    wait is zero = subst (λ (p : AppId × ℕ). p.1 + timeout_of loss_table p.0 ≤ 5000) (λ i. (is i, zero i)) (omega arith)
+    wait : the_app ≡ app → 0 ≡ since → since + timeout_of worked_table app ≤ 5000
+    wait is zero = subst (λ (p : AppId × ℕ). p.1 + timeout_of worked_table p.0 ≤ 5000) (λ i. (is i, zero i)) (omega arith)
 
-    by_row : (row : List Note) (begin : Note) (before : List Note) → loss_note ∷ [] ≡ row ++ begin ∷ before → All (λ note. IsLost note.state app claim) (row ++ begin ∷ []) → begin.moment ≡ since → since + timeout_of loss_table app ≤ 5000
+    by_row : (row : List Note) (begin : Note) (before : List Note) → loss_note ∷ [] ≡ row ++ begin ∷ before → All (λ note. IsLost note.state app claim) (row ++ begin ∷ []) → begin.moment ≡ since → since + timeout_of worked_table app ≤ 5000
     by_row [] begin before parts lost moment =
         let is = begin_is begin before parts in
         let at : IsLost begin.state app claim = lost 0 begin (omega arith) in
@@ -205,7 +209,7 @@ late app claim since noted = by_row noted.row noted.begin noted.before noted.par
     by_row (x ∷ row) begin before parts lost moment = absurd (no_row row begin before (rest_is x begin row before parts))
 
 -- ---- the first node takes it
-may_run : IsEligible loss_table loss_state the_app first_node
+may_run : IsEligible worked_table loss_state the_app first_node
 may_run = record {
   listed = refl;
   inc = 1;
@@ -219,10 +223,10 @@ never_up o held up =
     let is : first_of lost_node ≡ o = one (sym (ap (option_map (λ (c : Claim). c.origin)) claimed) ∙ held) in
     is_lost.down (subst (IsUp loss_state) (sym is) up)
 
-no_load : (n : NodeId) → load_of loss_table loss_state the_app n ≡ 0
+no_load : (n : NodeId) → load_of worked_table loss_state the_app n ≡ 0
 no_load n = refl
 
-first_is : (n : NodeId) → IsFirst loss_table loss_state the_app n → n ≡ first_node
+first_is : (n : NodeId) → IsFirst worked_table loss_state the_app n → n ≡ first_node
 first_is n first = by_tests (nat_eq n.0 0) (nat_eq n.0 1) refl refl
   where
     one_zero : ◌≤◌ 1 0 → ⊥
@@ -230,8 +234,8 @@ first_is n first = by_tests (nat_eq n.0 0) (nat_eq n.0 1) refl refl
 
     second : second_node ≡ n → n ≡ first_node
     second is =
-        let at : IsFirst loss_table loss_state the_app second_node = subst (IsFirst loss_table loss_state the_app) (sym is) first in
-        elim ((preferred_is loss_table loss_state the_app second_node first_node).0 (at.preferred first_node (omega arith) may_run refl)) [
+        let at : IsFirst worked_table loss_state the_app second_node = subst (IsFirst worked_table loss_state the_app) (sym is) first in
+        elim ((preferred_is worked_table loss_state the_app second_node first_node).0 (at.preferred first_node (omega arith) may_run refl)) [
           | inl less ↦ let a = no_load second_node in let b = no_load first_node in absurd (omega (arith, less, a, b))
           | inr level ↦ absurd (one_zero level.1)
         ]
@@ -244,7 +248,7 @@ first_is n first = by_tests (nat_eq n.0 0) (nat_eq n.0 1) refl refl
       | inr is ↦ false≢true (sym apart ∙ ap (λ (k : NodeId). nat_eq k.0 1) is)
     ])
 
-is_failover : (v : Verdict) → IsVerdict loss_table loss_state the_app v → v ≡ Failover first_node
+is_failover : (v : Verdict) → IsVerdict worked_table loss_state the_app v → v ≡ Failover first_node
 is_failover (ToStart n) is = none_some (sym is.0 ∙ ap (option_map (λ (c : Claim). c.origin)) claimed)
 is_failover (Failover n) is = ap (λ k. Failover k) (first_is n is.1)
 is_failover (Halted n) is = absurd (never_up is.0 is.1 is.2.1)
@@ -253,26 +257,26 @@ is_failover (Takeover n) is = absurd (never_up is.1.0 is.1.1 is.1.2.1)
 is_failover (Kept n) is = absurd (never_up is.0.0 is.0.1 is.0.2.1)
 is_failover Nobody is = absurd (is.0 first_node (omega arith) may_run)
 
-pub verdict_is : verdict_of loss_table loss_state the_app ≡ Failover first_node
-verdict_is = is_failover (verdict_of loss_table loss_state the_app) (verdict_in_words loss_table loss_state the_app)
+pub verdict_is : verdict_of worked_table loss_state the_app ≡ Failover first_node
+verdict_is = is_failover (verdict_of worked_table loss_state the_app) (verdict_in_words worked_table loss_state the_app)
 
 abbrev pub the_waits : List (Option Noted)
-the_waits = waits_of loss_table (record { state = loss_state; moment = 5000 } ∷ loss_note ∷ [])
+the_waits = waits_of worked_table (record { state = loss_state; moment = 5000 } ∷ loss_note ∷ [])
 
-candidate : candidate_of (verdict_of loss_table loss_state the_app) ≡ Some first_node
+candidate : candidate_of (verdict_of worked_table loss_state the_app) ≡ Some first_node
 candidate = ap candidate_of verdict_is
 
-pub mine : is_mine loss_table (first_of first_node) the_waits 5000 loss_state the_app ≡ true
+pub mine : is_mine worked_table (first_of first_node) the_waits 5000 loss_state the_app ≡ true
 mine =
-    and_from _ _ (if_own (first_of first_node) (candidate_of (verdict_of loss_table loss_state the_app)) candidate)
-    (ap (λ noted. is_due_by loss_table noted loss_state the_app 5000 (verdict_of loss_table loss_state the_app)) (kept_is loss_table (record { state = loss_state; moment = 5000 } ∷ loss_note ∷ []) the_app (omega arith))
-    ∙ candidate_due loss_table loss_state the_app (record { state = loss_state; moment = 5000 }) (loss_note ∷ []) 5000 late (λ claim lost. lost) (λ claim lost. lost) first_node candidate)
+    and_from _ _ (if_own (first_of first_node) (candidate_of (verdict_of worked_table loss_state the_app)) candidate)
+    (ap (λ noted. is_due_by worked_table noted loss_state the_app 5000 (verdict_of worked_table loss_state the_app)) (kept_is worked_table (record { state = loss_state; moment = 5000 } ∷ loss_note ∷ []) the_app (omega arith))
+    ∙ candidate_due worked_table loss_state the_app (record { state = loss_state; moment = 5000 }) (loss_note ∷ []) 5000 late (λ claim lost. lost) (λ claim lost. lost) first_node candidate)
 
 pub terms_left : terms_used_up loss_state the_app ≡ false
 terms_left = ap (λ c. nat_lt MAX_COUNTER (option_map_or (λ (claim : Claim). claim.term) c 0 + 1)) claimed
 
 abbrev pub the_claim : Operation
-the_claim = claim_of loss_table (first_of first_node) loss_state the_app
+the_claim = claim_of worked_table (first_of first_node) loss_state the_app
 
 abbrev pub claims_it : Turn
 claims_it = record { ops = the_claim ∷ []; passed = []; state = join loss_state (meaning_of (the_claim ∷ [])) }

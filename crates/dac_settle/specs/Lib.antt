@@ -7,5 +7,6 @@ pub mod Worked
 pub mod WorkedMove
 pub mod WorldRounds
 pub mod WorkedLoss
+pub mod WorkedDrain
 pub mod laws
 pub use Rattle.dac_model_world.specs as dac_model_world

@@ -1,5 +1,5 @@
 -- A worked case of settling: two nodes are ready, their application is to be started, and a round settles it.
-use Rattle.std.specs.Prelude.{◌≡◌, ◌⊎◌, ℕ, true, false, cond, nat_eq, List, [], ◌∷◌, Option, Some, None, IsSome}
+use Rattle.std.specs.Prelude.{◌≡◌, ◌⊎◌, ℕ, true, false, cond, nat_eq, List, [], ◌∷◌, Option, Some, None, IsSome, Result, Ok}
 use Rattle.dac_base.specs.declared.NodeId.{NodeId}
 use Rattle.dac_base.specs.declared.AppId.{AppId}
 use Rattle.dac_origins.specs.declared.dot.Origin.{Origin}
@@ -10,6 +10,11 @@ use Rattle.dac_meaning.specs.Meaning.{meaning_of}
 use Rattle.dac_shapes.specs.declared.draft.SyncWait.TheVariants.{NoSync}
 use Rattle.dac_config.specs.Table.{Table, app_count}
 use Rattle.dac_placement.specs.Placement.{verdict_of}
+use Rattle.dac_events.specs.declared.WorldEvent.{WorldEvent}
+use Rattle.dac_events.specs.declared.What.TheVariants.{Tick, Ship, Deliver}
+use Rattle.dac_events.specs.declared.world_fault.WorldFault.{WorldFault}
+use Rattle.dac_messages.specs.declared.reply.Reply.{Reply}
+use Rattle.dac_messages.specs.declared.reply.Reply.TheVariants.{Ticked, Shipped, Heard}
 use Rattle.dac_settle.specs.Settling.{Member, IsReady, Rounds, IsSettled}
 
 -- ---- the case
@@ -29,12 +34,14 @@ IsEither n = (n ≡ first_node) ⊎ (n ≡ second_node)
 abbrev pub the_app : AppId
 the_app = record { 0 = 0 }
 
--- a and b may run a, at either of them
+-- The application may run at each of three nodes, and waits five seconds for a lost one. (Where two nodes are told of,
+-- the third never comes up.)
 abbrev pub worked_table : Table
 worked_table = record {
   nodes = (record { name = 97 ∷ []; mandatory = false; optional = false })
-      ∷ (record { name = 98 ∷ []; mandatory = false; optional = false }) ∷ [];
-  apps = (record { name = 97 ∷ []; timeout = 5000; groups = (0 ∷ 1 ∷ []) ∷ []; permission = true }) ∷ [];
+      ∷ (record { name = 98 ∷ []; mandatory = false; optional = false })
+      ∷ (record { name = 99 ∷ []; mandatory = false; optional = false }) ∷ [];
+  apps = (record { name = 97 ∷ []; timeout = 5000; groups = (0 ∷ 1 ∷ 2 ∷ []) ∷ []; permission = true }) ∷ [];
   sync_wait = NoSync;
 }
 
@@ -68,6 +75,20 @@ both_hold held n = cond (nat_eq n.0 0) (Some (member_with held)) (cond (nat_eq n
 
 abbrev pub worked_nodes : NodeId → Option Member
 worked_nodes = both_hold worked_set
+
+-- ---- a round of the model world
+
+-- five seconds after they came up, and before anything was shipped, both tick, both ship, and each hears the other
+abbrev pub both_go_round : List WorldEvent
+both_go_round =
+    (record { node = first_node; what = Tick 5000 }) ∷ (record { node = second_node; what = Tick 5000 })
+    ∷ (record { node = first_node; what = Ship second_node }) ∷ (record { node = second_node; what = Ship first_node })
+    ∷ (record { node = second_node; what = Deliver 1 }) ∷ (record { node = first_node; what = Deliver 2 }) ∷ []
+
+-- the answers after the first tick: another tick, two ships and two deliveries that are heard
+abbrev pub AreLater : List (Result Reply WorldFault) → Type 0
+AreLater (Ok (Ticked os ps) ∷ Ok (Shipped m) ∷ Ok (Shipped k) ∷ Ok (Heard f) ∷ Ok (Heard g) ∷ []) = Unit {0}
+AreLater _ = ⊥
 
 -- ---- what is so of it
 

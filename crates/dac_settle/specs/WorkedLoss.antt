@@ -1,6 +1,6 @@
 -- A worked run of the model world: a claim is lost and noted by two nodes. Once its time is over, a round
 -- of both fails over.
-use Rattle.std.specs.Prelude.{◌≡◌, ℕ, true, false, List, [], ◌∷◌, ◌++◌, Some, None, IsSome, Result, Ok}
+use Rattle.std.specs.Prelude.{◌≡◌, ℕ, List, [], ◌∷◌, ◌++◌, Some, None, IsSome, Result, Ok}
 use Rattle.dac_base.specs.declared.NodeId.{NodeId}
 use Rattle.dac_chains.specs.declared.claims.Claim.{Claim}
 use Rattle.dac_chains.specs.declared.claims.How.TheVariants.{Normal, Failover as FailedOver}
@@ -8,15 +8,14 @@ use Rattle.dac_operations.specs.declared.act.Act.TheVariants.{Claim as Claims}
 use Rattle.dac_operations.specs.Operations.{Operation}
 use Rattle.dac_meaning.specs.StateValue.{StateValue}
 use Rattle.dac_meaning.specs.Meaning.{meaning_of}
-use Rattle.dac_shapes.specs.declared.draft.SyncWait.TheVariants.{NoSync}
-use Rattle.dac_config.specs.Table.{Table, app_count}
+use Rattle.dac_config.specs.Table.{app_count}
 use Rattle.dac_placement.specs.Placement.{verdict_of}
 use Rattle.dac_decide.specs.FailoverWait.{IsLost}
 use Rattle.dac_events.specs.declared.Command.TheVariants.{Start}
 use Rattle.dac_events.specs.declared.WorldEvent.{WorldEvent}
-use Rattle.dac_events.specs.declared.What.TheVariants.{Boot, Crash, Command, Tick, Ship, Deliver, Hand}
+use Rattle.dac_events.specs.declared.What.TheVariants.{Boot, Crash, Command, Tick, Hand}
 use Rattle.dac_messages.specs.declared.reply.Reply.{Reply}
-use Rattle.dac_messages.specs.declared.reply.Reply.TheVariants.{Ticked, Shipped, Heard}
+use Rattle.dac_messages.specs.declared.reply.Reply.TheVariants.{Ticked}
 use Rattle.dac_events.specs.declared.world_fault.WorldFault.{WorldFault}
 use Rattle.dac_model_world.specs.WorldValue.{WorldValue}
 use Rattle.dac_model_world.specs.ModelWorld.{AnsweredAs, RanAs, start, world_after}
@@ -24,23 +23,13 @@ use Rattle.dac_model_world.specs.Convergence.{RunsWith}
 use Rattle.dac_settle.specs.Settling.{IsSettled}
 use Rattle.dac_model_world.specs.SetWorld.{NodeSet, no_sets, set_run}
 use Rattle.dac_settle.specs.WorldRounds.{IsReadyWorld, AreRounds}
-use Rattle.dac_settle.specs.Worked.{first_node, second_node, IsEither, the_app, first_of}
+use Rattle.dac_settle.specs.Worked.{first_node, second_node, IsEither, the_app, worked_table, first_of, both_go_round, AreLater}
 
 -- ---- the case
 
 -- the node that is lost
 abbrev pub lost_node : NodeId
 lost_node = record { 0 = 2 }
-
--- the application may run at each of three nodes, and waits five seconds for a lost one
-abbrev pub loss_table : Table
-loss_table = record {
-  nodes = (record { name = 97 ∷ []; mandatory = false; optional = false })
-      ∷ (record { name = 98 ∷ []; mandatory = false; optional = false })
-      ∷ (record { name = 99 ∷ []; mandatory = false; optional = false }) ∷ [];
-  apps = (record { name = 97 ∷ []; timeout = 5000; groups = (0 ∷ 1 ∷ 2 ∷ []) ∷ []; permission = true }) ∷ [];
-  sync_wait = NoSync;
-}
 
 -- the claim of the third node
 abbrev pub lost_claim : Claim
@@ -57,26 +46,14 @@ losing =
     ∷ (record { node = second_node; what = Hand 3 }) ∷ (record { node = second_node; what = Hand 4 }) ∷ (record { node = second_node; what = Hand 5 })
     ∷ (record { node = first_node; what = Tick 0 }) ∷ (record { node = second_node; what = Tick 0 }) ∷ []
 
--- both tick once the time is over, both ship, and each hears the other
-abbrev pub waited : List WorldEvent
-waited =
-    (record { node = first_node; what = Tick 5000 }) ∷ (record { node = second_node; what = Tick 5000 })
-    ∷ (record { node = first_node; what = Ship second_node }) ∷ (record { node = second_node; what = Ship first_node })
-    ∷ (record { node = second_node; what = Deliver 1 }) ∷ (record { node = first_node; what = Deliver 2 }) ∷ []
-
--- the answers after the first tick: another tick, two ships and two deliveries that are heard
-abbrev pub AreLater : List (Result Reply WorldFault) → Type 0
-AreLater (Ok (Ticked os ps) ∷ Ok (Shipped m) ∷ Ok (Shipped k) ∷ Ok (Heard f) ∷ Ok (Heard g) ∷ []) = Unit {0}
-AreLater _ = ⊥
-
 -- The model world answers the events so, from the start. It is ready after them, two nodes run, and the claim is lost
 -- in what each of them holds. The events after them, answered so, are as many rounds as there are applications. By its
 -- tick the first node takes the application from the lost one, in a failover. After all events both nodes still run,
 -- and the application is settled at each node that runs.
 pub record RunsCanFailOver : Type 0 where
   pub replies : List (Result Reply WorldFault)
-  pub answered : AnsweredAs loss_table (start loss_table) losing replies
-  pub ready : IsReadyWorld (world_after loss_table (start loss_table) losing replies) (set_run no_sets losing replies)
+  pub answered : AnsweredAs worked_table (start worked_table) losing replies
+  pub ready : IsReadyWorld (world_after worked_table (start worked_table) losing replies) (set_run no_sets losing replies)
   pub held : NodeId → NodeSet
   pub holds : (n : NodeId) → IsEither n → (set_run no_sets losing replies).node n ≡ Some (held n)
   pub lost : (n : NodeId) → IsEither n → IsLost (meaning_of (held n).operations) the_app lost_claim
@@ -84,10 +61,10 @@ pub record RunsCanFailOver : Type 0 where
   pub fails_over : claim.act ≡ Claims the_app 2 FailedOver (Some lost_node)
   pub later : List (Result Reply WorldFault)
   pub kinds : AreLater later
-  pub rounds : AreRounds loss_table (app_count loss_table) (world_after loss_table (start loss_table) losing replies)
-      (set_run no_sets losing replies) waited (Ok (Ticked (claim ∷ []) []) ∷ later)
+  pub rounds : AreRounds worked_table (app_count worked_table) (world_after worked_table (start worked_table) losing replies)
+      (set_run no_sets losing replies) both_go_round (Ok (Ticked (claim ∷ []) []) ∷ later)
   pub run : (n : NodeId) → IsEither n
-      → IsSome ((set_run no_sets (losing ++ waited) (replies ++ Ok (Ticked (claim ∷ []) []) ∷ later)).node n)
+      → IsSome ((set_run no_sets (losing ++ both_go_round) (replies ++ Ok (Ticked (claim ∷ []) []) ∷ later)).node n)
   pub settled : (v : WorldValue)
-      → RanAs loss_table (losing ++ waited) (replies ++ Ok (Ticked (claim ∷ []) []) ∷ later) v
-      → (n : ℕ) (state : StateValue) → RunsWith v n state → IsSettled (verdict_of loss_table state the_app)
+      → RanAs worked_table (losing ++ both_go_round) (replies ++ Ok (Ticked (claim ∷ []) []) ∷ later) v
+      → (n : ℕ) (state : StateValue) → RunsWith v n state → IsSettled (verdict_of worked_table state the_app)

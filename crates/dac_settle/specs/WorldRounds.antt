@@ -46,7 +46,8 @@ IsLateBy t None what = Unit {0}
 
 -- What may be accepted in a round before which so much was shipped. It is a tick, a ship, or a delivery of what was
 -- shipped in the round. The tick comes when all that was noted has waited its time, and it passes no application.
--- Whatever is refused may come.
+-- Whatever is refused may come, since it changes nothing. Nothing else may be accepted: no boot, no crash, no command
+-- and no operation that is handed.
 abbrev pub InRound : Table → ℕ → ModelWorld → NodeId → What → Result Reply WorldFault → Type 0
 InRound t before w n what (Err why) = Unit {0}
 InRound t before w n what (Ok (Ticked ops passed)) = (passed ≡ []) × IsLateBy t (w.node n).running what

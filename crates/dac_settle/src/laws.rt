@@ -6,6 +6,7 @@ ghost use Rattle.dac_settle.specs.Staying.{Stays};
 ghost use Rattle.dac_settle.specs.WorldRounds.{Settles};
 ghost use Rattle.dac_settle.specs.WorkedMove.{RoundsCanMove};
 ghost use Rattle.dac_settle.specs.WorkedLoss.{RunsCanFailOver};
+ghost use Rattle.dac_settle.specs.WorkedDrain.{RunsCanMove};
 ghost use Rattle.dac_model_world.specs.ModelWorld.{InEachRun};
 
 /// Rounds settle all. As many rounds as the configuration has applications, begun in a ready world, settle each
@@ -25,6 +26,9 @@ pub fn rounds_can_be()
     // A run from the start leads to a ready world in which a claim is lost, and two nodes noted it. Once its time is over
     // both tick, ship and hear: a round, which fails over.
     ensures runs { RunsCanFailOver }
+    // A run from the start drains the node that has an application, by a command. Both nodes hear of it, and their round
+    // moves the application.
+    ensures drains { RunsCanMove }
 {}
 
 /// What is settled stays so, whatever is claimed beside it.

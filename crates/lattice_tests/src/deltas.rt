@@ -1,5 +1,6 @@
 //! Buffers of deltas, and what was acknowledged.
 use crate::sample::origin;
+use crate::tokens::Token;
 use dac_base::NoMemory;
 use dac_deltas::{Acks, Buffer, Entries};
 use dac_lattice::Max;
@@ -123,6 +124,56 @@ fn interval_is_remembered_until_a_delta_comes(rt: HostRuntime) {
     assert!(rt; interval_beside(rt.alloc(), 3, 3) == Ok((Some(9), Some(100))));
     assert!(rt; interval_beside(rt.alloc(), 9, 3) == Ok((Some(9), Some(100))));
     assert!(rt; interval_beside(rt.alloc(), 3, 9) == Ok((Some(0), Some(100))));
+}
+
+/// Pushes a token, if there may be one more.
+fn push_token(buffer: &mut Buffer<Token>) -> Result<(), NoMemory> {
+    if buffer.count() < 1 << 62 {
+        buffer.push(Token::new())?;
+    }
+    Ok(())
+}
+
+/// Whether the interval from a delta on is a copy, where it has blocks to be joined.
+fn is_copied(buffer: &Buffer<Token>, from: u64) -> Result<Option<bool>, NoMemory> {
+    buffer.tells_invariant();
+    if from > buffer.count() {
+        return Ok(None);
+    }
+    match buffer.interval(from)? {
+        Some(token) => Ok(Some(token.is_copy)),
+        None => Ok(None),
+    }
+}
+
+/// Nine tokens, of which the interval from the fourth on is remembered.
+fn remembering(alloc: Global) -> Result<Buffer<Token>, NoMemory> {
+    let mut buffer = Buffer::new(alloc);
+    for _ in 0..9 {
+        push_token(&mut buffer)?;
+    }
+    if 3 <= buffer.count() {
+        if let Some(joined) = buffer.interval(3)? {
+            buffer.remember(3, joined);
+        }
+    }
+    Ok(buffer)
+}
+
+/// Whether the interval from a delta on is a copy where that from the fourth on is remembered, and once one delta more
+/// came.
+fn copied(alloc: Global, from: u64) -> Result<(Option<bool>, Option<bool>), NoMemory> {
+    let mut buffer = remembering(alloc)?;
+    let before = is_copied(&buffer, from)?;
+    push_token(&mut buffer)?;
+    Ok((before, is_copied(&buffer, from)?))
+}
+
+/// The interval that is remembered is no longer joined from its blocks, but copied.
+#[test]
+fn remembered_interval_is_copied(rt: HostRuntime) {
+    assert!(rt; copied(rt.alloc(), 3) == Ok((Some(true), Some(false))));
+    assert!(rt; copied(rt.alloc(), 2) == Ok((Some(false), Some(false))));
 }
 
 /// The blocks from a delta on.

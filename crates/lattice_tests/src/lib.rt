@@ -25,4 +25,6 @@ mod sample;
 #[cfg(test)]
 mod stores;
 #[cfg(test)]
+mod tokens;
+#[cfg(test)]
 mod wishes;

@@ -40,7 +40,7 @@ use Rattle.dac_settle.specs.laws.Started.{SayNoLives, up_live, only_up_live}
 none_some : {X : Type 0} {v : X} {Y : Type 0} → ◌≡◌ {A = Option X} None (Some v) → Y
 none_some e = cc
 
-abbrev drained_state : StateValue
+abbrev pub drained_state : StateValue
 drained_state = meaning_of drained_set
 
 -- ---- who is live
@@ -54,14 +54,14 @@ silent o (inr (inr (inl a))) = ap (λ (q : Operation). life_said q.dot q.act) a
 silent o (inr (inr (inr (inl a)))) = ap (λ (q : Operation). life_said q.dot q.act) a
 silent o (inr (inr (inr (inr none)))) = absurd none
 
-is_live : (n : NodeId) → IsEither n → IsLive drained_state.lives n 1
+pub is_live : (n : NodeId) → IsEither n → IsLive drained_state.lives n 1
 is_live = up_live the_rest silent
 
-only_live : (n : NodeId) (inc : ℕ) → IsLive drained_state.lives n inc → IsEither n × (1 ≡ inc)
+pub only_live : (n : NodeId) (inc : ℕ) → IsLive drained_state.lives n inc → IsEither n × (1 ≡ inc)
 only_live = only_up_live the_rest silent
 
 -- ---- what is claimed
-said_by : (app : AppId) (c : Claim) → SaysFor claim_said drained_set app c → (the_app ≡ app) × (first_claim ≡ c)
+pub said_by : (app : AppId) (c : Claim) → SaysFor claim_said drained_set app c → (the_app ≡ app) × (first_claim ≡ c)
 said_by app c says = by_place says.0 says.1.0 says.1.1
   where
     pair_of : ◌≡◌ {A = Option (AppId × Claim)} (Some (the_app, first_claim)) (Some (app, c)) → (the_app ≡ app) × (first_claim ≡ c)
@@ -76,7 +76,7 @@ said_by app c says = by_place says.0 says.1.0 says.1.1
     by_place o (inr (inr (inr (inr (inr (inl a)))))) e = none_some (sym (ap (λ (q : Operation). claim_said q.dot q.act) a) ∙ e)
     by_place o (inr (inr (inr (inr (inr (inr none)))))) e = absurd none
 
-claimed : map.get drained_state.claims the_app ≡ Some first_claim
+pub claimed : map.get drained_state.claims the_app ≡ Some first_claim
 claimed = by_claim (map.get drained_state.claims the_app) (claim_greatest drained_set the_app)
   where
     by_claim : (o : Option Claim) → IsGreatest claim_cmp (SaysFor claim_said drained_set the_app) o → o ≡ Some first_claim
@@ -90,7 +90,7 @@ of_first app claim e = by_claim (map.get drained_state.claims app) (claim_greate
     by_claim None none e = none_some e
     by_claim (Some k) is e = (said_by app k is.0).1 ∙ one e
 
-never_lost : (app : AppId) (claim : Claim) → IsLost drained_state app claim → ⊥
+pub never_lost : (app : AppId) (claim : Claim) → IsLost drained_state app claim → ⊥
 never_lost app claim lost = lost.down (subst (λ (c : Claim). IsUp drained_state c.origin) (of_first app claim lost.greatest) (is_live first_node (inl refl)))
 
 -- ---- both are ready
@@ -108,7 +108,7 @@ is_ready = record {
 }
 
 -- ---- the application is to be moved
-is_drained : IsDrainedAt drained_state first_node 1
+pub is_drained : IsDrainedAt drained_state first_node 1
 is_drained = (dot (first_of second_node) 3, drains-meaning drained_set (keyed_write (origin first_node 1) (dot (first_of second_node) 3)))
 
 started : (n : NodeId) → IsEither n → IsStartedAt drained_state (key_at the_app n 1)
@@ -159,11 +159,14 @@ is_move (Takeover n) is = absurd (never_allowed is.1.0 is.1.1 is.1.2.3)
 is_move (Kept n) is = absurd (never_allowed is.0.0 is.0.1 is.0.2.3)
 is_move Nobody is = absurd (is.0 second_node (omega arith) may_run)
 
+pub to_move : verdict_of worked_table drained_state the_app ≡ Move second_node
+to_move = is_move (verdict_of worked_table drained_state the_app) (verdict_in_words worked_table drained_state the_app)
+
 -- ---- the round
 agree : DotsDetermine drained_set
 agree = DistinctDots-agree drained_set (refl, (refl, (refl, (refl, (refl, (refl, tt))))))
 
-terms_left : terms_used_up drained_state the_app ≡ false
+pub terms_left : terms_used_up drained_state the_app ≡ false
 terms_left = ap (λ c. nat_lt MAX_COUNTER (option_map_or (λ (claim : Claim). claim.term) c 0 + 1)) claimed
 
 the_rounds : Rounds worked_table (app_count worked_table) (both_hold drained_set) (after_all drained_set agree terms_left)
@@ -173,7 +176,7 @@ pub rounds_can_move : RoundsCanMove
 rounds_can_move = record {
   ready = is_ready;
   drained = is_drained;
-  moves = is_move (verdict_of worked_table drained_state the_app) (verdict_in_words worked_table drained_state the_app);
+  moves = to_move;
   later = after_all drained_set agree terms_left;
   rounds = the_rounds;
   run = both_run drained_set agree terms_left;

@@ -128,7 +128,7 @@ module _ (t : Table) where
 
 -- ---- what shows as the program's world
 
-set_there : (o : Option NodeSet) (state : StateValue) → option_map state_by o ≡ Some state → (set : NodeSet) × (o ≡ Some set) × (meaning_of set.operations ≡ state)
+pub set_there : (o : Option NodeSet) (state : StateValue) → option_map state_by o ≡ Some state → (set : NodeSet) × (o ≡ Some set) × (meaning_of set.operations ≡ state)
 set_there None state e = cc
 set_there (Some set) state e = (set, refl, one e)
   where
@@ -139,12 +139,16 @@ run_there : (o : Option ModelRunning) (state : StateValue) → option_map state_
 run_there None state e = cc
 run_there (Some r) state e = (r, refl)
 
+-- each state of it is that of a set
+pub held_shown : (t : Table) (final : ModelWorld) (last : SetWorld) (v : WorldValue) → Shows t final v → Sound final last → (n : ℕ) (state : StateValue) → RunsWith v n state → option_map state_by (last.node (numbered n)) ≡ Some state
+held_shown t final last v shows h n state runs = sym ((holds_sets t final v last shows h).each n runs.node runs.there) ∙ runs.state
+
 -- where all rounds came to, each state of the program's world is settled
 settled_there : (t : Table) (w final : ModelWorld) (s last : SetWorld) (v : WorldValue) → IsReadyWorld w s → Rounds t (app_count t) (members_of w s) (members_of final last) → Sound final last → Shows t final v
     → (n : ℕ) (state : StateValue) → RunsWith v n state → (app : AppId) → app.0 < app_count t → IsSettled (verdict_of t state app)
 settled_there t w final s last v ready rounds h shows n state runs app lt =
     let m = numbered n in
-    let held : option_map state_by (last.node m) ≡ Some state = sym ((holds_sets t final v last shows h).each n runs.node runs.there) ∙ runs.state in
+    let held = held_shown t final last v shows h n state runs in
     let set = set_there (last.node m) state held in
     let r = run_there (final.node m).running state ((h.nodes m).state ∙ held) in
     let d : Member = record { inc = r.0.origin.inc; held = set.0.operations; notes = r.0.notes } in

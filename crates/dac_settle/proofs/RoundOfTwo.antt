@@ -1,4 +1,5 @@
--- The worked round: both nodes tick late, ship and hear.
+-- The round of the worked runs: both nodes know the same and tick, ship and hear. What each claims by its tick is told
+-- where it is known.
 use Rattle.std.proofs.Common.{◌≡◌, append-nil, ◌⊎◌, ℕ, ◌+◌, ◌≤◌, Bool, true, false, not, cond, ◌||◌, ◌&&◌, List, [], ◌∷◌, ◌++◌, length, Option, Some, None, option_map, Ok, Err, refl, sym, ap, subst, ◌∙◌, arith, inl, inr}
 use Rattle.std.specs.Prelude.{nat_eq, nat_lt, IsSome, Result}
 use Rattle.std.specs.Option.{is_some, option_and_then}
@@ -19,7 +20,8 @@ use Rattle.dac_meaning.specs.Meaning.{IsOperationOf, AreOperationsOf, meaning_of
 use Rattle.dac_meaning.specs.laws.Members.{In-append_left, In-append_right, In-append_cases}
 use Rattle.dac_config.specs.Table.{app_count}
 use Rattle.dac_placement.specs.Placement.{is_up}
-use Rattle.dac_decide.specs.FailoverWait.{IsLost, IsLostByNewest, waits_of}
+use Rattle.dac_placement.specs.laws.Tests.{up_is}
+use Rattle.dac_decide.specs.FailoverWait.{Note, IsLost, IsLostByNewest, waits_of}
 use Rattle.dac_events.specs.declared.WorldEvent.{WorldEvent}
 use Rattle.dac_events.specs.declared.What.{What}
 use Rattle.dac_events.specs.declared.What.TheVariants.{Tick as Ticking, Ship as Shipping, Deliver}
@@ -46,13 +48,11 @@ use Rattle.dac_meaning.specs.Below.{is_below}
 use Rattle.dac_events.specs.declared.world_fault.WorldFault.TheVariants.{NoSuchNode}
 use Rattle.dac_model_world.specs.ModelWorld.{ModelWorld, WorldStepped, AnsweredAs, event_of, happens, happens_by, answered_by, world_after}
 use Rattle.dac_model_world.specs.SetWorld.{Issue, NodeSet, SetWorld, set_run}
-use Rattle.dac_settle.specs.Settling.{Member, AllSame, IsReady}
+use Rattle.dac_settle.specs.Settling.{Member, IsLate, AllSame, IsReady}
 use Rattle.dac_settle.specs.WorldRounds.{member_by, members_of, InRound, AreInRound, IsWorldRound, AreRounds}
-use Rattle.dac_settle.specs.Worked.{first_node, second_node, IsEither, the_app, first_of}
-use Rattle.dac_settle.specs.WorkedLoss.{loss_table, waited}
+use Rattle.dac_settle.specs.Worked.{first_node, second_node, IsEither, the_app, worked_table, first_of, both_go_round}
 use Rattle.dac_settle.specs.laws.AnyPlacement.{same_node, one}
-use Rattle.dac_settle.proofs.LostClaim.{none_some}
-use Rattle.dac_settle.proofs.Losing.{loss_state, loss_note, is_live, only_live, few, up_there, terms_left, mine, claims_it, the_claim, late}
+use Rattle.dac_settle.proofs.ComingUp.{none_some}
 
 -- ---- the ships
 acked_none : (s : StateValue) (to : NodeId) → acked_at no_peers s to ≡ None
@@ -74,15 +74,15 @@ abbrev Answer : Type 0
 Answer = Result Reply WorldFault
 
 record Comes (w : ModelWorld) (es : List WorldEvent) (answers : List Answer) : Type 0 where
-  answered : AnsweredAs loss_table w es answers
-  fits : AreInRound loss_table 0 w es answers
+  answered : AnsweredAs worked_table w es answers
+  fits : AreInRound worked_table 0 w es answers
 
 comes : (w : ModelWorld) (e : WorldEvent) (d : ModelNode) (reply : Reply) (es : List WorldEvent) (answers : List Answer)
-    → happens loss_table w e ≡ answered_by w e.node d (Ok reply) → InRound loss_table 0 w e.node e.what (Ok reply)
+    → happens worked_table w e ≡ answered_by w e.node d (Ok reply) → InRound worked_table 0 w e.node e.what (Ok reply)
     → Comes (answered_by w e.node d (Ok reply)).world es answers → Comes w (e ∷ es) (Ok reply ∷ answers)
 comes w e d reply es answers is fits rest = record {
-  answered = (inl (sym (ap (λ (by : WorldStepped). by.answer) is)), subst (λ (by : WorldStepped). AnsweredAs loss_table by.world es answers) (sym is) rest.answered);
-  fits = (fits, subst (λ (by : WorldStepped). AreInRound loss_table 0 by.world es answers) (sym is) rest.fits);
+  answered = (inl (sym (ap (λ (by : WorldStepped). by.answer) is)), subst (λ (by : WorldStepped). AnsweredAs worked_table by.world es answers) (sym is) rest.answered);
+  fits = (fits, subst (λ (by : WorldStepped). AreInRound worked_table 0 by.world es answers) (sym is) rest.fits);
 }
 
 ended : (w : ModelWorld) → Comes w [] []
@@ -108,14 +108,14 @@ e6 = record { node = first_node; what = Deliver 2 }
 
 -- an event that isn't refused
 abbrev not_refused : ModelWorld → NodeId → Event → WorldStepped
-not_refused w n e = answered_by w n (step_by None loss_table n (w.node n) e).node (step_by None loss_table n (w.node n) e).answer
+not_refused w n e = answered_by w n (step_by None worked_table n (w.node n) e).node (step_by None worked_table n (w.node n) e).answer
 
-pub happens_so : (w : ModelWorld) (n : NodeId) (what : What) (e : Event) → nat_lt n.0 w.count ≡ true → event_of w.operations w.messages what ≡ Ok e → refusal_of loss_table (shown loss_table (w.node n)) e ≡ None
-    → happens loss_table w (record { node = n; what = what }) ≡ not_refused w n e
+pub happens_so : (w : ModelWorld) (n : NodeId) (what : What) (e : Event) → nat_lt n.0 w.count ≡ true → event_of w.operations w.messages what ≡ Ok e → refusal_of worked_table (shown worked_table (w.node n)) e ≡ None
+    → happens worked_table w (record { node = n; what = what }) ≡ not_refused w n e
 happens_so w n what e there is none =
-    (λ i. cond (there i) (happens_by loss_table w n (event_of w.operations w.messages what)) (record { world = w; answer = Err NoSuchNode }))
-    ∙ (λ i. happens_by loss_table w n (is i))
-    ∙ ap (λ (why : Option Refusal). answered_by w n (step_by why loss_table n (w.node n) e).node (step_by why loss_table n (w.node n) e).answer) none
+    (λ i. cond (there i) (happens_by worked_table w n (event_of w.operations w.messages what)) (record { world = w; answer = Err NoSuchNode }))
+    ∙ (λ i. happens_by worked_table w n (is i))
+    ∙ ap (λ (why : Option Refusal). answered_by w n (step_by why worked_table n (w.node n) e).node (step_by why worked_table n (w.node n) e).answer) none
 
 turned_round : (xs ys : List Operation) → AreOperationsOf (xs ++ ys) (ys ++ xs)
 turned_round xs ys o i = elim (In-append_cases o xs ys i) [ inl x ↦ In-append_right o ys xs x | inr y ↦ In-append_left o ys xs y ]
@@ -128,60 +128,70 @@ has_set w sets m d e = by_set (w.node m).running (sets.node m) refl e
     by_set (Some r) None is e = none_some e
     by_set (Some r) (Some set) is e = (set, (is, ap (λ (k : Member). k.held) (one e)))
 
--- the turn of a tick at moment 5000 of a node that knows so much
-turn_by : NodeId → StateValue → Turn
-turn_by n u = turn_of loss_table (first_of n) (waits_of loss_table (record { state = u; moment = 5000 } ∷ loss_note ∷ [])) 5000 u
+-- the turn of a tick at moment 5000 of a node that noted so much and knows so much
+turn_by : NodeId → List Note → StateValue → Turn
+turn_by n notes u = turn_of worked_table (first_of n) (waits_of worked_table (record { state = u; moment = 5000 } ∷ notes)) 5000 u
 
--- ---- a world in which both know the loss
--- Each of the two runs with such a log, holds such a set, and knows what `loss_set` says. Nobody else runs.
-module _ (log : NodeId → List StateValue) (base : NodeId → ℕ) (held : NodeId → List Operation) (operations : List Operation) (rest : NodeId → ModelNode) (sets : NodeId → Option NodeSet) (issues : List Issue)
+-- ---- a world in which both know the same
+-- Each of the two runs with such a log and such notes, holds such a set, and knows this state. Nobody else runs.
+module _ (state : StateValue) (opened : NodeId → Bool) (notes : NodeId → List Note)
+    (live : (n : NodeId) → IsEither n → IsLive state.lives n 1)
+    (only_live : (n : NodeId) (inc : ℕ) → IsLive state.lives n inc → IsEither n × (1 ≡ inc))
+    (few : (n : NodeId) → IsEither n → nat_lt MAX_COUNTER (greatest_counter (first_of n) state.known + 1) ≡ false)
+    (left : terms_used_up state the_app ≡ false)
+    (late : (n : NodeId) → IsEither n → IsLate worked_table (notes n) 5000)
+    (noted : (n : NodeId) → IsEither n → (app : AppId) (claim : Claim) → IsLost state app claim → IsLostByNewest (notes n) app claim)
+    (log : NodeId → List StateValue) (base : NodeId → ℕ) (held : NodeId → List Operation) (operations : List Operation) (rest : NodeId → ModelNode) (sets : NodeId → Option NodeSet) (issues : List Issue)
     (short : (n : NodeId) → length (log n) ≤ 9)
-    (known : (n : NodeId) → IsEither n → joined (log n) ≡ loss_state)
-    (means : (n : NodeId) → IsEither n → meaning_of (held n) ≡ loss_state)
+    (known : (n : NodeId) → IsEither n → joined (log n) ≡ state)
+    (means : (n : NodeId) → IsEither n → meaning_of (held n) ≡ state)
     (alike : (m n : NodeId) → IsEither m → IsEither n → AreOperationsOf (held m) (held n))
     (no_run : (n : NodeId) → nat_eq n.0 0 ≡ false → nat_eq n.0 1 ≡ false → (rest n).running ≡ None)
     (no_set : (n : NodeId) → nat_eq n.0 0 ≡ false → nat_eq n.0 1 ≡ false → sets n ≡ None)
   where
-    -- a node that noted the loss at moment 0
-    abbrev pub loss_node : NodeId → ModelNode
-    loss_node n = record { last = 1; running = Some (record { origin = first_of n; moments = record { booted = 0; last = 0 }; is_open = true; notes = loss_note ∷ []; log = log n; base = base n; peers = no_peers }) }
+    -- a node whose start gate is open or not
+    abbrev known_by : Bool → NodeId → ModelNode
+    known_by is_open n = record { last = 1; running = Some (record { origin = first_of n; moments = record { booted = 0; last = 0 }; is_open = is_open; notes = notes n; log = log n; base = base n; peers = no_peers }) }
 
-    abbrev pub loss_world : ModelWorld
-    loss_world = record { count = 3; node = λ m. cond (nat_eq m.0 1) (loss_node second_node) (cond (nat_eq m.0 0) (loss_node first_node) (rest m)); operations = operations; messages = [] }
+    abbrev pub known_node : NodeId → ModelNode
+    known_node n = known_by (opened n) n
+
+    abbrev pub known_world : ModelWorld
+    known_world = record { count = 3; node = λ m. cond (nat_eq m.0 1) (known_node second_node) (cond (nat_eq m.0 0) (known_node first_node) (rest m)); operations = operations; messages = [] }
 
     abbrev held_set : NodeId → NodeSet
     held_set n = record { inc = 1; operations = held n }
 
-    abbrev pub loss_sets : SetWorld
-    loss_sets = record { node = λ m. cond (nat_eq m.0 1) (Some (held_set second_node)) (cond (nat_eq m.0 0) (Some (held_set first_node)) (sets m)); issued = issues; copies = [] }
+    abbrev pub known_sets : SetWorld
+    known_sets = record { node = λ m. cond (nat_eq m.0 1) (Some (held_set second_node)) (cond (nat_eq m.0 0) (Some (held_set first_node)) (sets m)); issued = issues; copies = [] }
 
     -- ---- who runs
     abbrev the_member : NodeId → Member
-    the_member n = record { inc = 1; held = held n; notes = loss_note ∷ [] }
+    the_member n = record { inc = 1; held = held n; notes = notes n }
 
-    is_member : (m : NodeId) (d : Member) → members_of loss_world loss_sets m ≡ Some d → IsEither m × (the_member m ≡ d)
+    is_member : (m : NodeId) (d : Member) → members_of known_world known_sets m ≡ Some d → IsEither m × (the_member m ≡ d)
     is_member m d e = by_tests (nat_eq m.0 0) (nat_eq m.0 1) refl refl e
       where
         of : (n : NodeId) → n ≡ m → the_member n ≡ d → the_member m ≡ d
         of n same is = ap the_member (sym same) ∙ is
 
         by_tests : (a b : Bool) → nat_eq m.0 0 ≡ a → nat_eq m.0 1 ≡ b
-            → member_by (cond {A = ModelNode} b (loss_node second_node) (cond a (loss_node first_node) (rest m))).running (cond b (Some (held_set second_node)) (cond a (Some (held_set first_node)) (sets m))) ≡ Some d
+            → member_by (cond {A = ModelNode} b (known_node second_node) (cond a (known_node first_node) (rest m))).running (cond b (Some (held_set second_node)) (cond a (Some (held_set first_node)) (sets m))) ≡ Some d
             → IsEither m × (the_member m ≡ d)
         by_tests a true other at e = (inr (same_node at), of second_node (sym (same_node at)) (one e))
         by_tests true false at other e = (inl (same_node at), of first_node (sym (same_node at)) (one e))
         by_tests false false away apart e = none_some (sym (ap (λ (r : Option ModelRunning). member_by r (sets m)) (no_run m away apart)) ∙ e)
 
-    member_at : (m : NodeId) → IsEither m → members_of loss_world loss_sets m ≡ Some (the_member m)
+    member_at : (m : NodeId) → IsEither m → members_of known_world known_sets m ≡ Some (the_member m)
     member_at m either = elim either [
-      | inl a ↦ subst (λ (k : NodeId). members_of loss_world loss_sets k ≡ Some (the_member k)) (sym a) refl
-      | inr b ↦ subst (λ (k : NodeId). members_of loss_world loss_sets k ≡ Some (the_member k)) (sym b) refl
+      | inl a ↦ subst (λ (k : NodeId). members_of known_world known_sets k ≡ Some (the_member k)) (sym a) refl
+      | inr b ↦ subst (λ (k : NodeId). members_of known_world known_sets k ≡ Some (the_member k)) (sym b) refl
     ]
 
-    lives_here : (m : NodeId) (d : Member) → members_of loss_world loss_sets m ≡ Some d → meaning_of d.held ≡ loss_state
+    lives_here : (m : NodeId) (d : Member) → members_of known_world known_sets m ≡ Some d → meaning_of d.held ≡ state
     lives_here m d of_m = let at = is_member m d of_m in ap (λ (k : Member). meaning_of k.held) (sym at.1) ∙ means m at.0
 
-    pub is_ready : IsReady (members_of loss_world loss_sets)
+    pub is_ready : IsReady (members_of known_world known_sets)
     is_ready = record {
       same = λ m n d e of_m of_n o i.
           let a = is_member m d of_m in
@@ -193,13 +203,12 @@ module _ (log : NodeId → List StateValue) (base : NodeId → ℕ) (held : Node
       live = λ m n d e of_m of_n.
           let at = is_member n e of_n in
           subst (λ (s : StateValue). IsLive s.lives n e.inc) (sym (lives_here m d of_m))
-          (subst (λ (k : Member). IsLive loss_state.lives n k.inc) at.1 (is_live n at.0));
+          (subst (λ (k : Member). IsLive state.lives n k.inc) at.1 (live n at.0));
       noted = λ m d of_m app claim lost.
-          noted_by d m (is_member m d of_m).1 app claim (subst (λ (s : StateValue). IsLost s app claim) (lives_here m d of_m) lost);
+          let at = is_member m d of_m in
+          subst (λ (k : Member). IsLostByNewest k.notes app claim) at.1
+          (noted m at.0 app claim (subst (λ (s : StateValue). IsLost s app claim) (lives_here m d of_m) lost));
     }
-      where
-        noted_by : (d : Member) (m : NodeId) → the_member m ≡ d → (app : AppId) (claim : Claim) → IsLost loss_state app claim → IsLostByNewest d.notes app claim
-        noted_by d m same app claim lost = subst (λ (k : Member). IsLostByNewest k.notes app claim) same lost
 
     -- ---- the ticks
     few_log : (n : NodeId) → nat_lt MAX_COUNTER (length (log n) + 1) ≡ false
@@ -208,7 +217,10 @@ module _ (log : NodeId → List StateValue) (base : NodeId → ℕ) (held : Node
         at_most : (l : ℕ) → l ≤ 9 → nat_lt MAX_COUNTER (l + 1) ≡ false
         at_most l h = le-ltb MAX_COUNTER (l + 1) (omega (arith, leb-true 10 MAX_COUNTER refl))
 
-    ticks_on : (n : NodeId) → IsEither n → refusal_of loss_table (shown loss_table (loss_node n)) (Tick 5000) ≡ None
+    up_there : (n : NodeId) → IsEither n → is_up state (first_of n) ≡ true
+    up_there n either = (up_is state (first_of n)).1 (live n either)
+
+    ticks_on : (n : NodeId) → IsEither n → refusal_of worked_table (shown worked_table (known_node n)) (Tick 5000) ≡ None
     ticks_on n either =
         (λ i. refused (not (is_up (known n either i) (first_of n))) (nat_lt MAX_COUNTER (greatest_counter (first_of n) (known n either i).known + 1)) (few_log n i))
         ∙ (λ i. refused (not (up_there n either i)) (few n either i) false)
@@ -216,14 +228,22 @@ module _ (log : NodeId → List StateValue) (base : NodeId → ℕ) (held : Node
         refused : Bool → Bool → Bool → Option Refusal
         refused down used many = first ((down, DeclaredDown) ∷ (false, MomentBack) ∷ (used || many, DotsUsedUp) ∷ [])
 
-    abbrev turn : NodeId → Turn
-    turn n = turn_of loss_table (first_of n) (waits_of loss_table (record { state = joined (log n); moment = 5000 } ∷ loss_note ∷ [])) 5000 (joined (log n))
+    -- what a tick of the node does where it knows this
+    abbrev pub turn_at : NodeId → StateValue → Turn
+    turn_at n s = turn_of worked_table (first_of n) (waits_of worked_table (record { state = s; moment = 5000 } ∷ notes n)) 5000 s
+
+    abbrev pub turn : NodeId → Turn
+    turn n = turn_at n (joined (log n))
+
+    pub turn_is : (n : NodeId) → IsEither n → turn n ≡ turn_at n state
+    unfolding turn_by
+    turn_is n either = λ i. turn_by n (notes n) (known n either i)
 
     few_done : (n : NodeId) → IsEither n → ((turn n).passed ≡ []) × (length (turn n).ops ≤ 1)
     few_done n either =
-        turned_by loss_table (first_of n) (waits_of loss_table (record { state = joined (log n); moment = 5000 } ∷ loss_note ∷ [])) 5000 (λ turn. (turn.passed ≡ []) × (length turn.ops ≤ 1)) (turn_from (joined (log n))) the_app
+        turned_by worked_table (first_of n) (waits_of worked_table (record { state = joined (log n); moment = 5000 } ∷ notes n)) 5000 (λ turn. (turn.passed ≡ []) × (length turn.ops ≤ 1)) (turn_from (joined (log n))) the_app
         (λ none. (refl, omega arith))
-        (λ mine used. absurd (true≢false (sym used ∙ ap (λ u. terms_used_up u the_app) (known n either) ∙ terms_left)))
+        (λ mine used. absurd (true≢false (sym used ∙ ap (λ u. terms_used_up u the_app) (known n either) ∙ left)))
         (λ mine left. (refl, omega arith))
 
     -- ---- the ships
@@ -236,7 +256,7 @@ module _ (log : NodeId → List StateValue) (base : NodeId → ℕ) (held : Node
       origin = first_of n;
       moments = record { booted = 0; last = 5000 };
       is_open = true;
-      notes = record { state = joined (log n); moment = 5000 } ∷ loss_note ∷ [];
+      notes = record { state = joined (log n); moment = 5000 } ∷ notes n;
       log = ticked_log n;
       base = base_after (base n) (length (ticked_log n)) 0;
       peers = no_peers;
@@ -247,15 +267,15 @@ module _ (log : NodeId → List StateValue) (base : NodeId → ℕ) (held : Node
 
     -- what is shipped
     abbrev shipped_body : NodeId → NodeId → Option Position → Message
-    shipped_body n to p = record { from = first_of n; to = to; only = option_map (λ (p : Position). p.inc) p; up_to = length (ticked_log n); body = body_from (running_shown loss_table (ticked_run n)) p; ack = ack_for no_peers to }
+    shipped_body n to p = record { from = first_of n; to = to; only = option_map (λ (p : Position). p.inc) p; up_to = length (ticked_log n); body = body_from (running_shown worked_table (ticked_run n)) p; ack = ack_for no_peers to }
 
     abbrev the_message : NodeId → NodeId → Message
     the_message n to = record { from = first_of n; to = to; only = None; up_to = length (ticked_log n); body = Whole (joined (ticked_log n)); ack = ack_for no_peers to }
 
-    message_is : (n to : NodeId) → message_of (running_shown loss_table (ticked_run n)) to ≡ the_message n to
+    message_is : (n to : NodeId) → message_of (running_shown worked_table (ticked_run n)) to ≡ the_message n to
     message_is n to = ap (shipped_body n to) (begins_none (joined (ticked_log n)) (ticked_run n).base to)
 
-    ships_on : (n to : NodeId) → no_node loss_table to ≡ false → nat_eq to.0 n.0 ≡ false → refusal_of loss_table (shown loss_table (ticked_node n)) (Ship to) ≡ None
+    ships_on : (n to : NodeId) → no_node worked_table to ≡ false → nat_eq to.0 n.0 ≡ false → refusal_of worked_table (shown worked_table (ticked_node n)) (Ship to) ≡ None
     ships_on n to there other = λ i. refused (there i) (other i) (has_all (length (ticked_log n)) (begins_none (joined (ticked_log n)) (ticked_run n).base to i) && not (set.contains no_peers.owed to))
       where
         refused : Bool → Bool → Bool → Option Refusal
@@ -278,25 +298,31 @@ module _ (log : NodeId → List StateValue) (base : NodeId → ℕ) (held : Node
     abbrev tick_reply : NodeId → Reply
     tick_reply n = Ticked (turn n).ops (turn n).passed
 
-    abbrev w1 : ModelWorld
-    w1 = (answered_by loss_world first_node (ticked_node first_node) (Ok (tick_reply first_node))).world
+    -- the start gate is open then, since no sync is asked for
+    tick_is : (w : ModelWorld) (n : NodeId) (is_open : Bool) →
+        answered_by w n (step_by None worked_table n (known_by is_open n) (Tick 5000)).node (step_by None worked_table n (known_by is_open n) (Tick 5000)).answer ≡ answered_by w n (ticked_node n) (Ok (tick_reply n))
+    tick_is w n true = refl
+    tick_is w n false = refl
 
-    is1 : happens loss_table loss_world e1 ≡ answered_by loss_world first_node (ticked_node first_node) (Ok (tick_reply first_node))
-    is1 = happens_so loss_world first_node (Ticking 5000) (Tick 5000) refl refl (ticks_on first_node (inl refl))
+    abbrev w1 : ModelWorld
+    w1 = (answered_by known_world first_node (ticked_node first_node) (Ok (tick_reply first_node))).world
+
+    is1 : happens worked_table known_world e1 ≡ answered_by known_world first_node (ticked_node first_node) (Ok (tick_reply first_node))
+    is1 = happens_so known_world first_node (Ticking 5000) (Tick 5000) refl refl (ticks_on first_node (inl refl)) ∙ tick_is known_world first_node (opened first_node)
 
     abbrev w2 : ModelWorld
     w2 = (answered_by w1 second_node (ticked_node second_node) (Ok (tick_reply second_node))).world
 
-    is2 : happens loss_table w1 e2 ≡ answered_by w1 second_node (ticked_node second_node) (Ok (tick_reply second_node))
-    is2 = happens_so w1 second_node (Ticking 5000) (Tick 5000) refl refl (ticks_on second_node (inr refl))
+    is2 : happens worked_table w1 e2 ≡ answered_by w1 second_node (ticked_node second_node) (Ok (tick_reply second_node))
+    is2 = happens_so w1 second_node (Ticking 5000) (Tick 5000) refl refl (ticks_on second_node (inr refl)) ∙ tick_is w1 second_node (opened second_node)
 
     abbrev shipping_node : NodeId → NodeId → ModelNode
-    shipping_node n to = (step_by None loss_table n (ticked_node n) (Ship to)).node
+    shipping_node n to = (step_by None worked_table n (ticked_node n) (Ship to)).node
 
     abbrev w3 : ModelWorld
     w3 = (answered_by w2 first_node (shipping_node first_node second_node) (Ok (Shipped (the_message first_node second_node)))).world
 
-    is3 : happens loss_table w2 e3 ≡ answered_by w2 first_node (shipping_node first_node second_node) (Ok (Shipped (the_message first_node second_node)))
+    is3 : happens worked_table w2 e3 ≡ answered_by w2 first_node (shipping_node first_node second_node) (Ok (Shipped (the_message first_node second_node)))
     is3 =
         happens_so w2 first_node (Shipping second_node) (Ship second_node) refl refl (ships_on first_node second_node refl refl)
         ∙ ap (λ (m : Message). answered_by w2 first_node (shipping_node first_node second_node) (Ok (Shipped m))) (message_is first_node second_node)
@@ -304,7 +330,7 @@ module _ (log : NodeId → List StateValue) (base : NodeId → ℕ) (held : Node
     abbrev w4 : ModelWorld
     w4 = (answered_by w3 second_node (shipping_node second_node first_node) (Ok (Shipped (the_message second_node first_node)))).world
 
-    is4 : happens loss_table w3 e4 ≡ answered_by w3 second_node (shipping_node second_node first_node) (Ok (Shipped (the_message second_node first_node)))
+    is4 : happens worked_table w3 e4 ≡ answered_by w3 second_node (shipping_node second_node first_node) (Ok (Shipped (the_message second_node first_node)))
     is4 =
         happens_so w3 second_node (Shipping first_node) (Ship first_node) refl refl (ships_on second_node first_node refl refl)
         ∙ ap (λ (m : Message). answered_by w3 second_node (shipping_node second_node first_node) (Ok (Shipped m))) (message_is second_node first_node)
@@ -313,7 +339,7 @@ module _ (log : NodeId → List StateValue) (base : NodeId → ℕ) (held : Node
     abbrev is_new : NodeId → NodeId → Bool
     is_new n from = not (is_below (joined (ticked_log from)) (joined (ticked_log n ++ [])))
 
-    hears_on : (n from : NodeId) → IsEither n → nat_eq from.0 n.0 ≡ false → nat_eq n.0 n.0 ≡ true → refusal_of loss_table (shown loss_table (shipping_node n from)) (Hear (the_message from n)) ≡ None
+    hears_on : (n from : NodeId) → IsEither n → nat_eq from.0 n.0 ≡ false → nat_eq n.0 n.0 ≡ true → refusal_of worked_table (shown worked_table (shipping_node n from)) (Hear (the_message from n)) ≡ None
     hears_on n from either other own =
         (λ i. refused (other i) (own i) (is_new n from && few_after n either i))
         ∙ ap (refused false true) (and_none (is_new n from))
@@ -322,26 +348,33 @@ module _ (log : NodeId → List StateValue) (base : NodeId → ℕ) (held : Node
         refused self mine many = first ((self, OnSelf) ∷ (not (mine && true), NotForMe) ∷ (many, DotsUsedUp) ∷ [])
 
     abbrev hearing_node : NodeId → NodeId → ModelNode
-    hearing_node n from = (step_by None loss_table n (shipping_node n from) (Hear (the_message from n))).node
+    hearing_node n from = (step_by None worked_table n (shipping_node n from) (Hear (the_message from n))).node
 
     abbrev w5 : ModelWorld
     w5 = (answered_by w4 second_node (hearing_node second_node first_node) (Ok (Heard (is_new second_node first_node)))).world
 
-    is5 : happens loss_table w4 e5 ≡ answered_by w4 second_node (hearing_node second_node first_node) (Ok (Heard (is_new second_node first_node)))
+    is5 : happens worked_table w4 e5 ≡ answered_by w4 second_node (hearing_node second_node first_node) (Ok (Heard (is_new second_node first_node)))
     is5 = happens_so w4 second_node (Deliver 1) (Hear (the_message first_node second_node)) refl refl (hears_on second_node first_node (inr refl) refl refl)
 
-    is6 : happens loss_table w5 e6 ≡ answered_by w5 first_node (hearing_node first_node second_node) (Ok (Heard (is_new first_node second_node)))
+    is6 : happens worked_table w5 e6 ≡ answered_by w5 first_node (hearing_node first_node second_node) (Ok (Heard (is_new first_node second_node)))
     is6 = happens_so w5 first_node (Deliver 2) (Hear (the_message second_node first_node)) refl refl (hears_on first_node second_node (inl refl) refl refl)
 
-    abbrev the_answers : List Answer
-    the_answers =
-        Ok (tick_reply first_node) ∷ Ok (tick_reply second_node) ∷ Ok (Shipped (the_message first_node second_node)) ∷ Ok (Shipped (the_message second_node first_node))
+    -- the answers after the ticks, and all answers where the ticks do so much
+    abbrev pub told : List Answer
+    told =
+        Ok (Shipped (the_message first_node second_node)) ∷ Ok (Shipped (the_message second_node first_node))
         ∷ Ok (Heard (is_new second_node first_node)) ∷ Ok (Heard (is_new first_node second_node)) ∷ []
 
-    all_come : Comes loss_world waited the_answers
+    abbrev pub answers_by : Turn → Turn → List Answer
+    answers_by u v = Ok (Ticked u.ops u.passed) ∷ Ok (Ticked v.ops v.passed) ∷ told
+
+    abbrev the_answers : List Answer
+    the_answers = answers_by (turn first_node) (turn second_node)
+
+    all_come : Comes known_world both_go_round the_answers
     all_come =
-        comes loss_world e1 _ _ _ _ is1 ((few_done first_node (inl refl)).0, late)
-        (comes w1 e2 _ _ _ _ is2 ((few_done second_node (inr refl)).0, late)
+        comes known_world e1 _ _ _ _ is1 ((few_done first_node (inl refl)).0, late first_node (inl refl))
+        (comes w1 e2 _ _ _ _ is2 ((few_done second_node (inr refl)).0, late second_node (inr refl))
         (comes w2 e3 _ _ _ _ is3 tt
         (comes w3 e4 _ _ _ _ is4 tt
         (comes w4 e5 _ _ _ _ is5 (omega arith)
@@ -360,7 +393,7 @@ module _ (log : NodeId → List StateValue) (base : NodeId → ℕ) (held : Node
     abbrev ticked_set : NodeId → NodeSet
     ticked_set n = record { inc = 1; operations = held_after n }
 
-    set_is : (m : NodeId) (held : NodeSet) → (set_run loss_sets waited the_answers).node m ≡ Some held → (set_first ≡ held) ⊎ (set_second ≡ held)
+    set_is : (m : NodeId) (held : NodeSet) → (set_run known_sets both_go_round the_answers).node m ≡ Some held → (set_first ≡ held) ⊎ (set_second ≡ held)
     set_is m held e = by_tests (nat_eq m.0 0) (nat_eq m.0 1) refl refl e
       where
         by_tests : (a b : Bool) → nat_eq m.0 0 ≡ a → nat_eq m.0 1 ≡ b
@@ -376,41 +409,43 @@ module _ (log : NodeId → List StateValue) (base : NodeId → ℕ) (held : Node
     same_held a b (inr p) (inl q) = subst (λ (k : NodeSet × NodeSet). AreOperationsOf k.0.operations k.1.operations) (λ i. (p i, q i)) (turned_round (held_after second_node) (held_after first_node))
     same_held a b (inr p) (inr q) = subst (λ (k : NodeSet × NodeSet). AreOperationsOf k.0.operations k.1.operations) (λ i. (p i, q i)) (λ o i. i)
 
-    all_same : (w : ModelWorld) → AllSame (members_of w (set_run loss_sets waited the_answers))
+    all_same : (w : ModelWorld) → AllSame (members_of w (set_run known_sets both_go_round the_answers))
     all_same w m n d e of_m of_n =
-        let sets = set_run loss_sets waited the_answers in
+        let sets = set_run known_sets both_go_round the_answers in
         let a = has_set w sets m d of_m in
         let b = has_set w sets n e of_n in
         subst (λ (k : List Operation × List Operation). AreOperationsOf k.0 k.1) (λ i. (a.1.1 i, b.1.1 i)) (same_held a.0 b.0 (set_is m a.0 a.1.0) (set_is n b.0 b.1.0))
 
-    runs_one : (n : NodeId) → IsSome (loss_world.node n).running → IsEither n
+    runs_one : (n : NodeId) → IsSome (known_world.node n).running → IsEither n
     runs_one n is = by_tests (nat_eq n.0 0) (nat_eq n.0 1) refl refl is
       where
-        by_tests : (a b : Bool) → nat_eq n.0 0 ≡ a → nat_eq n.0 1 ≡ b → IsSome (cond {A = ModelNode} b (loss_node second_node) (cond a (loss_node first_node) (rest n))).running → IsEither n
+        by_tests : (a b : Bool) → nat_eq n.0 0 ≡ a → nat_eq n.0 1 ≡ b → IsSome (cond {A = ModelNode} b (known_node second_node) (cond a (known_node first_node) (rest n))).running → IsEither n
         by_tests a true other at h = inr (same_node at)
         by_tests true false at other h = inl (same_node at)
         by_tests false false away apart h = absurd (false≢true (sym (ap is_some (no_run n away apart)) ∙ h))
 
-    the_round : IsWorldRound loss_table loss_world loss_sets waited the_answers
+    the_round : IsWorldRound worked_table known_world known_sets both_go_round the_answers
     the_round = record {
       answered = all_come.answered;
       fits = all_come.fits;
       ticks = λ n is. elim (runs_one n is) [ inl a ↦ inl (sym a, tt) | inr b ↦ inr (inl (sym b, tt)) ];
-      same = all_same (world_after loss_table loss_world waited the_answers);
+      same = all_same (world_after worked_table known_world both_go_round the_answers);
     }
 
-    -- ---- the first tick fails over
-    turn_is : turn first_node ≡ claims_it
-    unfolding turn_by
-    turn_is =
-        (λ i. turn_by first_node (known first_node (inl refl) i))
-        ∙ (λ i. cond (mine i) (cond (terms_used_up loss_state the_app) (record { ops = []; passed = the_app ∷ []; state = loss_state }) claims_it) (turn_from loss_state))
-        ∙ (λ i. cond (terms_left i) (record { ops = []; passed = the_app ∷ []; state = loss_state }) claims_it)
+    -- ---- the answers, where it is known what the ticks do
+    module _ (u v : Turn) (first_is : turn first_node ≡ u) (second_is : turn second_node ≡ v) where
+      pub the_rounds : AreRounds worked_table (app_count worked_table) known_world known_sets both_go_round (answers_by u v)
+      the_rounds =
+          subst (λ (p : Turn × Turn). AreRounds worked_table (app_count worked_table) known_world known_sets both_go_round (answers_by p.0 p.1)) (λ i. (first_is i, second_is i)) (both_go_round, [], the_answers, [], refl, refl, the_round, (refl, refl))
 
-    abbrev pub later_answers : List Answer
-    later_answers =
-        Ok (tick_reply second_node) ∷ Ok (Shipped (the_message first_node second_node)) ∷ Ok (Shipped (the_message second_node first_node))
-        ∷ Ok (Heard (is_new second_node first_node)) ∷ Ok (Heard (is_new first_node second_node)) ∷ []
+      -- what both hold in the end
+      abbrev pub held_by_both : List Operation
+      held_by_both = (held first_node ++ u.ops) ++ (held second_node ++ v.ops)
 
-    pub the_rounds : AreRounds loss_table (app_count loss_table) loss_world loss_sets waited (Ok (Ticked (the_claim ∷ []) []) ∷ later_answers)
-    the_rounds = subst (λ (u : Turn). AreRounds loss_table (app_count loss_table) loss_world loss_sets waited (Ok (Ticked u.ops u.passed) ∷ later_answers)) turn_is (waited, [], the_answers, [], refl, refl, the_round, (refl, refl))
+      pub all_hold : (m : NodeId) (set : NodeSet) → (set_run known_sets both_go_round (answers_by u v)).node m ≡ Some set → AreOperationsOf set.operations held_by_both × AreOperationsOf held_by_both set.operations
+      all_hold =
+          subst
+          (λ (p : Turn × Turn). (m : NodeId) (set : NodeSet) → (set_run known_sets both_go_round (answers_by p.0 p.1)).node m ≡ Some set →
+          AreOperationsOf set.operations ((held first_node ++ p.0.ops) ++ (held second_node ++ p.1.ops)) × AreOperationsOf ((held first_node ++ p.0.ops) ++ (held second_node ++ p.1.ops)) set.operations)
+          (λ i. (first_is i, second_is i))
+          (λ m set is. let at = set_is m set is in (same_held set set_first at (inl refl), same_held set_first set (inl refl) at))

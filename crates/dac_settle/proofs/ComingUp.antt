@@ -1,7 +1,7 @@
--- Nodes that come up in the worked run: who is live, which counters are used. Each of them says that it may run the application,
--- and the one that is lost claims it.
+-- Nodes that come up in the worked runs: who is live, which counters are used. Each of them says that it may run the application,
+-- and one that knows of no other claims it.
 use Rattle.std.proofs.Common.{◌≡◌, ℕ, ◌+◌, ◌<◌, Bool, true, false, not, cond, ◌||◌, List, [], ◌∷◌, length, Option, Some, None, option_map, refl, sym, ap, subst, ◌∙◌, arith, inl, inr}
-use Rattle.std.specs.Prelude.{nat_lt, nat_le, unwrap_or}
+use Rattle.std.specs.Prelude.{nat_lt, nat_le, unwrap_or, IsSome}
 use Rattle.std.specs.Option.{is_some, option_map_or}
 use Rattle.std.specs.FinMap as map
 use Rattle.std.specs.FinSet as set
@@ -31,12 +31,13 @@ use Rattle.dac_wishes.specs.declared.key.Key.{Key}
 use Rattle.dac_operations.specs.declared.act.Act.TheVariants.{Claim as Claims, Start as Starts}
 use Rattle.dac_operations.specs.Operations.{Operation, operation}
 use Rattle.dac_meaning.specs.StateValue.{StateValue, join}
-use Rattle.dac_meaning.specs.Meaning.{IsOperationOf, meaning_of, pairs, life_said, claim_said, lives_of, names, replaces}
+use Rattle.dac_meaning.specs.Meaning.{IsOperationOf, DotsDetermine, meaning_of, pairs, life_said, claim_said, lives_of, names, replaces}
 use Rattle.dac_meaning.specs.Chained.{SaysFor}
 use Rattle.dac_meaning.specs.laws.Chained.{of_said, is_said}
 use Rattle.dac_meaning.specs.laws.Members.{found, finds}
 use Rattle.dac_meaning.specs.laws.Readers.{known-meaning, starts-meaning, permits-meaning, drains-meaning, lives-meaning, lives_are}
-use Rattle.dac_placement.specs.Placement.{is_up, IsEligible, key_at, holder_of, IsVerdict, verdict_of, candidate_of}
+use Rattle.dac_config.specs.Table.{node_count, group_of}
+use Rattle.dac_placement.specs.Placement.{is_up, IsEligible, IsStartedAt, key_at, holder_of, IsVerdict, verdict_of, candidate_of}
 use Rattle.dac_placement.specs.declared.verdicts.Verdict.{Verdict}
 use Rattle.dac_placement.specs.declared.verdicts.Verdict.TheVariants.{Start as ToStart, Failover, Halted, Move, Takeover, Kept, Nobody}
 use Rattle.dac_placement.specs.laws.Judged.{verdict_in_words}
@@ -58,9 +59,7 @@ use Rattle.dac_model_world.specs.EventRefusals.{refusal_of, otherwise}
 use Rattle.dac_model_world.specs.Step.{comes_up}
 use Rattle.dac_meaning.specs.laws.StateLaws.{bottom-join}
 use Rattle.dac_meaning.specs.laws.Joins.{meaning-state, join-meaning}
-use Rattle.dac_model_world.specs.laws.Operations.{DistinctDots-agree}
-use Rattle.dac_settle.specs.Worked.{the_app, first_of, up_of, start_of}
-use Rattle.dac_settle.specs.WorkedLoss.{lost_node, loss_table}
+use Rattle.dac_settle.specs.Worked.{the_app, worked_table, first_of, up_of, start_of}
 use Rattle.dac_settle.specs.laws.AnyPlacement.{one}
 use Rattle.dac_settle.specs.laws.OnlyClaims.{claim_greatest}
 use Rattle.dac_settle.specs.laws.Started.{up_life}
@@ -101,7 +100,7 @@ module _ (n : NodeId) (rest : List Operation) (none : SayNoLife rest) where
 
 -- ---- counters
 -- a known dot is that of an operation, where none replaces any
-named_in : (os : List Operation) → ((o : Operation) → IsOperationOf o os → (d : Dot) → replaces d o ≡ false) → (d : Dot) → set.contains (meaning_of os).known d ≡ true → (o : Operation) × (IsOperationOf o os × (d ≡ o.dot))
+pub named_in : (os : List Operation) → ((o : Operation) → IsOperationOf o os → (d : Dot) → replaces d o ≡ false) → (d : Dot) → set.contains (meaning_of os).known d ≡ true → (o : Operation) × (IsOperationOf o os × (d ≡ o.dot))
 named_in os bare d t =
     let f = found (names d) os (sym (known-meaning os d) ∙ t) in
     (f.0, (f.1.0, same_dot_is d f.0.dot (left_of (same_dot d f.0.dot) (ap (λ b. same_dot d f.0.dot || b) (sym (bare f.0 f.1.0 d)) ∙ f.1.1))))
@@ -114,14 +113,14 @@ named_in os bare d t =
 abbrev pub start_at : NodeId → Operation
 start_at n = start_of the_app n 2
 
-abbrev pub claiming : Operation
-claiming = operation (dot (first_of lost_node) 3) (Claims the_app 1 Normal None)
+abbrev pub claiming_at : NodeId → Operation
+claiming_at n = operation (dot (first_of n) 3) (Claims the_app 1 Normal None)
 
 -- what a node holds once it came up, and once it may run the application
 abbrev came : NodeId → List Operation
 came n = up_of n ∷ []
 
-abbrev begun : NodeId → List Operation
+abbrev pub begun : NodeId → List Operation
 begun n = up_of n ∷ start_at n ∷ []
 
 no_life_came : SayNoLife []
@@ -130,7 +129,7 @@ no_life_came o i = absurd i
 no_life_begun : (n : NodeId) → SayNoLife (start_at n ∷ [])
 no_life_begun n o i m l e = elim i [ inl same ↦ none_some (sym (ap (λ (q : Operation). life_said q.dot q.act) same) ∙ e) | inr none ↦ absurd none ]
 
-bare_by : (o p : Operation) (d : Dot) → o ≡ p → replaces d p ≡ false → replaces d o ≡ false
+pub bare_by : (o p : Operation) (d : Dot) → o ≡ p → replaces d p ≡ false → replaces d o ≡ false
 bare_by o p d same bare = ap (replaces d) same ∙ bare
 
 came_bare : (n : NodeId) (o : Operation) → IsOperationOf o (came n) → (d : Dot) → replaces d o ≡ false
@@ -142,10 +141,10 @@ begun_bare n o (inl a) d = bare_by o (up_of n) d a refl
 begun_bare n o (inr (inl a)) d = bare_by o (start_at n) d a refl
 begun_bare n o (inr (inr none)) d = absurd none
 
-number_of : (d : Dot) (o p : Operation) → d ≡ o.dot → o ≡ p → d.n ≡ p.dot.n
+pub number_of : (d : Dot) (o p : Operation) → d ≡ o.dot → o ≡ p → d.n ≡ p.dot.n
 number_of d o p e same = ap (λ (x : Dot). x.n) e ∙ ap (λ (q : Operation). q.dot.n) same
 
-below : (j k l : ℕ) → j ≡ k → k < l → j < l
+pub below : (j k l : ℕ) → j ≡ k → k < l → j < l
 below j k l e h = omega arith
 
 came_counter : (n : NodeId) → greatest_counter (first_of n) (meaning_of (came n)).known + 1 ≡ 2
@@ -180,7 +179,7 @@ no_claim_begun n app c says = elim says.1.0 [
   | inr more ↦ elim more [ inl b ↦ none_some (sym (ap (λ (q : Operation). claim_said q.dot q.act) b) ∙ says.1.1) | inr none ↦ absurd none ]
 ]
 
-none_claimed : (n : NodeId) (app : AppId) → map.get (meaning_of (begun n)).claims app ≡ None
+pub none_claimed : (n : NodeId) (app : AppId) → map.get (meaning_of (begun n)).claims app ≡ None
 none_claimed n app = by_claim (map.get (meaning_of (begun n)).claims app) (claim_greatest (begun n) app)
   where
     by_claim : (o : Option Claim) → IsGreatest claim_cmp (SaysFor claim_said (begun n) app) o → o ≡ None
@@ -188,36 +187,11 @@ none_claimed n app = by_claim (map.get (meaning_of (begun n)).claims app) (claim
     by_claim (Some c) is = absurd (no_claim_begun n app c is.0)
 
 -- ---- the states
-abbrev begun_state : NodeId → StateValue
+abbrev pub begun_state : NodeId → StateValue
 begun_state n = meaning_of (begun n)
 
 begun_live : (n : NodeId) → IsLive (begun_state n).lives n 1
 begun_live n = is_live n (start_at n ∷ []) (no_life_begun n)
-
-may_begin : IsEligible loss_table (begun_state lost_node) the_app lost_node
-may_begin = record {
-  listed = refl;
-  inc = 1;
-  live = begun_live lost_node;
-  allowed = (inl (λ d. permits-meaning (begun lost_node) (write (key_at the_app lost_node 1) d), refl), λ d. none_some (sym (drains-meaning (begun lost_node) (keyed_write (origin lost_node 1) d.0)) ∙ d.1));
-  started = (dot (first_of lost_node) 2, starts-meaning (begun lost_node) (write (key_at the_app lost_node 1) (dot (first_of lost_node) 2)));
-}
-
--- ---- the verdicts
-unheld : holder_of (begun_state lost_node) the_app ≡ None
-unheld = ap (option_map (λ (c : Claim). c.origin)) (none_claimed lost_node the_app)
-
-is_start : (v : Verdict) → IsVerdict loss_table (begun_state lost_node) the_app v → v ≡ ToStart lost_node
-is_start (ToStart n) is = ap (λ k. ToStart k) (sym (live_only lost_node (start_at lost_node ∷ []) (no_life_begun lost_node) n is.1.eligible.inc is.1.eligible.live).0)
-is_start (Failover n) is = none_some (sym unheld ∙ is.0.1)
-is_start (Halted n) is = none_some (sym unheld ∙ is.1)
-is_start (Move n) is = none_some (sym unheld ∙ is.0.1)
-is_start (Takeover n) is = none_some (sym unheld ∙ is.1.1)
-is_start (Kept n) is = none_some (sym unheld ∙ is.0.1)
-is_start Nobody is = absurd (is.0 lost_node (omega arith) may_begin)
-
-starts_it : verdict_of loss_table (begun_state lost_node) the_app ≡ ToStart lost_node
-starts_it = is_start (verdict_of loss_table (begun_state lost_node) the_app) (verdict_in_words loss_table (begun_state lost_node) the_app)
 
 -- ---- a node that came up says that it may run the application
 came_live : (n : NodeId) → IsLive (meaning_of (came n)).lives n 1
@@ -226,7 +200,7 @@ came_live n = is_live n [] no_life_came
 lives_once : (n : NodeId) → live (meaning_of (came n)) n ≡ Some 1
 lives_once n = (live_is (meaning_of (came n)).lives n 1).1 (came_live n)
 
-empty_if : (ds : List Dot) → ((d : Dot) → has_key dot_cmp ds d ≡ false) → ds ≡ []
+pub empty_if : (ds : List Dot) → ((d : Dot) → has_key dot_cmp ds d ≡ false) → ds ≡ []
 empty_if [] h = refl
 empty_if (d ∷ ds) h = absurd (true≢false (sym (ap (λ b. b || has_key dot_cmp ds d) (same_dot_itself d)) ∙ h d))
 
@@ -241,22 +215,22 @@ came_is n = bottom-join (meaning_of (came n)) (meaning-state (came n))
 key_of : NodeId → ℕ → Key
 key_of n inc = record { app = the_app; node = n; inc = inc }
 
-says_start : (n : NodeId) → act_of loss_table (meaning_of (came n)) (Start the_app n) ≡ Starts (key_at the_app n 1) []
+says_start : (n : NodeId) → act_of worked_table (meaning_of (came n)) (Start the_app n) ≡ Starts (key_at the_app n 1) []
 unfolding key_of
 says_start n =
     let s = meaning_of (came n) in
     let inc : live_or_none s n ≡ 1 = ap (λ o. unwrap_or o 0) (lives_once n) in
     (λ i. Starts (key_of n (inc i)) (standing_starts s (key_of n (inc i)))) ∙ ap (Starts (key_of n 1)) (none_standing n (key_of n 1))
 
-pub started_op : (n : NodeId) → next_operation (joined (meaning_of (came n) ∷ [])) (first_of n) (act_of loss_table (joined (meaning_of (came n) ∷ [])) (Start the_app n)) ≡ start_at n
+pub started_op : (n : NodeId) → next_operation (joined (meaning_of (came n) ∷ [])) (first_of n) (act_of worked_table (joined (meaning_of (came n) ∷ [])) (Start the_app n)) ≡ start_at n
 started_op n =
-    (λ i. next_operation (came_is n i) (first_of n) (act_of loss_table (came_is n i) (Start the_app n)))
+    (λ i. next_operation (came_is n i) (first_of n) (act_of worked_table (came_is n i) (Start the_app n)))
     ∙ (λ i. operation (dot (first_of n) (came_counter n i)) (says_start n i))
 
 abbrev pub booted : NodeId → ModelNode
 booted n = record { last = 1; running = Some (comes_up (first_of n) 0) }
 
-pub starts_on : (n : NodeId) → no_node loss_table n ≡ false → unlisted loss_table the_app n ≡ false → refusal_of loss_table (shown loss_table (booted n)) (Commanded (Start the_app n)) ≡ None
+pub starts_on : (n : NodeId) → no_node worked_table n ≡ false → unlisted worked_table the_app n ≡ false → refusal_of worked_table (shown worked_table (booted n)) (Commanded (Start the_app n)) ≡ None
 starts_on n there listed =
     let s = meaning_of (came n) in
     let up : is_up s (first_of n) ≡ true = (up_is s (first_of n)).1 (came_live n) in
@@ -276,55 +250,90 @@ starts_on n there listed =
     one_used : (g : ℕ) → g + 1 ≡ 2 → nat_le MAX_COUNTER g ≡ false
     one_used g e = ap (nat_le MAX_COUNTER) (is_one g e)
 
--- ---- the lost node claims
 abbrev pub begun_log : NodeId → List StateValue
 begun_log n = meaning_of (came n) ∷ meaning_of (start_at n ∷ []) ∷ []
 
 abbrev pub begun_node : NodeId → Operation → ModelNode
 begun_node n o = record { last = 1; running = Some (record { origin = first_of n; moments = record { booted = 0; last = 0 }; is_open = false; notes = []; log = meaning_of (came n) ∷ meaning_of (o ∷ []) ∷ []; base = base_after 0 2 0; peers = no_peers }) }
 
-begun_is : joined (begun_log lost_node) ≡ begun_state lost_node
-begun_is = ap (λ s. join s (meaning_of (start_at lost_node ∷ []))) (came_is lost_node) ∙ join-meaning (came lost_node) (start_at lost_node ∷ []) (DistinctDots-agree (begun lost_node) (refl, (refl, tt)))
+-- ---- a node that knows of no other claims it
 
-abbrev lost_state : StateValue
-lost_state = begun_state lost_node
+-- the application's list has the node, and by what the node says of itself it may run the application
+pub record CanClaim (n : NodeId) : Type 0 where
+  pub there : n.0 < node_count worked_table
+  pub listed : IsSome (group_of worked_table the_app n)
+  pub started : IsStartedAt (begun_state n) (key_at the_app n 1)
+  pub agree : DotsDetermine (begun n)
 
-lost_up : is_up lost_state (first_of lost_node) ≡ true
-lost_up = (up_is lost_state (first_of lost_node)).1 (begun_live lost_node)
+own_turn_by : NodeId → StateValue → Turn
+own_turn_by n u = turn_of worked_table (first_of n) (waits_of worked_table (record { state = u; moment = 0 } ∷ [])) 0 u
 
-pub lost_ticks : refusal_of loss_table (shown loss_table (begun_node lost_node (start_at lost_node))) (Tick 0) ≡ None
-lost_ticks =
-    (λ i. refused (not (is_up (begun_is i) (first_of lost_node))) (nat_lt MAX_COUNTER (greatest_counter (first_of lost_node) (begun_is i).known + 1)))
-    ∙ (λ i. refused (not (lost_up i)) (nat_lt MAX_COUNTER (begun_counter lost_node i)))
-  where
-    refused : Bool → Bool → Option Refusal
-    refused down used = first ((down, DeclaredDown) ∷ (false, MomentBack) ∷ (used || false, DotsUsedUp) ∷ [])
+module _ (n : NodeId) (can : CanClaim n) where
+  abbrev own_state : StateValue
+  own_state = begun_state n
 
-abbrev lost_waits : List (Option Noted)
-lost_waits = waits_of loss_table (record { state = lost_state; moment = 0 } ∷ [])
+  may_begin : IsEligible worked_table own_state the_app n
+  may_begin = record {
+    listed = can.listed;
+    inc = 1;
+    live = begun_live n;
+    allowed = (inl (λ d. permits-meaning (begun n) (write (key_at the_app n 1) d), refl), λ d. none_some (sym (drains-meaning (begun n) (keyed_write (origin n 1) d.0)) ∙ d.1));
+    started = can.started;
+  }
 
-lost_mine : is_mine loss_table (first_of lost_node) lost_waits 0 lost_state the_app ≡ true
-lost_mine =
-    and_from _ _ (if_own (first_of lost_node) (candidate_of (verdict_of loss_table lost_state the_app)) (ap candidate_of starts_it))
-    (ap (is_due_by loss_table (noted_at lost_waits the_app) lost_state the_app 0) starts_it)
+  -- ---- the verdict
+  unheld : holder_of own_state the_app ≡ None
+  unheld = ap (option_map (λ (c : Claim). c.origin)) (none_claimed n the_app)
 
-lost_terms : terms_used_up lost_state the_app ≡ false
-lost_terms = ap (λ c. nat_lt MAX_COUNTER (option_map_or (λ (claim : Claim). claim.term) c 0 + 1)) (none_claimed lost_node the_app)
+  is_start : (v : Verdict) → IsVerdict worked_table own_state the_app v → v ≡ ToStart n
+  is_start (ToStart m) is = ap (λ k. ToStart k) (sym (live_only n (start_at n ∷ []) (no_life_begun n) m is.1.eligible.inc is.1.eligible.live).0)
+  is_start (Failover m) is = none_some (sym unheld ∙ is.0.1)
+  is_start (Halted m) is = none_some (sym unheld ∙ is.1)
+  is_start (Move m) is = none_some (sym unheld ∙ is.0.1)
+  is_start (Takeover m) is = none_some (sym unheld ∙ is.1.1)
+  is_start (Kept m) is = none_some (sym unheld ∙ is.0.1)
+  is_start Nobody is = absurd (is.0 n can.there may_begin)
 
-lost_act : claimed_by lost_state the_app (verdict_of loss_table lost_state the_app) ≡ Claims the_app 1 Normal None
-lost_act = ap (claimed_by lost_state the_app) starts_it ∙ ap (λ (c : Option Claim). Claims the_app (option_map_or (λ (k : Claim). k.term) c 0 + 1) Normal None) (none_claimed lost_node the_app)
+  starts_it : verdict_of worked_table own_state the_app ≡ ToStart n
+  starts_it = is_start (verdict_of worked_table own_state the_app) (verdict_in_words worked_table own_state the_app)
 
-abbrev claims_so : Operation → Turn
-claims_so o = record { ops = o ∷ []; passed = []; state = join lost_state (meaning_of (o ∷ [])) }
+  -- ---- the tick
+  pub begun_is : joined (begun_log n) ≡ own_state
+  begun_is = ap (λ s. join s (meaning_of (start_at n ∷ []))) (came_is n) ∙ join-meaning (came n) (start_at n ∷ []) can.agree
 
-lost_turn_by : StateValue → Turn
-lost_turn_by u = turn_of loss_table (first_of lost_node) (waits_of loss_table (record { state = u; moment = 0 } ∷ [])) 0 u
+  own_up : is_up own_state (first_of n) ≡ true
+  own_up = (up_is own_state (first_of n)).1 (begun_live n)
 
-pub lost_turn : turn_of loss_table (first_of lost_node) (waits_of loss_table (record { state = joined (begun_log lost_node); moment = 0 } ∷ [])) 0 (joined (begun_log lost_node)) ≡ claims_so claiming
-unfolding lost_turn_by
-lost_turn =
-    let o = claim_of loss_table (first_of lost_node) lost_state the_app in
-    (λ i. lost_turn_by (begun_is i))
-    ∙ (λ i. cond (lost_mine i) (cond (terms_used_up lost_state the_app) (record { ops = []; passed = the_app ∷ []; state = lost_state }) (claims_so o)) (turn_from lost_state))
-    ∙ (λ i. cond (lost_terms i) (record { ops = []; passed = the_app ∷ []; state = lost_state }) (claims_so o))
-    ∙ (λ i. claims_so (operation (dot (first_of lost_node) (begun_counter lost_node i)) (lost_act i)))
+  pub ticks_alone : refusal_of worked_table (shown worked_table (begun_node n (start_at n))) (Tick 0) ≡ None
+  ticks_alone =
+      (λ i. refused (not (is_up (begun_is i) (first_of n))) (nat_lt MAX_COUNTER (greatest_counter (first_of n) (begun_is i).known + 1)))
+      ∙ (λ i. refused (not (own_up i)) (nat_lt MAX_COUNTER (begun_counter n i)))
+    where
+      refused : Bool → Bool → Option Refusal
+      refused down used = first ((down, DeclaredDown) ∷ (false, MomentBack) ∷ (used || false, DotsUsedUp) ∷ [])
+
+  abbrev own_waits : List (Option Noted)
+  own_waits = waits_of worked_table (record { state = own_state; moment = 0 } ∷ [])
+
+  own_mine : is_mine worked_table (first_of n) own_waits 0 own_state the_app ≡ true
+  own_mine =
+      and_from _ _ (if_own (first_of n) (candidate_of (verdict_of worked_table own_state the_app)) (ap candidate_of starts_it))
+      (ap (is_due_by worked_table (noted_at own_waits the_app) own_state the_app 0) starts_it)
+
+  own_terms : terms_used_up own_state the_app ≡ false
+  own_terms = ap (λ c. nat_lt MAX_COUNTER (option_map_or (λ (claim : Claim). claim.term) c 0 + 1)) (none_claimed n the_app)
+
+  own_act : claimed_by own_state the_app (verdict_of worked_table own_state the_app) ≡ Claims the_app 1 Normal None
+  own_act = ap (claimed_by own_state the_app) starts_it ∙ ap (λ (c : Option Claim). Claims the_app (option_map_or (λ (k : Claim). k.term) c 0 + 1) Normal None) (none_claimed n the_app)
+
+  abbrev claims_so : Operation → Turn
+  claims_so o = record { ops = o ∷ []; passed = []; state = join own_state (meaning_of (o ∷ [])) }
+
+  pub turn_alone : turn_of worked_table (first_of n) (waits_of worked_table (record { state = joined (begun_log n); moment = 0 } ∷ [])) 0 (joined (begun_log n)) ≡ claims_so (claiming_at n)
+  unfolding own_turn_by
+  turn_alone =
+      let o = claim_of worked_table (first_of n) own_state the_app in
+      (λ i. own_turn_by n (begun_is i))
+      ∙ (λ i. cond (own_mine i) (cond (terms_used_up own_state the_app) (record { ops = []; passed = the_app ∷ []; state = own_state }) (claims_so o)) (turn_from own_state))
+      ∙ (λ i. cond (own_terms i) (record { ops = []; passed = the_app ∷ []; state = own_state }) (claims_so o))
+      ∙ (λ i. claims_so (operation (dot (first_of n) (begun_counter n i)) (own_act i)))

@@ -1,0 +1,38 @@
+-- Which deltas a node keeps no longer, in words. (After the anti-entropy algorithm for delta intervals of Almeida, Shoker
+-- and Baquero, by which a node drops what all its neighbours acknowledged. That it keeps 256 at most is this project's
+-- own.)
+use Rattle.std.specs.Prelude.{◌≡◌, ◌↔◌, ◌⊎◌, ◌<◌, ◌+◌, ℕ, Some}
+use Rattle.dac_base.specs.declared.NodeId.{NodeId}
+use Rattle.dac_meaning.specs.StateValue.{StateValue}
+use Rattle.dac_config.specs.Table.{Table, node_count}
+use Rattle.dac_deltas.specs.declared.buffer.TheConstants.{MAX_DELTAS}
+use Rattle.dac_messages.specs.declared.event.Event.{Event}
+use Rattle.dac_messages.specs.declared.event.Event.TheVariants.{Hear}
+use Rattle.dac_messages.specs.declared.reply.Reply.{Reply}
+use Rattle.dac_peers.specs.Peers.{PeersValue}
+use Rattle.dac_peers.specs.InWords.{HasAcked, IsOther}
+use Rattle.dac_model_node.specs.NodeValue.{NodeValue, RunningValue}
+use Rattle.dac_model_node.specs.Keeping.{Keeps}
+
+-- There is another node, and each other one acknowledged the delta of this number as its present incarnation. (Deltas
+-- are counted from 0: who acknowledged so many has those below.)
+pub record AllHave (p : PeersValue) (s : StateValue) (nodes : ℕ) (own : NodeId) (k : ℕ) : Type 0 where
+  pub another : (node : NodeId) × IsOther nodes own node
+  pub acked : (node : NodeId) → IsOther nodes own node → (n : ℕ) × HasAcked p s node n × (k < n)
+
+-- The node finds that all others have the delta, by what it keeps of them once the event came. It looks where a message
+-- comes.
+abbrev pub IsHadByAll : Table → Event → RunningValue → ℕ → Type 0
+IsHadByAll t (Hear m) u k = AllHave u.peers u.state (node_count t) u.origin.node k
+IsHadByAll t e u k = ⊥
+
+-- Of the deltas that there are after an event, the node that ran on keeps one no longer exactly in these cases: it kept
+-- it no longer before, 256 later ones are there, or all others have it.
+abbrev pub DropsSo : Table → Event → RunningValue → RunningValue → Type 0
+DropsSo t e r u = (k : ℕ) → k < u.kept.count
+    → (k < u.kept.base) ↔ ((k < r.kept.base) ⊎ ((k + MAX_DELTAS < u.kept.count) ⊎ IsHadByAll t e u k))
+
+-- so it is wherever an accepted event leaves a node running that ran
+abbrev pub DropsInWords : Type 0
+DropsInWords = (t : Table) (me : NodeId) (old new : NodeValue) (e : Event) (reply : Reply) (r u : RunningValue)
+    → old.running ≡ Some r → new.running ≡ Some u → Keeps t me old e reply new → DropsSo t e r u

@@ -1,0 +1,94 @@
+-- The worked runs, up to their rounds: one event more that is accepted, and operations that are handed.
+use Rattle.std.proofs.Common.{◌≡◌, ℕ, ◌+◌, ◌≤◌, Bool, true, false, not, cond, ◌&&◌, List, [], ◌∷◌, ◌++◌, length, Some, None, Ok, refl, sym, ap, ◌∙◌, arith, inl}
+use Rattle.std.specs.Prelude.{nat_lt, Result}
+use Rattle.std.proofs.lemmas.Bool.{leb-true, le-ltb}
+use Rattle.std.proofs.lemmas.List.{length-append}
+use Rattle.dac_base.specs.declared.NodeId.{NodeId}
+use Rattle.dac_base.specs.declared.limits.TheConstants.{MAX_COUNTER}
+use Rattle.dac_operations.specs.Operations.{Operation}
+use Rattle.dac_meaning.specs.StateValue.{StateValue}
+use Rattle.dac_meaning.specs.Meaning.{meaning_of}
+use Rattle.dac_meaning.specs.Below.{is_below}
+use Rattle.dac_decide.specs.FailoverWait.{Note}
+use Rattle.dac_events.specs.declared.WorldEvent.{WorldEvent}
+use Rattle.dac_messages.specs.declared.event.Event.TheVariants.{HearOp}
+use Rattle.dac_messages.specs.declared.reply.Reply.{Reply}
+use Rattle.dac_messages.specs.declared.reply.Reply.TheVariants.{Heard}
+use Rattle.dac_events.specs.declared.refusal.Refusal.TheVariants.{DotsUsedUp}
+use Rattle.dac_commands.specs.Causes.{first}
+use Rattle.dac_peers.specs.Peers.{no_peers}
+use Rattle.dac_events.specs.declared.world_fault.WorldFault.{WorldFault}
+use Rattle.dac_model_world.specs.ModelNode.{ModelNode, ModelRunning, joined, shown, base_after}
+use Rattle.dac_model_world.specs.EventRefusals.{refusal_of}
+use Rattle.dac_model_world.specs.Deeds.{brings}
+use Rattle.dac_model_world.specs.ModelWorld.{ModelWorld, WorldStepped, Run, start, happens, answered_by}
+use Rattle.dac_model_world.specs.SetWorld.{NodeSet, SetWorld}
+use Rattle.dac_model_world.specs.laws.Runs.{Run-push}
+use Rattle.dac_model_world.specs.laws.Sound.{Sound, held_at}
+use Rattle.dac_settle.specs.Worked.{worked_table, first_of}
+use Rattle.dac_settle.specs.laws.AnyPlacement.{one}
+
+abbrev pub Answer : Type 0
+Answer = Result Reply WorldFault
+
+-- ---- events
+-- the world at the start
+abbrev pub w0 : ModelWorld
+w0 = start worked_table
+
+-- one event more, which is accepted
+pub pushed : (w : ModelWorld) (es : List WorldEvent) (answers : List Answer) (e : WorldEvent) (d : ModelNode) (reply : Reply) → Run worked_table w0 es answers w → happens worked_table w e ≡ answered_by w e.node d (Ok reply) →
+    Run worked_table w0 (es ++ e ∷ []) (answers ++ Ok reply ∷ []) (answered_by w e.node d (Ok reply)).world
+pushed w es answers e d reply run is = Run-push worked_table w0 es answers w e (Ok reply) (answered_by w e.node d (Ok reply)).world run (inl (record { answered = sym (ap (λ (by : WorldStepped). by.answer) is); went_on = sym (ap (λ (by : WorldStepped). by.world) is) }))
+
+-- what a node knows is what its set means
+pub known_there : (w : ModelWorld) (s : SetWorld) (n : NodeId) (r : ModelRunning) (set : NodeSet) → Sound w s → (w.node n).running ≡ Some r → s.node n ≡ Some set → joined r.log ≡ meaning_of set.operations
+known_there w s n r set h runs holds =
+    let held = held_at w s n r h runs in
+    let same : set ≡ held.set = one (sym holds ∙ held.is) in
+    held.state ∙ sym (ap (λ (x : NodeSet). meaning_of x.operations) same)
+
+-- ---- operations that are handed
+abbrev pub run_of : NodeId → Bool → List Note → List StateValue → ℕ → ModelRunning
+run_of n opened notes log base = record { origin = first_of n; moments = record { booted = 0; last = 0 }; is_open = opened; notes = notes; log = log; base = base; peers = no_peers }
+
+-- a node that runs so
+abbrev pub running_so : NodeId → Bool → List Note → List StateValue → ℕ → ModelNode
+running_so n opened notes log base = record { last = 1; running = Some (run_of n opened notes log base) }
+
+-- a node that came up and looked after nothing yet
+abbrev pub waiting : NodeId → List StateValue → ℕ → ModelNode
+waiting n log base = running_so n false [] log base
+
+-- its log once it is handed an operation
+abbrev pub with_op : List StateValue → Operation → List StateValue
+with_op log o = log ++ brings (joined log) (meaning_of (o ∷ []))
+
+abbrev pub base_with : ℕ → List StateValue → Operation → ℕ
+base_with base log o = base_after base (length (with_op log o)) 0
+
+abbrev pub hearing : List StateValue → Operation → Reply
+hearing log o = Heard (not (is_below (meaning_of (o ∷ [])) (joined log)))
+
+-- whatever is new, there are numbers left for it
+has_room : (b : Bool) → first ((b && false, DotsUsedUp) ∷ []) ≡ None
+has_room true = refl
+has_room false = refl
+
+pub few_by : (l : ℕ) → l ≤ 9 → nat_lt MAX_COUNTER (l + 1) ≡ false
+few_by l h = le-ltb MAX_COUNTER (l + 1) (omega (arith, leb-true 10 MAX_COUNTER refl))
+
+pub longer : (log : List StateValue) (o : Operation) → length (with_op log o) ≤ length log + 1
+longer log o = by_test (is_below (meaning_of (o ∷ [])) (joined log))
+  where
+    by_test : (b : Bool) → length (log ++ cond b [] (meaning_of (o ∷ []) ∷ [])) ≤ length log + 1
+    by_test true = let l = length-append log [] in omega arith
+    by_test false = let l = length-append log (meaning_of (o ∷ []) ∷ []) in omega arith
+
+pub hears_op : (n : NodeId) (opened : Bool) (notes : List Note) (log : List StateValue) (base : ℕ) (o : Operation) → length log ≤ 9 → refusal_of worked_table (shown worked_table (running_so n opened notes log base)) (HearOp o) ≡ None
+hears_op n opened notes log base o short =
+    let fresh = not (is_below (meaning_of (o ∷ [])) (joined log)) in
+    (λ i. first ((fresh && few_by (length log) short i, DotsUsedUp) ∷ [])) ∙ has_room fresh
+
+pub wide : (l k : ℕ) → l ≤ k → k ≤ 9 → l ≤ 9
+wide l k h small = omega arith
