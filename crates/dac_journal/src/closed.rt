@@ -47,13 +47,6 @@ impl Model for Closed {
 impl Closed {
     ghost use Rattle.dac_journal.specs.Journals.{AreHistory};
 
-    /// The configuration.
-    pub fn config(&self) -> &Config
-        ensures { result.now ≡ self.now.beginning.table }
-    {
-        &self.config
-    }
-
     /// The node.
     pub fn node(&self) -> NodeId
         ensures { result ≡ self.now.beginning.node }

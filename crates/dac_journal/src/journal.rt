@@ -1,10 +1,10 @@
 //! The journal of a node, with the node.
 
-ghost use Rattle.std.specs.Prelude.{◌≡◌, ◌≢◌, ◌≤◌, ◌<◌, ◌+◌, ◌++◌, ◌∷◌, [], length, true, false, IfOk, IfErr, OnErr};
+ghost use Rattle.std.specs.Prelude.{◌≡◌, ◌≢◌, ◌≤◌, ◌<◌, ◌++◌, ◌∷◌, [], length, true, false, IfOk, IfErr, OnErr};
 ghost use Rattle.dac_model_world.specs.Step.{Steps};
 ghost use Rattle.dac_journal.specs.declared.limits.TheConstants.{MAX_RECORDS as MOST};
 ghost use Rattle.dac_node.specs.Changes.{changed, Fits};
-ghost use Rattle.dac_journal.specs.Journals.{call_of, record_of, beginning_of, EndsAt};
+ghost use Rattle.dac_journal.specs.Journals.{beginning_of, EndsAt};
 ghost use Rattle.dac_journal.specs.Going.{GoesTo};
 
 use crate::closed::Closed;
@@ -19,7 +19,8 @@ use dac_node::{Change, Node};
 use std::alloc::Global;
 use std::marker::Model;
 
-/// A node and all that happened at it. The records are a history of the node, and it stands for where that ends.
+/// A node and all that happened at it. The records are a history of the node, and it stands for where that ends. The node is asked
+/// by [`Journal::prepare`], and the record of it is added by [`Journal::commit`].
 pub struct Journal {
     config: Config,
     me: NodeId,
@@ -130,22 +131,6 @@ impl Journal {
         &self.node
     }
 
-    /// Asks the node for this seat, and adds the record of it. It gives what the seat keeps of it, and the answer.
-    /// [`NoMemory`] is the only error, and leaves all as it was.
-    pub fn ask(&mut self, seat: u16, event: Event) -> Result<(Call, Answer), NoMemory>
-        requires { length self.old.records < MOST }
-        ensures beginning { self.new.beginning ≡ self.old.beginning }
-        ensures ok { IfOk result
-            (λ r. self.new.records ≡ self.old.records ++ record_of seat event r.1 ∷ []) }
-        ensures call { IfOk result (λ r. r.0 ≡ call_of (length self.old.records + 1) event r.1) }
-        ensures answered { IfOk result (λ r. IfErr r.1 (λ why. why ≢ Refusal.NoMemory)) }
-        ensures history { IfOk result (λ _. AreHistory self.new.beginning self.new.records) }
-        ensures unchanged { OnErr result (self.new ≡ self.old) }
-    {
-        let next = self.prepare(seat, event)?;
-        self.commit(next)
-    }
-
     /// What asking the node for this seat would do. Nothing changes yet. [`NoMemory`] is the only error.
     pub fn prepare(&self, seat: u16, event: Event) -> Result<Next, NoMemory>
         requires { length self.now.records < MOST }
@@ -199,7 +184,7 @@ impl Journal {
     }
 }
 
-// The node after its answer, and the answer, three times. The node that is lent stays as it is.
+/// The node after its answer, and the answer, three times. The node that is lent stays as it is.
 fn step_copy(
     config: &Config,
     me: NodeId,
@@ -215,7 +200,7 @@ fn step_copy(
     Ok((after, answer, second, third))
 }
 
-// The answer of the node, three times. At `Err` it is as before.
+/// The answer of the node, three times. At `Err` it is as before.
 fn ask_node(
     config: &Config,
     me: NodeId,
@@ -241,7 +226,7 @@ fn ask_node(
     }
 }
 
-// Does what was prepared. It gives the reply, three times. At `Err` the node is as before.
+/// Does what was prepared. It gives the reply, three times. At `Err` the node is as before.
 fn apply_change(node: &mut Node, change: Change) -> Result<(Reply, Reply, Reply), NoMemory>
     requires { Fits node.old change }
     ensures new { IfOk result (λ _. node.new ≡ changed node.old change) }
@@ -254,7 +239,7 @@ fn apply_change(node: &mut Node, change: Change) -> Result<(Reply, Reply, Reply)
     Ok((reply, second, third))
 }
 
-// Two copies of a reply.
+/// Two copies of a reply.
 fn two_copies(reply: &Reply) -> Result<(Reply, Reply), NoMemory>
     ensures { IfOk result (λ r. (r.0 ≡ reply.now) × (r.1 ≡ reply.now)) }
 {
@@ -263,7 +248,7 @@ fn two_copies(reply: &Reply) -> Result<(Reply, Reply), NoMemory>
     Ok((one, other))
 }
 
-// Whether memory was refused, so that nothing was answered.
+/// Whether memory was refused, so that nothing was answered.
 fn is_no_memory(why: Refusal) -> bool
     ensures yes { result ≡ true → why ≡ Refusal.NoMemory }
     ensures no { result ≡ false → why ≢ Refusal.NoMemory }

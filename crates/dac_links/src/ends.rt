@@ -2,7 +2,7 @@
 
 ghost use Rattle.std.specs.Prelude.{◌≡◌, ◌<◌, true, [], ◌∷◌, ◌++◌, IfOk, MatchResult};
 ghost use Rattle.crossbeam_channel.specs.Claims.{view, IsSeatAt};
-ghost use Rattle.crossbeam_channel.specs.Ends.{sends_on, receives_on};
+ghost use Rattle.crossbeam_channel.specs.Ends.{sends_on, receives_on, ruled_capacity};
 ghost use Rattle.dac_links.specs.Relay.{StartsWith};
 
 use crate::letter::Letter;
@@ -33,10 +33,12 @@ pub struct LinkReceiver {
     ghost may: { (view pass).takes ≡ true },
 }
 
-/// A link that holds so many letters, and its two ends. Nothing was put and nothing was taken.
+/// A link that has room for so many letters, and its two ends. Nothing was put and nothing was taken. Want of memory is the only
+/// error.
 pub fn link(alloc: Global, room: usize) -> Result<(LinkSender, LinkReceiver), AllocError>
     requires { 0 < room }
     ensures one { IfOk result (λ r. receives_on r.1.end ≡ sends_on r.0.end) }
+    ensures room { IfOk result (λ r. ruled_capacity (sends_on r.0.end) ≡ room) }
     ensures empty { IfOk result (λ r. ((view r.0.pass).put ≡ []) × ((view r.1.pass).taken ≡ [])) }
 {
     let (sender, receiver, mut pass) = bounded_with::<Letter, Log, InOrder, Global>(alloc, room)?;

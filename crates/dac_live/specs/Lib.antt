@@ -2,6 +2,8 @@ pub mod Asked
 pub mod Lines
 pub mod Nodes
 pub mod Pairs
+pub mod Seating
+pub mod laws
 pub use Rattle.dac_sites.specs.Sites
 pub use Rattle.dac_run.specs.RunFault
 pub use Rattle.dac_run.specs.RunFaults

@@ -1,5 +1,5 @@
 -- What the lines of callers ask, and what they are answered.
-use Rattle.std.specs.Prelude.{⊤, ℕ, ◌≡◌, ◌<◌, ◌≤◌, ◌==◌, ◌&&◌, All, Bool, List, Option, Some, None, Result, flat_map, if◌then◌else◌, length, zip}
+use Rattle.std.specs.Prelude.{⊤, ℕ, ◌≡◌, ◌<◌, ◌≤◌, ◌==◌, ◌&&◌, ◌++◌, ◌∷◌, [], All, Bool, true, false, List, Option, Some, None, Result, flat_map, if◌then◌else◌, length, zip}
 use Rattle.std.specs.List.{AllZip}
 use Rattle.dac_messages.specs.declared.event.Event.{Event}
 use Rattle.dac_messages.specs.declared.reply.Reply.{Reply}
@@ -79,6 +79,22 @@ LinesAnswered lines answers = AllZip (λ (line : Line) (answer : LineAnswer). An
 abbrev pub AreAnswered : List Phase → List (List LineAnswer) → Type 0
 AreAnswered phases answers =
     AllZip (λ (p : Phase) (all : List LineAnswer). LinesAnswered p.lines.items all) phases answers
+
+-- ---- what is handed out to a caller's lines, by what it saw: the next one stands last
+-- of a page that was seen fresh, or was not
+abbrev pub seen_as : Bool → LineAnswer
+seen_as true = Fresh
+seen_as false = Stale
+
+-- a line that reads is handed out what was seen next, and nothing where no more was seen
+abbrev pub HandedReading : List Bool → List Bool → Option LineAnswer → Type 0
+HandedReading seen left None = seen ≡ []
+HandedReading seen left (Some answer) = (fresh : Bool) × (seen ≡ left ++ fresh ∷ []) × (answer ≡ seen_as fresh)
+
+-- a line that asks leaves what was seen as it is
+abbrev pub Handed : Ask → List Bool → List Bool → Option LineAnswer → Type 0
+Handed (Do event) seen left answer = left ≡ seen
+Handed Read seen left answer = HandedReading seen left answer
 
 -- ---- callers' seats
 -- the records of this caller's seat are what its lines ask, in order, and were answered as the lines are

@@ -38,7 +38,7 @@ pub fn are_asked(asked: &[&Event], records: &[Record], seat: u16) -> bool
     next == asked.len()
 }
 
-// What this seat's record was answered, if it is one.
+/// What this seat's record was answered, if it is one.
 fn answer_of(one: &Record, seat: u16) -> Option<&Answer>
     ensures { option_copied result ≡ answer_one seat one.now }
 {
@@ -49,7 +49,7 @@ fn answer_of(one: &Record, seat: u16) -> Option<&Answer>
     }
 }
 
-// A copy of an answer.
+/// A copy of an answer.
 fn copy_answer(answer: &Answer) -> Result<Answer, NoMemory>
     ensures { IfOk result (λ copy. copy ≡ answer.now) }
 {
@@ -62,7 +62,7 @@ fn copy_answer(answer: &Answer) -> Result<Answer, NoMemory>
     }
 }
 
-// A copy of the answer goes behind the list.
+/// A copy of the answer goes behind the list.
 fn put_answer(all: &mut Vec<Answer>, answer: &Answer) -> Result<(), NoMemory>
     ensures { OnOk result (all.new.items ≡ all.old.items ++ answer.now ∷ []) }
 {
@@ -121,7 +121,7 @@ pub fn are_told(told: &[&Answer], records: &[Record], seat: u16) -> bool
     next == told.len()
 }
 
-// Whether the records of a caller's seat are what its lines ask, and were answered as the lines are.
+/// Whether the records of a caller's seat are what its lines ask, and were answered as the lines are.
 fn caller_holds(
     alloc: Global,
     phases: &[Phase],
@@ -143,7 +143,7 @@ fn caller_holds(
     Ok(are_told(told.as_slice(), records, seat))
 }
 
-// Whether those of all callers of a node are.
+/// Whether those of all callers of a node are.
 fn node_holds(
     alloc: Global,
     phases: &[Phase],

@@ -1,5 +1,8 @@
 //! Answers and readings, handed out to the lines that they are of.
 
+ghost use Rattle.std.specs.Prelude.{◌≡◌, IfOk, reverse};
+ghost use Rattle.dac_live.specs.Lines.{seen_as, Handed, HandedReading};
+
 use crate::callers::answers_of;
 use crate::lists::AnswerList;
 use crate::report::LineAnswer;
@@ -16,24 +19,46 @@ struct Rest {
     fresh: Vec<bool>,
 }
 
+/// What came of a line that reads, where the page was fresh or was not.
+fn reading_of(fresh: bool) -> LineAnswer
+    ensures { result ≡ seen_as fresh }
+{
+    if fresh {
+        LineAnswer::Fresh
+    } else {
+        LineAnswer::Stale
+    }
+}
+
+/// What came of the next line that reads. `None` where the caller read no further one.
+fn next_reading(fresh: &mut Vec<bool>) -> Option<LineAnswer>
+    ensures { HandedReading fresh.old.items fresh.new.items result }
+{
+    match fresh.pop() {
+        Some(one) => Some(reading_of(one)),
+        None => None,
+    }
+}
+
 impl Rest {
-    /// What came of its next line, which asks for this.
-    fn next(&mut self, what: &Ask) -> Option<LineAnswer> {
+    /// What came of its next line, which asks for this. `None` where it was not answered so often, or read no further page.
+    fn next(&mut self, what: &Ask) -> Option<LineAnswer>
+        ensures { Handed what.now self.old.fresh.items self.new.fresh.items result }
+    {
         match what {
             Ask::Do(_) => match self.answers.pop() {
                 Some(answer) => Some(LineAnswer::Done(answer)),
                 None => None,
             },
-            Ask::Read => match self.fresh.pop() {
-                Some(true) => Some(LineAnswer::Fresh),
-                _ => Some(LineAnswer::Stale),
-            },
+            Ask::Read => next_reading(&mut self.fresh),
         }
     }
 }
 
-// What is to be handed out to a caller.
-fn rest_of(alloc: Global, closed: &[Closed], seen: Seen) -> Result<Rest, RunFault> {
+/// What is to be handed out to a caller.
+fn rest_of(alloc: Global, closed: &[Closed], seen: Seen) -> Result<Rest, RunFault>
+    ensures { IfOk result (λ rest. rest.fresh.items ≡ reverse seen.fresh.items) }
+{
     let Seen {
         node,
         caller,
@@ -55,7 +80,7 @@ fn rest_of(alloc: Global, closed: &[Closed], seen: Seen) -> Result<Rest, RunFaul
     })
 }
 
-// What is to be handed out to all callers.
+/// What is to be handed out to all callers.
 fn rests_of(alloc: Global, closed: &[Closed], all: Vec<Seen>) -> Result<Vec<Rest>, RunFault> {
     let mut rests = Vec::new(alloc);
     for seen in all {
@@ -67,7 +92,7 @@ fn rests_of(alloc: Global, closed: &[Closed], all: Vec<Seen>) -> Result<Vec<Rest
     Ok(rests)
 }
 
-// What came of the next line of its caller. `None` where there is no such caller, or it was not answered so often.
+/// What came of the next line of its caller. `None` where there is no such caller, or it was not answered so often.
 fn next_of(rests: &mut [Rest], line: &Line) -> Option<LineAnswer> {
     for i in 0..rests.len() {
         let rest = &mut rests[i];
@@ -78,7 +103,7 @@ fn next_of(rests: &mut [Rest], line: &Line) -> Option<LineAnswer> {
     None
 }
 
-// What came of each line of a phase.
+/// What came of each line of a phase.
 fn answers_in(alloc: Global, rests: &mut [Rest], lines: &[Line]) -> Result<AnswerList, RunFault> {
     let mut all = Vec::new(alloc);
     for i in 0..lines.len() {

@@ -12,7 +12,7 @@ use dac_journal::Node;
 use dac_run::{Answer, Record};
 use std::alloc::Global;
 
-// Refuses an answer that memory was refused: nothing was answered.
+/// Refuses an answer that memory was refused: nothing was answered.
 fn is_answered(answer: &Answer) -> Result<(), NoMemory>
     ensures { OnOk result (IfErr answer.now (λ why. why ≢ Refusal.NoMemory)) }
 {
@@ -28,7 +28,7 @@ fn is_answered(answer: &Answer) -> Result<(), NoMemory>
     }
 }
 
-// The node goes on by what a record asks. It tells whether the node answers as the record says.
+/// The node goes on by what a record asks. It tells whether the node answers as the record says.
 fn repeats(config: &Config, me: NodeId, node: &mut Node, one: &Record) -> Result<bool, NoMemory>
     ensures { IfOk result
         (λ same. same ≡ true → Steps config.now me node.old one.now.event node.new one.now.answer) }

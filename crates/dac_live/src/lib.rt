@@ -20,6 +20,7 @@ pub use owed::are_runnable;
 pub use pages::last_page;
 pub use pairs::lost_link;
 pub use report::{LineAnswer, LiveReport};
+pub use seats::seats_are_in_order;
 
 mod callers;
 mod handing;

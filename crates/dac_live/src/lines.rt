@@ -12,14 +12,14 @@ use dac_messages::Event;
 use dac_run::{Answer, Ask, Line, Phase};
 use std::alloc::Global;
 
-// Whether the line is this caller's of this node.
+/// Whether the line is this caller's of this node.
 fn is_of(line: &Line, node: NodeId, caller: u8) -> bool
     ensures { result ≡ is_of node.0 caller line.now }
 {
     line.node == node && line.caller == caller
 }
 
-// The event that this caller asks by the line, if it is one that asks.
+/// The event that this caller asks by the line, if it is one that asks.
 fn event_in(line: &Line, node: NodeId, caller: u8) -> Option<&Event>
     ensures { option_copied result ≡ ask_one node.0 caller line.now }
 {
@@ -32,7 +32,7 @@ fn event_in(line: &Line, node: NodeId, caller: u8) -> Option<&Event>
     }
 }
 
-// The list, with the events behind it that this caller asks by the lines of a phase.
+/// The list, with the events behind it that this caller asks by the lines of a phase.
 fn with_events<'a>(
     mut all: Vec<&'a Event>,
     lines: &'a [Line],
@@ -69,7 +69,7 @@ pub fn asked_by(
     Ok(all)
 }
 
-// The answer that this caller is given at the line, if it is one that asks.
+/// The answer that this caller is given at the line, if it is one that asks.
 fn answer_in<'a>(
     line: &Line,
     answer: &'a LineAnswer,
@@ -87,7 +87,7 @@ fn answer_in<'a>(
     }
 }
 
-// The list, with the answers behind it that this caller is given at the lines of a phase.
+/// The list, with the answers behind it that this caller is given at the lines of a phase.
 fn with_answers<'a>(
     mut all: Vec<&'a Answer>,
     lines: &[Line],
@@ -131,7 +131,7 @@ pub fn told_to<'a>(
     Ok(all)
 }
 
-// Whether what came of the line is what comes of such a line.
+/// Whether what came of the line is what comes of such a line.
 fn is_answered(line: &Line, answer: &LineAnswer) -> bool
     ensures { result ≡ true → Answers line.now.what answer.now }
 {
@@ -141,7 +141,7 @@ fn is_answered(line: &Line, answer: &LineAnswer) -> bool
     }
 }
 
-// Whether each line of a phase is answered.
+/// Whether each line of a phase is answered.
 fn lines_answered(lines: &[Line], answers: &[LineAnswer]) -> bool
     ensures { result ≡ true → LinesAnswered lines.now answers.now }
 {

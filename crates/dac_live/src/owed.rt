@@ -7,14 +7,14 @@ ghost use Rattle.dac_live.specs.Lines.{IsLineOf, HasLines};
 use dac_config::Config;
 use dac_run::{CALLERS, Line, Phase};
 
-// Whether the line is one of a node below this number, and of a caller from 1 to 4.
+/// Whether the line is one of a node below this number, and of a caller from 1 to 4.
 fn is_line(nodes: u8, line: &Line) -> bool
     ensures { result ≡ true → IsLineOf nodes line.now }
 {
     line.node.0 < nodes && 1 <= line.caller && line.caller <= CALLERS
 }
 
-// Whether all lines of the phase are.
+/// Whether all lines of the phase are.
 fn has_lines(nodes: u8, phase: &Phase) -> bool
     ensures { result ≡ true → HasLines nodes phase.now }
 {

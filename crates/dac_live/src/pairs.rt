@@ -9,7 +9,7 @@ use dac_base::{NoMemory, NodeId};
 use dac_run::{Closed, Record, SHIPS_OF_PHASE, are_heard, are_ships, sent_by};
 use std::alloc::Global;
 
-// The seat of the shipper to this node.
+/// The seat of the shipper to this node.
 fn shipper_seat(me: NodeId, other: NodeId) -> u16
     requires { me.0 ≢ other.0 }
     ensures { result ≡ shipper_seat me.0 other.0 }
@@ -21,7 +21,7 @@ fn shipper_seat(me: NodeId, other: NodeId) -> u16
     }
 }
 
-// The seat of the link worker for this node.
+/// The seat of the link worker for this node.
 fn worker_seat(me: NodeId, other: NodeId) -> u16
     requires { me.0 ≢ other.0 }
     ensures { result ≡ worker_seat me.0 other.0 }
@@ -29,7 +29,7 @@ fn worker_seat(me: NodeId, other: NodeId) -> u16
     shipper_seat(me, other) + 1
 }
 
-// Whether one link's two ends were used as they are to be.
+/// Whether one link's two ends were used as they are to be.
 fn pair_holds(
     alloc: Global,
     phases: usize,
@@ -55,7 +55,7 @@ fn pair_holds(
     }
 }
 
-// The first node to which the link from this one doesn't hold.
+/// The first node to which the link from this one doesn't hold.
 fn lost_to(
     alloc: Global,
     phases: usize,

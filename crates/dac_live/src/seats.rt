@@ -3,11 +3,18 @@
 ghost use Rattle.std.specs.Prelude.{◌≡◌, ◌<◌, ◌≤◌, true, All, Err, OnOk, length};
 ghost use Rattle.dac_base.specs.declared.limits.TheConstants.{MAX_NODES};
 ghost use Rattle.dac_live.specs.Pairs.{IsSeat, AreOfSeats, SeatsHold};
+ghost use Rattle.dac_live.specs.Seating.{AreInOrder};
 
 use dac_base::NodeId;
 use dac_run::{CloseFault, Closed, Record, RunFault};
 
-// Whether this is one of the seats of a node, of so many nodes: its callers', and two for each other node.
+/// The seats of a node are numbered in order, from 1 on: those of callers 1 to 4, and for each other node, by name, its shipper's
+/// and its link worker's. So nobody shares a seat, and there is no other one.
+pub fn seats_are_in_order()
+    ensures { AreInOrder }
+{}
+
+/// Whether this is one of the seats of a node, of so many nodes: its callers', and two for each other node.
 fn is_seat(nodes: usize, seat: u16) -> bool
     requires { nodes ≤ MAX_NODES }
     ensures { result ≡ true → IsSeat nodes seat }
@@ -15,7 +22,7 @@ fn is_seat(nodes: usize, seat: u16) -> bool
     1 <= seat && usize::from(seat) <= 2 * nodes + 2
 }
 
-// The place of the first record of another seat, from 1.
+/// The place of the first record of another seat, from 1.
 fn strange_place(nodes: usize, records: &[Record]) -> Option<u64>
     requires { nodes ≤ MAX_NODES }
     ensures { result ≡ None → AreOfSeats nodes records.now }

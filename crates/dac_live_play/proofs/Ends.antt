@@ -4,7 +4,7 @@ use Rattle.std.specs.Prelude.{IfSome}
 use Rattle.std.specs.Io.KnownBytes.{Appends}
 use Rattle.dac_config.specs.Table.{Table}
 use Rattle.dac_live_script.specs.declared.line.LiveLine.{LiveLine}
-use Rattle.dac_live_script.specs.LiveInputs.{SaysLiveScript, IsFailureOf}
+use Rattle.dac_live_script.specs.LiveInputs.{SaysLiveScript, IsLiveFailureOf}
 use Rattle.dac_play.specs.Texts.{failure_text}
 use Rattle.dac_script.specs.declared.failure.Failure.{Failure}
 use Rattle.dac_script.specs.declared.source.Progress.TheVariants.{Ended}
@@ -23,11 +23,11 @@ lived None old new table script text says played printed = tt
 lived (Some bytes) old new table script text says played printed = record { table = table; script = script; says = says; text = text; played = played; printed = printed }
 
 -- the input was refused, and the line of its failure was printed
-pub refused_ends : (had old new : Option (List ℕ)) (why : Failure) (how : LiveEnding) → IfSome had (λ bytes. IsFailureOf bytes why) → IsRefusal why how old new → IfSome had (λ bytes. EndsLive bytes how old new)
+pub refused_ends : (had old new : Option (List ℕ)) (why : Failure) (how : LiveEnding) → IfSome had (λ bytes. IsLiveFailureOf bytes why) → IsRefusal why how old new → IfSome had (λ bytes. EndsLive bytes how old new)
 refused_ends None old new why how fails refusal = tt
 refused_ends (Some bytes) old new why ending.Done fails refusal = absurd refusal
 refused_ends (Some bytes) old new why (ending.Refused found) fails refusal =
-    (subst (IsFailureOf bytes) (sym refusal.0) fails, subst (λ (f : Failure). Appends old new (failure_text f)) (sym refusal.0) refusal.1)
+    (subst (IsLiveFailureOf bytes) (sym refusal.0) fails, subst (λ (f : Failure). Appends old new (failure_text f)) (sym refusal.0) refusal.1)
 refused_ends (Some bytes) old new why (ending.Faulted found) fails refusal = absurd refusal
 refused_ends (Some bytes) old new why ending.Stopped fails refusal = tt
 

@@ -3,7 +3,7 @@ use Rattle.std.specs.Prelude.{◌≡◌, ℕ, List, Option}
 use Rattle.std.specs.Io.KnownBytes.{Appends}
 use Rattle.dac_config.specs.Table.{Table}
 use Rattle.dac_live_script.specs.declared.line.LiveLine.{LiveLine}
-use Rattle.dac_live_script.specs.LiveInputs.{SaysLiveScript, IsFailureOf}
+use Rattle.dac_live_script.specs.LiveInputs.{SaysLiveScript, IsLiveFailureOf}
 use Rattle.dac_play.specs.Texts.{failure_text}
 use Rattle.dac_live.specs.declared.report.LiveReport.{LiveReport}
 use Rattle.dac_live_play.specs.declared.fault.PlayFault.{PlayFault}
@@ -41,6 +41,6 @@ pub record IsFaulted (bytes : List ℕ) (why : PlayFault) (old new : Option (Lis
 -- output took no more, nothing is said.
 abbrev pub EndsLive : List ℕ → LiveEnding → Option (List ℕ) → Option (List ℕ) → Type 0
 EndsLive bytes ending.Done old new = IsLived bytes old new
-EndsLive bytes (ending.Refused why) old new = IsFailureOf bytes why × Appends old new (failure_text why)
+EndsLive bytes (ending.Refused why) old new = IsLiveFailureOf bytes why × Appends old new (failure_text why)
 EndsLive bytes (ending.Faulted why) old new = IsFaulted bytes why old new
 EndsLive bytes ending.Stopped old new = Unit {0}

@@ -1,5 +1,6 @@
 pub mod Behind
 pub mod Paged
+pub mod Receipts
 pub mod Replayed
 pub mod Seats
 pub mod Sites

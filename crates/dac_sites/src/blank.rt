@@ -80,9 +80,7 @@ fn readers_of(alloc: Global, desk: &Desk, count: u16) -> Result<Vec<RawReader>, 
         let Some(reader) = desk.reader() else {
             return Err(OpenFault::NoReader);
         };
-        if all.push(reader).is_err() {
-            return Err(OpenFault::NoMemory);
-        }
+        all.push(reader)?;
     }
     Ok(all)
 }
@@ -90,7 +88,8 @@ fn readers_of(alloc: Global, desk: &Desk, count: u16) -> Result<Vec<RawReader>, 
 /// A node that is off after so many incarnations, with an empty journal, for so many seats: one at least. So many readers
 /// have places in its pages.
 ///
-/// `NoReader` comes where the page structure refuses a reader's place.
+/// `NoReader` comes where the page structure refuses a reader's place. Its contract doesn't say when it does, and so this one
+/// doesn't either. A test asks for many readers, and each has a place.
 pub fn blank_site<R: Wait>(
     rt: &R,
     alloc: Global,
@@ -105,14 +104,10 @@ pub fn blank_site<R: Wait>(
         × (b.desk.journal ≡ record { beginning = beginning_of config.now me last; records = [] })) }
     ensures readers { IfOk result (λ b. vec_len b.readers ≡ readers) }
 {
-    let Ok(config) = config.copy() else {
-        return Err(OpenFault::NoMemory);
-    };
+    let config = config.copy()?;
     // With no readers one place is made all the same.
     let places = usize::from(readers.max(1));
-    let Ok(desk) = Desk::open(alloc, Journal::new(alloc, config, me, last), places) else {
-        return Err(OpenFault::NoMemory);
-    };
+    let desk = Desk::open(alloc, Journal::new(alloc, config, me, last), places)?;
     match readers_of(alloc, &desk, readers) {
         Ok(readers) => Ok(SiteBlank {
             blank: Blank::new(u64::from(seats)),

@@ -1,18 +1,14 @@
 //! A journal with its pages.
 
-ghost use Rattle.std.specs.Prelude.{◌≡◌, ◌≢◌, ◌^◌, ◌<◌, ◌+◌, ◌++◌, ◌∷◌, [], length, IfOk, IfErr, OnErr};
-ghost use Rattle.dac_journal.specs.declared.limits.TheConstants.{MAX_RECORDS};
-ghost use Rattle.dac_journal.specs.Journals.{AreHistory, call_of, record_of};
+ghost use Rattle.std.specs.Prelude.{◌≡◌, ◌^◌, ◌<◌, [], IfOk};
 ghost use Rattle.std.specs.Option.{option_copied};
 ghost use Rattle.dac_status.specs.Summaries.{summary_of};
 ghost use Rattle.dac_sites.specs.Paged.{page_after, page_of, known_in};
 
 use dac_base::NoMemory;
 use dac_config::Config;
-use dac_events::Refusal;
-use dac_journal::{Answer, Call, Journal, Node};
+use dac_journal::{Journal, Node};
 use dac_lattice::Bottom;
-use dac_messages::Event;
 use dac_pages::{Page, Pages, RawReader};
 use dac_state::State;
 use dac_status::Summary;
@@ -31,7 +27,7 @@ pub fn page_of(alloc: Global, config: &Config, place: u64, node: &Node) -> Page
     }
 }
 
-// The summary of a state, or of the one that knows nothing where there is none.
+/// The summary of a state, or of the one that knows nothing where there is none.
 fn summary_of(alloc: Global, config: &Config, state: Option<&State>) -> Summary
     ensures { result ≡ summary_of config.now (known_in (option_copied state.entry)) }
 {
@@ -41,12 +37,12 @@ fn summary_of(alloc: Global, config: &Config, state: Option<&State>) -> Summary
     }
 }
 
-/// A journal, and the pages that tell readers of it: they take the page after its last record. It isn't `Drop`: end it by
-/// [`Desk::end`].
+/// A journal, and the pages that tell readers of it: they take the page after its last record. It is asked by
+/// [`add_record`](crate::laws::add_record). It isn't `Drop`: end it by [`Desk::end`].
 pub struct Desk {
-    alloc: Global,
-    journal: Journal,
-    pages: Pages,
+    pub(crate) alloc: Global,
+    pub(crate) journal: Journal,
+    pub(crate) pages: Pages,
 }
 
 impl Model for Desk {
@@ -93,41 +89,6 @@ impl Desk {
     /// A reader of the pages. `None` where each place for one is in use.
     pub fn reader(&self) -> Option<RawReader> {
         self.pages.reader()
-    }
-
-    /// Asks the node for this seat, adds the record of it, and publishes the page after it. It gives what the seat keeps of
-    /// it, and the answer. [`NoMemory`] is the only error, and leaves all as it was.
-    pub fn ask<R: Wait>(
-        &mut self,
-        rt: &R,
-        seat: u16,
-        event: Event,
-    ) -> Result<(Call, Answer), NoMemory>
-        requires { length self.old.journal.records < MAX_RECORDS }
-        ensures beginning { self.new.journal.beginning ≡ self.old.journal.beginning }
-        ensures ok { IfOk result (λ r. self.new.journal.records
-            ≡ self.old.journal.records ++ record_of seat event r.1 ∷ []) }
-        ensures call { IfOk result
-            (λ r. r.0 ≡ call_of (length self.old.journal.records + 1) event r.1) }
-        ensures answered { IfOk result (λ r. IfErr r.1 (λ why. why ≢ Refusal.NoMemory)) }
-        ensures history { IfOk result
-            (λ _. AreHistory self.new.journal.beginning self.new.journal.records) }
-        // What readers take: the number of records, the incarnation, and the summary of the state that it leaves.
-        ensures page { self.new.page
-            ≡ page_after self.new.journal.beginning self.new.journal.records }
-        ensures unchanged { OnErr result (self.new ≡ self.old) }
-    {
-        let Desk {
-            alloc,
-            journal,
-            pages,
-        } = self;
-        let place = journal.records().len() as u64 + 1;
-        let next = journal.prepare(seat, event)?;
-        pages.prepare(page_of(*alloc, journal.config(), place, next.node()))?;
-        let said = journal.commit(next)?;
-        pages.publish(rt);
-        Ok(said)
     }
 
     /// Ends the pages, and gives the journal and the page that was published last.

@@ -1,6 +1,10 @@
 //! What calls of a site refuse.
 
+ghost use Rattle.std.specs.Prelude.{◌≡◌};
+
+use dac_base::NoMemory;
 use dac_events::Refusal;
+use std::alloc::AllocFailed;
 use thiserror::Error;
 
 /// Why a site is not opened.
@@ -12,6 +16,26 @@ pub enum OpenFault {
     /// Memory was refused.
     #[error("out of memory")]
     NoMemory,
+}
+
+impl From<NoMemory> for OpenFault {
+    ghost use Rattle.dac_sites.specs.declared.faults.OpenFault.TheVariants.{NoMemory as WantOfMemory};
+
+    ghost from_gives = { λ _ fault. fault ≡ WantOfMemory };
+
+    fn from(_refused: NoMemory) -> Self {
+        OpenFault::NoMemory
+    }
+}
+
+impl<T: Drop> From<AllocFailed<T>> for OpenFault {
+    ghost use Rattle.dac_sites.specs.declared.faults.OpenFault.TheVariants.{NoMemory as WantOfMemory};
+
+    ghost from_gives = { λ _ fault. fault ≡ WantOfMemory };
+
+    fn from(_failed: AllocFailed<T>) -> Self {
+        OpenFault::NoMemory
+    }
 }
 
 /// Why a call of a site has no reply.
@@ -31,6 +55,16 @@ pub enum LiveFault {
     /// Memory was refused. Nothing changes.
     #[error("out of memory")]
     NoMemory,
+}
+
+impl From<NoMemory> for LiveFault {
+    ghost use Rattle.dac_sites.specs.declared.faults.LiveFault.TheVariants.{NoMemory as WantOfMemory};
+
+    ghost from_gives = { λ _ fault. fault ≡ WantOfMemory };
+
+    fn from(_refused: NoMemory) -> Self {
+        LiveFault::NoMemory
+    }
 }
 
 /// Why a site is not closed well.

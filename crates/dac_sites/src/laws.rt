@@ -8,7 +8,7 @@ ghost use Rattle.dac_journal.specs.declared.limits.TheConstants.{MAX_RECORDS};
 ghost use Rattle.dac_journal.specs.Journals.{AreHistory, call_of, calls_of, record_of, DifferAt};
 ghost use Rattle.dac_sites.specs.Paged.{page_after};
 
-use crate::desk::Desk;
+use crate::desk::{Desk, page_of};
 use crate::faults::LiveFault;
 use crate::same::is_record;
 use dac_events::Refusal;
@@ -47,10 +47,17 @@ pub fn add_record<R: Wait>(
     if desk.journal().is_full() {
         return Err(LiveFault::JournalFull);
     }
-    match desk.ask(rt, seat, event) {
-        Ok(recorded) => Ok(recorded),
-        Err(_) => Err(LiveFault::NoMemory),
-    }
+    let Desk {
+        alloc,
+        journal,
+        pages,
+    } = desk;
+    let place = journal.records().len() as u64 + 1;
+    let next = journal.prepare(seat, event)?;
+    pages.prepare(page_of(*alloc, journal.config(), place, next.node()))?;
+    let said = journal.commit(next)?;
+    pages.publish(rt);
+    Ok(said)
 }
 
 /// Whether the seat's records, with their places and in the journal's order, are the list of calls. `None` where they

@@ -35,15 +35,17 @@ pub use dac_pages::Page;
 pub use desk::Desk;
 pub use faults::{CloseFault, LiveFault, OpenFault};
 pub use reader::PageReader;
+pub use receipt::Receipt;
 pub use replaying::replay;
 pub use seat::Seat;
-pub use site::{Receipt, Site, open_site};
+pub use site::{Site, open_site};
 
 mod blank;
 mod desk;
 mod faults;
 pub mod laws;
 mod reader;
+mod receipt;
 mod replaying;
 mod same;
 mod seat;

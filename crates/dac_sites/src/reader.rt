@@ -1,9 +1,10 @@
 //! A reader of a site's pages.
 
-ghost use Rattle.std.specs.Prelude.{◌≡◌, ◌≤◌, max, true, false, IfSome, IfNone};
+ghost use Rattle.std.specs.Prelude.{◌≡◌, ◌≤◌, max, IfSome, IfNone};
+ghost use Rattle.dac_sites.specs.Receipts.{note_of, learned};
 
 use crate::blank::SiteName;
-use crate::site::Receipt;
+use crate::receipt::Receipt;
 use dac_pages::{Follower, Page, RawReader};
 use std::marker::{Model, PhantomData};
 
@@ -41,16 +42,18 @@ impl<L: SiteName> PageReader<L> {
         self.follower.read()
     }
 
-    /// The pages that it reads from now on are at least at the receipt's place. The first to learn a receipt takes its note;
-    /// for a later one nothing changes.
+    /// The pages that it reads from now on are at least at the place of the receipt's record. The first to learn a receipt takes
+    /// its note; for a later one nothing changes. Whatever its owner has set as its place is not looked at.
     pub fn learn(&mut self, receipt: &mut Receipt<L>)
-        ensures first { receipt.old.is_new ≡ true → self.new ≡ max self.old receipt.old.place }
-        ensures later { receipt.old.is_new ≡ false → self.new ≡ self.old }
-        ensures receipt { receipt.new ≡ record receipt.old { is_new = false } }
+        ensures first { IfSome (note_of receipt.old) (λ place. self.new ≡ max self.old place) }
+        ensures later { IfNone (note_of receipt.old) (self.new ≡ self.old) }
+        ensures receipt { receipt.new ≡ learned receipt.old }
     {
-        if receipt.is_new {
-            receipt.is_new = false;
-            self.follower.learn(receipt.place);
+        let note = receipt.note;
+        receipt.note = None;
+        match note {
+            Some(place) => self.follower.learn(place),
+            None => {}
         }
     }
 }

@@ -14,7 +14,7 @@ use dac_messages::{Event, Reply};
 use dac_pages::Page;
 use std::alloc::Global;
 
-// Refuses an answer that memory was refused: nothing was answered.
+/// Refuses an answer that memory was refused: nothing was answered.
 fn is_answered(answer: &Result<Reply, Refusal>) -> Result<(), NoMemory>
     ensures { OnOk result (IfErr answer.now (λ why. why ≢ Refusal.NoMemory)) }
 {
@@ -30,7 +30,7 @@ fn is_answered(answer: &Result<Reply, Refusal>) -> Result<(), NoMemory>
     }
 }
 
-// The node goes on by the event, whatever it answers.
+/// The node goes on by the event, whatever it answers.
 fn go_on(config: &Config, me: NodeId, node: &mut Node, event: &Event) -> Result<(), NoMemory>
     ensures { OnOk result (GoesOn config.now me node.old event.now node.new) }
 {

@@ -1,10 +1,11 @@
 //! A site: a journal under a lock, and the seats of its callers.
 
-ghost use Rattle.std.specs.Prelude.{◌≡◌, ◌≢◌, ◌↔◌, ◌+◌, ◌<◌, true, length, Ok, Err, IfOk, IfErr, MatchOption, All, sum_by, vec_len};
+ghost use Rattle.std.specs.Prelude.{◌≡◌, ◌≢◌, ◌↔◌, ◌+◌, ◌<◌, length, Some, Ok, Err, IfOk, IfErr, MatchOption, All, sum_by, vec_len};
 ghost use Rattle.dac_journal.specs.declared.limits.TheConstants.{MAX_RECORDS};
 ghost use Rattle.dac_journal.specs.Journals.{calls_of};
 ghost use Rattle.dac_sites.specs.Behind.{WentOn, NotTaken, SeatDiffers, StrangerFrom, NotClosed};
 ghost use Rattle.dac_sites.specs.Paged.{page_after};
+ghost use Rattle.dac_sites.specs.Receipts.{note_of};
 ghost use Rattle.dac_sites.specs.Added.{Added, AddedRefused, CallAdded, CallRefused};
 ghost use Rattle.dac_sites.specs.Seats.{IsOneOf, new_seats};
 ghost use Rattle.dac_sites.specs.Sites.{IsBlankOf};
@@ -14,10 +15,11 @@ use crate::desk::Desk;
 use crate::faults::{CloseFault, LiveFault};
 use crate::laws::{add_record, same_calls};
 use crate::reader::PageReader;
+use crate::receipt::Receipt;
 use crate::seat::Seat;
 use dac_base::NoMemory;
 use dac_journal::{Closed, Record};
-use dac_messages::{Event, Reply};
+use dac_messages::Event;
 use dac_pages::RawReader;
 use std::alloc::Global;
 use std::marker::PhantomData;
@@ -34,18 +36,6 @@ pub struct Locked<L: SiteName> {
     ghost begins: { desk.journal.beginning ≡ L.beginning },
 }
 
-/// What a call was answered.
-#[derive(Drop)]
-pub struct Receipt<L: SiteName> {
-    /// The place of its record in the journal, from 1.
-    pub place: u64,
-    /// The node's reply.
-    pub reply: Reply,
-    /// Whether no reader has learned it.
-    pub(crate) is_new: bool,
-    of: PhantomData<L>,
-}
-
 impl<L: SiteName> Locked<L> {
     /// A call of this seat. All that takes memory is made before anything changes, and the page is published before it
     /// answers.
@@ -57,7 +47,7 @@ impl<L: SiteName> Locked<L> {
     ) -> Result<Receipt<L>, LiveFault>
         ensures number { seat.new.number ≡ seat.old.number }
         ensures ok { IfOk result (λ r. CallAdded seat.old.calls seat.new.calls r.place event
-            (Ok r.reply) × (r.is_new ≡ true)) }
+            (Ok r.reply) × (note_of r ≡ Some r.place)) }
         ensures err { IfErr result (λ e. CallRefused e seat.old.calls seat.new.calls event) }
         // The journal gets the same: what the seat keeps of the call is the record.
         ensures added { IfOk result (λ r. Added self.old.desk.journal.records
@@ -93,7 +83,7 @@ impl<L: SiteName> Locked<L> {
             Ok(reply) => Ok(Receipt {
                 place,
                 reply,
-                is_new: true,
+                note: Some(place),
                 of: PhantomData,
             }),
             Err(why) => Err(LiveFault::Refused { place, why }),
@@ -110,7 +100,7 @@ pub struct Site<L: SiteName> {
     ghost some: { 0 < L.seats },
 }
 
-// The book, and a seat for each part.
+/// The book, and a seat for each part.
 fn deal<L: SiteName>(
     alloc: Global,
     blank: Blank,
@@ -174,7 +164,7 @@ pub fn open_site<L: SiteName, R: Wait>(
     Ok((site, all, readers))
 }
 
-// The place at which the calls of the first seat that doesn't match its records differ from them.
+/// The place at which the calls of the first seat that doesn't match its records differ from them.
 fn mismatch<L: SiteName>(records: &[Record], seats: &[Seat<L>]) -> Option<u64>
     ensures { MatchOption result (All (λ s. calls_of s.number records.now ≡ s.calls) seats.now)
         (λ p. SeatDiffers p records.now seats.now) }
@@ -187,7 +177,7 @@ fn mismatch<L: SiteName>(records: &[Record], seats: &[Seat<L>]) -> Option<u64>
     None
 }
 
-// Where among the seats the one of this number is.
+/// Where among the seats the one of this number is.
 fn seat_at<L: SiteName>(seats: &[Seat<L>], number: u16) -> Option<usize>
     ensures { MatchOption result (All (λ s. s.number ≢ number) seats.now)
         (λ _. IsOneOf number (λ s. s.number) seats.now) }
@@ -201,7 +191,7 @@ fn seat_at<L: SiteName>(seats: &[Seat<L>], number: u16) -> Option<usize>
     None
 }
 
-// The place of the first record that is none of these seats'.
+/// The place of the first record that is none of these seats'.
 fn stranger<L: SiteName>(records: &[Record], seats: &[Seat<L>]) -> Option<u64>
     ensures { MatchOption result (All (λ r. IsOneOf r.seat (λ s. s.number) seats.now) records.now)
         (λ p. StrangerFrom p 1 seats.now records.now) }
@@ -216,7 +206,7 @@ fn stranger<L: SiteName>(records: &[Record], seats: &[Seat<L>]) -> Option<u64>
     None
 }
 
-// All shares in one.
+/// All shares in one.
 fn merge_shares<L: SiteName>(mut seats: Vec<Seat<L>>, mut all: Share<L>) -> Share<L>
     ensures { (result.parts ≡ all.parts + vec_len seats)
         × (result.amount ≡ all.amount + sum_by (λ s. length s.calls) seats.items) }
@@ -250,7 +240,7 @@ impl<L: SiteName> Site<L> {
     ) -> Result<Receipt<L>, LiveFault>
         ensures number { seat.new.number ≡ seat.old.number }
         ensures ok { IfOk result (λ r. CallAdded seat.old.calls seat.new.calls r.place event
-            (Ok r.reply) × (r.is_new ≡ true)) }
+            (Ok r.reply) × (note_of r ≡ Some r.place)) }
         ensures err { IfErr result (λ e. CallRefused e seat.old.calls seat.new.calls event) }
         // The answer is the model node's after some history of the site's node, and its record is the next one.
         ensures taken { IfOk result

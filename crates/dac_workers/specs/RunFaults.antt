@@ -1,5 +1,8 @@
--- How a fault of a run is shown.
-use Rattle.std.specs.Prelude.{ℕ, List, codes}
+-- How a fault of a run is shown, and which faults come of a link.
+use Rattle.std.specs.Prelude.{◌≡◌, ⊤, ℕ, List, codes}
+use Rattle.dac_base.specs.declared.NodeId.{NodeId}
+use Rattle.dac_sites.specs.declared.faults.LiveFault.{LiveFault}
+use Rattle.dac_sites.specs.declared.faults.LiveFault.TheVariants as call
 use Rattle.dac_workers.specs.declared.faults.RunFault.{RunFault}
 use Rattle.dac_workers.specs.declared.faults.RunFault.TheVariants.{TooManyNodes, NoThread, LinkLost, Open, Site, Close, NoPage, NoMemory}
 
@@ -24,3 +27,22 @@ name_of (Site node why) = codes "Site"
 name_of (Close node why) = codes "Close"
 name_of (NoPage node) = codes "NoPage"
 name_of NoMemory = codes "NoMemory"
+
+-- ---- of a link
+-- a call of a site made no record
+abbrev pub IsUnrecorded : LiveFault → Type 0
+IsUnrecorded call.JournalFull = ⊤
+IsUnrecorded (call.Refused place why) = ⊥
+IsUnrecorded call.NoMemory = ⊤
+
+-- The fault comes of a link between these two nodes, at its own one of them: the link is lost, its site made no record, or
+-- memory was refused.
+abbrev pub IsLinkFault : NodeId → NodeId → NodeId → RunFault → Type 0
+IsLinkFault from to own TooManyNodes = ⊥
+IsLinkFault from to own NoThread = ⊥
+IsLinkFault from to own (LinkLost f t) = (f ≡ from) × (t ≡ to)
+IsLinkFault from to own (Open why) = ⊥
+IsLinkFault from to own (Site node why) = (node ≡ own) × IsUnrecorded why
+IsLinkFault from to own (Close node why) = ⊥
+IsLinkFault from to own (NoPage node) = ⊥
+IsLinkFault from to own NoMemory = ⊤

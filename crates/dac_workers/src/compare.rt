@@ -13,7 +13,7 @@ use std::alloc::Global;
 /// How often a shipper ships in a phase, with the last time that no thread runs.
 pub const SHIPS_OF_PHASE: usize = 5;
 
-// The message that this seat's record ships, if it is one.
+/// The message that this seat's record ships, if it is one.
 fn sent_one(one: &Record, seat: u16) -> Option<&Message>
     ensures { option_copied result ≡ sent_one seat one.now }
 {
@@ -37,7 +37,7 @@ pub fn event_of(one: &Record, seat: u16) -> Option<&Event>
     }
 }
 
-// Whether the event hears this message.
+/// Whether the event hears this message.
 fn is_heard(message: &Message, event: &Event) -> bool
     ensures { result ≡ true → event.now ≡ Event.Hear message.now }
 {
@@ -47,7 +47,7 @@ fn is_heard(message: &Message, event: &Event) -> bool
     }
 }
 
-// Whether the event ships to this node.
+/// Whether the event ships to this node.
 fn is_ship(event: &Event, to: NodeId) -> bool
     ensures { result ≡ true → event.now ≡ Event.Ship to }
 {

@@ -3,8 +3,9 @@
 ghost use Rattle.std.specs.Prelude.{◌≡◌};
 ghost use Rattle.dac_workers.specs.RunFaults.{number_of, name_of};
 
-use dac_base::NodeId;
+use dac_base::{NoMemory, NodeId};
 use dac_sites::{CloseFault, LiveFault, OpenFault};
+use std::alloc::AllocFailed;
 use thiserror::Error;
 
 /// Why sites are not run to the end. The number and the name of each cause are part of the program's output.
@@ -52,6 +53,26 @@ pub enum RunFault {
     /// Memory was refused.
     #[error("out of memory")]
     NoMemory,
+}
+
+impl From<NoMemory> for RunFault {
+    ghost use Rattle.dac_workers.specs.declared.faults.RunFault.TheVariants.{NoMemory as WantOfMemory};
+
+    ghost from_gives = { λ _ fault. fault ≡ WantOfMemory };
+
+    fn from(_refused: NoMemory) -> Self {
+        RunFault::NoMemory
+    }
+}
+
+impl<T: Drop> From<AllocFailed<T>> for RunFault {
+    ghost use Rattle.dac_workers.specs.declared.faults.RunFault.TheVariants.{NoMemory as WantOfMemory};
+
+    ghost from_gives = { λ _ fault. fault ≡ WantOfMemory };
+
+    fn from(_failed: AllocFailed<T>) -> Self {
+        RunFault::NoMemory
+    }
 }
 
 impl RunFault {

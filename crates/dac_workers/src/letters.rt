@@ -1,9 +1,10 @@
 //! Messages as letters.
 
-ghost use Rattle.std.specs.Prelude.{◌≡◌, true, Ok, IfOk};
+ghost use Rattle.std.specs.Prelude.{◌≡◌, true, Ok, IfOk, IfErr};
 ghost use Rattle.dac_wire.specs.declared.packet.Packet.TheVariants.{Msg};
 ghost use Rattle.dac_wire.specs.Decoding.{packet_at};
 ghost use Rattle.dac_workers.specs.Letters.{IsLetterOf};
+ghost use Rattle.dac_workers.specs.RunFaults.{IsLinkFault};
 
 use crate::faults::RunFault;
 use dac_base::NodeId;
@@ -13,16 +14,22 @@ use dac_messages::Message;
 use dac_wire::{Packet, WireFault, WireFaultKind, decode, encode};
 use std::alloc::Global;
 
-/// A link, by the node that ships and the one that hears.
+/// A link as the thread at one of its ends knows it.
 #[derive(Clone, Copy, Debug, PartialEq, Eq)]
 pub(crate) struct Ends {
+    /// The node that ships.
     pub(crate) from: NodeId,
+    /// The node that hears.
     pub(crate) to: NodeId,
+    /// The one of the two that the thread is at.
+    pub(crate) own: NodeId,
 }
 
 impl Ends {
     /// The link is lost.
-    pub(crate) fn loss(self) -> RunFault {
+    pub(crate) fn loss(self) -> RunFault
+        ensures { IsLinkFault self.from self.to self.own result }
+    {
         RunFault::LinkLost {
             from: self.from,
             to: self.to,
@@ -30,7 +37,9 @@ impl Ends {
     }
 
     /// What a fault of bytes is to the link.
-    fn fault_of(self, fault: WireFault) -> RunFault {
+    fn fault_of(self, fault: WireFault) -> RunFault
+        ensures { IsLinkFault self.from self.to self.own result }
+    {
         match fault.kind {
             WireFaultKind::NoMemory => RunFault::NoMemory,
             _ => self.loss(),
@@ -38,7 +47,7 @@ impl Ends {
     }
 }
 
-// Whether the two are one message.
+/// Whether the two are one message.
 fn is_same(packet: &Packet, other: &Packet) -> bool
     ensures { result ≡ true → packet.now ≡ other.now }
 {
@@ -55,7 +64,8 @@ pub(crate) fn letter_of(
     ends: Ends,
     message: Message,
 ) -> Result<Letter, RunFault>
-    ensures { IfOk result (IsLetterOf config.now message) }
+    ensures ok { IfOk result (IsLetterOf config.now message) }
+    ensures err { IfErr result (IsLinkFault ends.from ends.to ends.own) }
 {
     let packet = Packet::Msg(message);
     let bytes = match encode(alloc, config, &packet) {
@@ -79,7 +89,8 @@ pub(crate) fn message_in(
     ends: Ends,
     bytes: &[u8],
 ) -> Result<Message, RunFault>
-    ensures { IfOk result (λ message. packet_at config.now bytes.now ≡ Ok (Msg message)) }
+    ensures ok { IfOk result (λ message. packet_at config.now bytes.now ≡ Ok (Msg message)) }
+    ensures err { IfErr result (IsLinkFault ends.from ends.to ends.own) }
 {
     match decode(alloc, config, bytes) {
         Ok(Packet::Msg(message)) => Ok(message),

@@ -1,9 +1,10 @@
 //! The bodies of a link's two threads.
 
-ghost use Rattle.std.specs.Prelude.{◌≡◌, [], ◌∷◌, ◌++◌, OnOk, None};
+ghost use Rattle.std.specs.Prelude.{◌≡◌, [], ◌∷◌, ◌++◌, OnOk, IfErr, None};
 ghost use Rattle.crossbeam_channel.specs.Claims.{view};
 ghost use Rattle.crossbeam_channel.specs.Ends.{sends_on, receives_on};
 ghost use Rattle.dac_workers.specs.Links.{ShipsOne, Ships, HearsOne, Hears};
+ghost use Rattle.dac_workers.specs.RunFaults.{IsLinkFault};
 
 use crate::faults::RunFault;
 use crate::letters::{Ends, letter_of, message_in};
@@ -28,10 +29,11 @@ pub trait Gate: Sync {
 /// How often a shipper ships in a phase.
 pub const SHIPS: u64 = 4;
 
-// Puts a letter.
+/// Puts a letter.
 fn put<R: Wait>(rt: &R, ends: Ends, out: &mut LinkSender, letter: Letter) -> Result<(), RunFault>
     ensures link { sends_on out.new.end ≡ sends_on out.old.end }
     ensures ok { OnOk result ((view out.new.pass).put ≡ (view out.old.pass).put ++ letter ∷ []) }
+    ensures err { IfErr result (IsLinkFault ends.from ends.to ends.own) }
 {
     match out.put(rt, letter) {
         Ok(()) => Ok(()),
@@ -39,7 +41,8 @@ fn put<R: Wait>(rt: &R, ends: Ends, out: &mut LinkSender, letter: Letter) -> Res
     }
 }
 
-/// One call that ships, and the letter of its reply.
+/// One call that ships, and the letter of its reply. A refusal of the node is a record without a letter. The faults are those of
+/// [`ship_times`].
 pub fn ship_once<L: SiteName, R: Wait>(
     rt: &R,
     alloc: Global,
@@ -54,22 +57,62 @@ pub fn ship_once<L: SiteName, R: Wait>(
     ensures link { sends_on out.new.end ≡ sends_on out.old.end }
     ensures ok { OnOk result (ShipsOne config.now to seat.old.calls seat.new.calls
         (view out.old.pass).put (view out.new.pass).put) }
+    ensures err { IfErr result (IsLinkFault from to from) }
 {
-    let ends = Ends { from, to };
+    let ends = Ends {
+        from,
+        to,
+        own: from,
+    };
     match site.call(rt, seat, Event::Ship { to }) {
         Ok(receipt) => match receipt.reply {
             Reply::Shipped(message) => {
                 let letter = letter_of(alloc, config, ends, message)?;
                 put(rt, ends, out, letter)
             }
-            _ => Ok(()),
+            // A node answers no ship so.
+            _ => Err(ends.loss()),
         },
         Err(LiveFault::Refused { place: _, why: _ }) => Ok(()),
         Err(why) => Err(RunFault::Site { node: from, why }),
     }
 }
 
-/// Four calls that ship, with the letters of their replies in order, and then the end letter.
+/// So many calls that ship, with the letters of their replies in order, and then the end letter.
+///
+/// `LinkLost` of these two nodes comes where a letter can't be encoded or sent, or isn't read as its message. `Site` of the node
+/// that ships comes where its journal is full or a call has no memory, and `NoMemory` where a letter has none. No other fault
+/// comes. What was called and put before it stays so.
+pub fn ship_times<L: SiteName, R: Wait>(
+    rt: &R,
+    alloc: Global,
+    config: &Config,
+    from: NodeId,
+    to: NodeId,
+    site: &Site<L>,
+    seat: &mut Seat<L>,
+    out: &mut LinkSender,
+    times: u64,
+) -> Result<(), RunFault>
+    ensures number { seat.new.number ≡ seat.old.number }
+    ensures link { sends_on out.new.end ≡ sends_on out.old.end }
+    ensures ok { OnOk result (Ships config.now to times seat.old.calls seat.new.calls
+        (view out.old.pass).put (view out.new.pass).put (None ∷ [])) }
+    ensures err { IfErr result (IsLinkFault from to from) }
+{
+    for _count in 0..times {
+        ship_once(rt, alloc, config, from, to, site, seat, out)?;
+    }
+    let ends = Ends {
+        from,
+        to,
+        own: from,
+    };
+    put(rt, ends, out, Letter::end())
+}
+
+/// Four calls that ship, with the letters of their replies in order, and then the end letter. The faults are those of
+/// [`ship_times`].
 pub fn ship_link<L: SiteName, R: Wait>(
     rt: &R,
     alloc: Global,
@@ -84,14 +127,12 @@ pub fn ship_link<L: SiteName, R: Wait>(
     ensures link { sends_on out.new.end ≡ sends_on out.old.end }
     ensures ok { OnOk result (Ships config.now to 4 seat.old.calls seat.new.calls
         (view out.old.pass).put (view out.new.pass).put (None ∷ [])) }
+    ensures err { IfErr result (IsLinkFault from to from) }
 {
-    for _count in 0..SHIPS {
-        ship_once(rt, alloc, config, from, to, site, seat, out)?;
-    }
-    put(rt, Ends { from, to }, out, Letter::end())
+    ship_times(rt, alloc, config, from, to, site, seat, out, SHIPS)
 }
 
-/// One call that ships, with the letter of its reply, and then the end letter.
+/// One call that ships, with the letter of its reply, and then the end letter. The faults are those of [`ship_times`].
 pub fn ship_last<L: SiteName, R: Wait>(
     rt: &R,
     alloc: Global,
@@ -106,30 +147,38 @@ pub fn ship_last<L: SiteName, R: Wait>(
     ensures link { sends_on out.new.end ≡ sends_on out.old.end }
     ensures ok { OnOk result (Ships config.now to 1 seat.old.calls seat.new.calls
         (view out.old.pass).put (view out.new.pass).put (None ∷ [])) }
+    ensures err { IfErr result (IsLinkFault from to from) }
 {
-    ship_once(rt, alloc, config, from, to, site, seat, out)?;
-    put(rt, Ends { from, to }, out, Letter::end())
+    ship_times(rt, alloc, config, from, to, site, seat, out, 1)
 }
 
-// One call that hears a message. A refusal of the node is a record too.
+/// One call that hears a message. A refusal of the node is a record too.
 fn hear_once<L: SiteName, R: Wait>(
     rt: &R,
-    to: NodeId,
+    ends: Ends,
     site: &Site<L>,
     seat: &mut Seat<L>,
     message: Message,
 ) -> Result<(), RunFault>
     ensures number { seat.new.number ≡ seat.old.number }
     ensures ok { OnOk result (HearsOne seat.old.calls seat.new.calls message) }
+    ensures err { IfErr result (IsLinkFault ends.from ends.to ends.own) }
 {
     match site.call(rt, seat, Event::Hear(message)) {
         Ok(_) => Ok(()),
         Err(LiveFault::Refused { place: _, why: _ }) => Ok(()),
-        Err(why) => Err(RunFault::Site { node: to, why }),
+        Err(why) => Err(RunFault::Site {
+            node: ends.own,
+            why,
+        }),
     }
 }
 
 /// Hears the message of each letter, in order, until the end letter.
+///
+/// `LinkLost` of these two nodes comes where no letter can be taken, or one isn't read as a message. `Site` of the node that hears
+/// comes where its journal is full or a call has no memory, and `NoMemory` where a message has none. No other fault comes. What
+/// was taken and heard before it stays so.
 pub fn hear_link<L: SiteName, G: Gate, R: Wait>(
     rt: &R,
     alloc: Global,
@@ -145,8 +194,9 @@ pub fn hear_link<L: SiteName, G: Gate, R: Wait>(
     ensures link { receives_on link.new.end ≡ receives_on link.old.end }
     ensures ok { OnOk result (Hears config.now seat.old.calls seat.new.calls
         (view link.old.pass).taken (view link.new.pass).taken (None ∷ [])) }
+    ensures err { IfErr result (IsLinkFault from to to) }
 {
-    let ends = Ends { from, to };
+    let ends = Ends { from, to, own: to };
     for _ in rt.forever() {
         let Ok(letter) = link.take(rt) else {
             return Err(ends.loss());
@@ -156,7 +206,7 @@ pub fn hear_link<L: SiteName, G: Gate, R: Wait>(
                 let message = message_in(alloc, config, ends, &bytes)?;
                 let k = (seat.calls().len() as u64).saturating_add(1);
                 gate.before(from, to, k);
-                hear_once(rt, to, site, seat, message)?;
+                hear_once(rt, ends, site, seat, message)?;
                 gate.after(from, to, k);
             }
             None => return Ok(()),

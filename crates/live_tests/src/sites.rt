@@ -272,6 +272,37 @@ fn a_reader_sees_each_receipt(rt: HostRuntime) -> Result<(), Fail> {
     Ok(())
 }
 
+/// The place of the page that is read behind a boot, whose receipt is learned when its owner has set another place.
+fn page_behind<L: SiteName, R: Wait>(rt: &R, alloc: Global, blank: SiteBlank) -> Option<u64>
+    requires { IsBlankOf blank L.name L.parts L.seats L.beginning }
+{
+    let (site, mut seats, mut readers) = open_site::<L, R>(rt, blank).ok()?;
+    let mut place = 0;
+    if let (Some(seat), Some(reader)) = (seats.first_mut(), readers.first_mut()) {
+        if let Ok(mut receipt) = site.call(rt, seat, Event::Boot { now: 0 }) {
+            receipt.place = 1 << 62;
+            reader.learn(&mut receipt);
+            if let Some(page) = reader.read() {
+                place = page.place;
+            }
+        }
+    }
+    let _closed = site.close(rt, seats).ok()?;
+    Some(place)
+}
+
+/// The same, from the opening on.
+fn read_behind<R: Wait>(rt: &R, alloc: Global) -> Option<u64> {
+    let blank = two_seats(rt, alloc, 1).ok()?;
+    page_behind::<Brand, R>(rt, alloc, blank)
+}
+
+#[test]
+fn an_owner_sets_no_place_for_a_reader(rt: HostRuntime) -> Result<(), Fail> {
+    assert_eq!(rt; read_behind(&rt, rt.alloc()), Some(1));
+    Ok(())
+}
+
 /// Whether a site has places for so many readers.
 fn has_places<R: Wait>(rt: &R, alloc: Global, readers: u16) -> bool {
     match two_seats(rt, alloc, readers) {

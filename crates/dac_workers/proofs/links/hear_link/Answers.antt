@@ -14,7 +14,7 @@ loop-preserved g c =
     let bytes = c.in-Some-into_bytes.bytes.items in
     let message = c.in_ok-message-in-Some-into_bytes.message in
     let e = c.in-Ok.ensures.taken ∙ ap (λ p. (view c.loop.link.pass).taken ++ p ∷ []) (sym c.in-Some-into_bytes.ensures) in
-    let r = ap (packet_at t) (sym c.deref.ensures.value) ∙ c.in_ok-message-in-Some-into_bytes.ensures in
+    let r = ap (packet_at t) (sym c.deref.ensures.value) ∙ c.in_ok-message-in-Some-into_bytes.ensures.ok in
     record {
       number = c.in_ok-hear_once-in-Some-into_bytes.ensures.number ∙ i.number;
       same = c.take.ensures.link ∙ i.same;

@@ -3,11 +3,11 @@ use Rattle.dac_pages.specs.declared.page.Page.{Page}
 use Rattle.dac_pages.specs.Published.{PagesValue}
 use Rattle.dac_sites.specs.Paged.{page_of, page_after}
 use Rattle.dac_sites.specs.laws.Pages.{page_there}
-use Rattle.dac_sites.proofs.desk.Desk.ask.Goals as goal
+use Rattle.dac_sites.proofs.laws.add_record.Goals as goal
 
-pub invariant_of-self-2 : goal.invariant_of-self-2
-invariant_of-self-2 g c =
-    let j = c.self.inside.journal in
+pub invariant_of-desk-2 : goal.invariant_of-desk-2
+invariant_of-desk-2 g c =
+    let j = c.desk.inside.journal in
     let next = c.in_ok-next.next in
     let rs = j.records ++ next.entry ∷ [] in
     let shown : c.publish.new.self.shown ≡ c.page_of.result = ap (λ (o : Option Page). unwrap_or o c.page_of.result) (c.publish.ensures.0 ∙ ap (λ (v : PagesValue). v.ready) c.in_ok-prepare.ensures) in
@@ -17,4 +17,4 @@ invariant_of-self-2 g c =
     shown ∙ page ∙ page_there j.beginning rs next.node c.in_ok-next.ensures.goes.ends ∙ sym after
 
 pub returns-clause-page : goal.returns-clause-page
-returns-clause-page g c = invariant_of-self-2 g c
+returns-clause-page g c = invariant_of-desk-2 g c

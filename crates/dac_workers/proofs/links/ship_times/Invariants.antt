@@ -2,7 +2,7 @@ use Rattle.std.proofs.Common.{◌≡◌, []}
 use Rattle.crossbeam_channel.specs.Claims.{view}
 use Rattle.crossbeam_channel.specs.Ends.{sends_on}
 use Rattle.dac_workers.specs.Links.{Ships}
-use Rattle.dac_workers.proofs.links.ship_link.Given as goal
+use Rattle.dac_workers.proofs.links.ship_times.Given as goal
 
 abbrev pub invariant-loop-count : goal.invariant-loop-count
 invariant-loop-count g l = record {

@@ -1,6 +1,6 @@
 use Rattle.std.proofs.Common.{refl, ◌∙◌}
 use Rattle.dac_workers.proofs.Shipping.{ships_none, ships_more}
-use Rattle.dac_workers.proofs.links.ship_link.Goals as goal
+use Rattle.dac_workers.proofs.links.ship_times.Goals as goal
 
 pub loop-count-init : goal.loop-count-init
 loop-count-init g c = record { number = refl; link = refl; ships = ships_none _ _ _ _ }
