@@ -252,7 +252,10 @@ fn ask(journal: &mut Journal, event: Event) -> Said {
     if journal.is_full() {
         return Said::Other;
     }
-    match journal.ask(1, event) {
+    let Ok(next) = journal.prepare(1, event) else {
+        return Said::NoMemory;
+    };
+    match journal.commit(next) {
         Ok((_, answer)) => said(&answer),
         Err(_) => Said::NoMemory,
     }

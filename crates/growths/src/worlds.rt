@@ -163,7 +163,8 @@ fn ask(journal: &mut Journal, event: Event) -> Option<Reply> {
     if journal.is_full() {
         return None;
     }
-    let (_, answer) = journal.ask(1, event).ok()?;
+    let next = journal.prepare(1, event).ok()?;
+    let (_, answer) = journal.commit(next).ok()?;
     answer.ok()
 }
 

@@ -25,7 +25,8 @@ pub(crate) fn ask(journal: &mut Journal, event: Event) -> Option<Answer> {
     if journal.is_full() {
         return None;
     }
-    let (_, answer) = journal.ask(1, event).ok()?;
+    let next = journal.prepare(1, event).ok()?;
+    let (_, answer) = journal.commit(next).ok()?;
     Some(answer)
 }
 
