@@ -4,10 +4,13 @@ import argparse
 import sys
 from typing import Callable, Iterator, List, NamedTuple, Sequence
 
-from tools import crate_checks, document_checks, edit_checks, script_checks
+from tools import crate_checks, document_checks, edit_checks, script_checks, tests
 from tools.contracts import Sources
 from tools.crates import HERE, read_crates
+from tools.definition_page import Page
 from tools.modules import Modules
+from tools.promises import Promises
+from tools.resting import Resting
 
 WHAT = """Checks that documents, crates.txt, edits and scripts agree with each other and with the sources.
 
@@ -27,11 +30,14 @@ class Check(NamedTuple):
 def document_list() -> List[Check]:
     """The checks of documents."""
     documents = document_checks.Documents(HERE)
+    modules, sources = Modules(), Sources()
+    resting = Resting(modules)
     return [
         Check("names in backticks stand in some file", lambda: document_checks.name_faults(documents)),
         Check("paths lead somewhere", lambda: document_checks.path_faults(documents)),
-        Check("promised clauses are there", lambda: document_checks.clause_faults(documents, Sources())),
-        Check("rows of definitions name what is there", lambda: document_checks.definition_faults(Modules())),
+        Check("promised clauses are there, with what they rest on", Promises(modules, sources, resting).faults),
+        Check("tables of definitions are as ./believe --write makes them", Page(modules, sources, resting).faults),
+        Check("pages CALLING.md name each public call", lambda: document_checks.calling_faults(HERE, sources)),
         Check("the index of decisions has their titles", lambda: document_checks.decision_faults(documents)),
     ]
 
@@ -58,6 +64,7 @@ def script_list(types: bool) -> List[Check]:
     ]
     if script_checks.is_here("shellcheck"):
         made.append(Check("shellcheck warns of nothing", lambda: script_checks.shellcheck_faults(HERE, files)))
+    made.append(Check("the tests of the folder tools pass", tests.faults_of_tests))
     if types and script_checks.is_here("mypy"):
         made.append(Check("mypy finds the types right", lambda: script_checks.type_faults(HERE)))
     return made

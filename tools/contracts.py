@@ -35,6 +35,8 @@ class Function(NamedTuple):
     name: str
     file: pathlib.Path
     line: int
+    # the comment above it
+    above: Tuple[str, ...]
     text: Tuple[str, ...]
     clauses: Tuple[Clause, ...]
     # what the file's definitions are imported from
@@ -77,11 +79,19 @@ def head_of(lines: List[str], place: int) -> List[str]:
     for number in range(place, len(lines)):
         line = without_comments(lines[number]).rstrip()
         clauses = clauses or CLAUSE.match(line) is not None
-        if line.strip() == "{" and depth_of(line) == depth:
+        if line.strip() in ("{", "{}") and depth_of(line) == depth:
             return lines[place:number]
         if not clauses and line.endswith((" {", ";", "}")) or clauses and line.endswith("};"):
             return lines[place : number + 1]
     return lines[place:]
+
+
+def comment_above(lines: List[str], place: int) -> List[str]:
+    """The comment above a line, without attributes."""
+    first = place
+    while first > 0 and lines[first - 1].strip().startswith(("///", "#[")):
+        first -= 1
+    return [line for line in lines[first:place] if line.strip().startswith("///")]
 
 
 def name_of_block(rest: str) -> str:
@@ -162,6 +172,7 @@ class SourceFile:
             match["name"],
             self.file,
             place + 1,
+            tuple(comment_above(self.lines, place)),
             tuple(head),
             tuple(clauses_of(head)) + block.ghosts,
             self.imports,

@@ -5,9 +5,8 @@ import re
 from typing import Dict, FrozenSet, Iterator, List, Tuple
 
 from tools.crates import Crates
-from tools.definition_rows import cells_of
+from tools.tables import SPAN, cells_of
 
-SPAN = re.compile(r"`([^`]+)`")
 CODE_PATH = re.compile(r"(?<![\w:.])(\w+)::")
 DEFINITION_PATH = re.compile(r"\bRattle\.(\w+)\b")
 
@@ -90,20 +89,8 @@ def table_faults(root: pathlib.Path, crates: Crates) -> Iterator[str]:
             yield f"docs/ARCHITECTURE.md: of {layer} the table has {', '.join(rows)}, crates.txt {', '.join(listed)}"
         for crate, stands_on in table.get(layer, []):
             for one in stands_on:
-                if one not in below(crates, crate):
+                if one not in crates.below(crate):
                     yield f"docs/ARCHITECTURE.md: {crate} doesn't stand on {one}"
-
-
-def below(crates: Crates, crate: str) -> FrozenSet[str]:
-    """All crates that a crate uses, also those that it uses by others."""
-    found = set()
-    left = list(crates.listed.get(crate, ()))
-    while left:
-        one = left.pop()
-        if one in crates.listed and one not in found:
-            found.add(one)
-            left.extend(crates.listed[one])
-    return frozenset(found)
 
 
 def drawing_faults(root: pathlib.Path, crates: Crates) -> Iterator[str]:

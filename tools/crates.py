@@ -1,7 +1,7 @@
 """Reads crates.txt: the layers, and what each crate lists."""
 
 import pathlib
-from typing import Dict, Iterator, List, NamedTuple, Tuple
+from typing import Dict, FrozenSet, Iterator, List, NamedTuple, Tuple
 
 HERE = pathlib.Path(__file__).resolve().parent.parent
 
@@ -21,6 +21,17 @@ class Crates(NamedTuple):
     def layer_of(self, crate: str) -> str:
         """The layer that a crate stands in."""
         return next(layer for layer, crates in self.layers.items() if crate in crates)
+
+    def below(self, crate: str) -> FrozenSet[str]:
+        """All crates that a crate uses, also those that it uses by others."""
+        found = set()
+        left = list(self.listed.get(crate, ()))
+        while left:
+            one = left.pop()
+            if one in self.listed and one not in found:
+                found.add(one)
+                left.extend(self.listed[one])
+        return frozenset(found)
 
 
 def layer_named(line: str) -> str:

@@ -1,15 +1,13 @@
-"""Checks that what documents cite is there: names, paths, clauses, definitions, and the titles of decisions."""
+"""Checks that what documents cite is there: names, paths, and the titles of decisions."""
 
 import pathlib
 import re
 import subprocess
-from typing import Dict, FrozenSet, Iterator, List, NamedTuple, Sequence, Set, Tuple
+from typing import Dict, FrozenSet, Iterator, List, NamedTuple, Set
 
-from tools.contracts import Function, Sources, is_within
-from tools.definition_rows import Rows, cells_of
-from tools.modules import Modules
+from tools.contracts import Sources
+from tools.tables import SPAN
 
-SPAN = re.compile(r"`([^`]+)`")
 NAME = re.compile(r"(?<![\\\w])[A-Za-z_][A-Za-z0-9_]{3,}")
 PATH = re.compile(r"(?<![\w/:.-])(?:\.\/)?((?:[\w.-]+/)+[\w.-]*|[\w-]+\.(?:md|py|rt|antt|txt))(?![\w/])")
 # names that documents speak of and that no file of the repository has, each with what it is
@@ -115,56 +113,19 @@ def path_faults(documents: Documents) -> Iterator[str]:
                 yield f"{line.place(documents.root)}: there is no {path}"
 
 
-def promised(part: str) -> Iterator[Tuple[str, Sequence[str]]]:
-    """The functions that a part of a cell names, each with its clauses."""
-    clauses: List[str] = []
-    for match in reversed(list(re.finditer(r"\(clauses? [^)]*\)|`[^`]+`", part))):
-        name = match[0].strip("`")
-        if match[0].startswith("("):
-            clauses = SPAN.findall(match[0])
-        elif re.fullmatch(r"[\w:]+", name) and name not in ("requires", "ensures") and not name.endswith("::laws"):
-            yield name, clauses
-
-
-def clause_faults(documents: Documents, sources: Sources) -> Iterator[str]:
-    """Functions and clauses of docs/PROMISES.md that aren't there."""
-    above: Tuple[str, ...] = ()
-    for line in documents.lines:
-        if line.file.name != "PROMISES.md" or not line.text.startswith("|"):
-            continue
-        cells = cells_of(line.text)
-        if len(cells) != 3:
-            continue
-        cited: List[Tuple[str, Sequence[str]]] = []
-        for part in cells[2].split(";"):
-            if part.strip().startswith("the same"):
-                cited += [(name, SPAN.findall(part)) for name in above]
-            else:
-                cited += promised(part)
-        above = tuple(dict.fromkeys(name for name, _ in cited))
-        for name, clauses in cited:
-            for fault in faults_of_function(sources, name, clauses):
-                yield f"{line.place(documents.root)}: {fault}"
-
-
-def faults_of_function(sources: Sources, name: str, clauses: Sequence[str]) -> Iterator[str]:
-    """What is wrong with the clauses that a function is said to have."""
-    asked = tuple(name.split("::"))
-    if asked[-1][0].isupper() or asked[-1].startswith("dac_"):
-        return
-    found: List[Function] = [one for one in sources.functions if is_within(asked, one.whole())]
-    if not found:
-        yield f"there is no function {name}"
-        return
-    there = {clause.name for one in found for clause in one.clauses}
-    for clause in clauses:
-        if re.fullmatch(r"\w+", clause) and clause not in there:
-            yield f"{name} has no clause {clause}"
-
-
-def definition_faults(modules: Modules) -> Iterator[str]:
-    """Rows of docs/DEFINITIONS.md that name what isn't there."""
-    return Rows(modules).faults()
+def calling_faults(root: pathlib.Path, sources: Sources) -> Iterator[str]:
+    """Public calls of a crate that its page CALLING.md doesn't name, and calls that it names and that aren't there."""
+    for page in sorted(root.glob("crates/*/CALLING.md")):
+        named = set(SPAN.findall(page.read_text(encoding="utf-8")))
+        own = [one for one in sources.functions if one.crate == page.parent.name and one.public and one.name not in ("drop", "from")]
+        for one in own:
+            name = "::".join(part for part in (one.of, one.name) if part)
+            if not named & {name, "::".join((*one.modules, name))}:
+                yield f"{page.relative_to(root)}: lacks {name}"
+        every = {"::".join(part for part in (one.of, one.name) if part) for one in sources.functions}
+        for name in sorted(named):
+            if re.fullmatch(r"[A-Z]\w+::[a-z]\w*", name) and name not in every:
+                yield f"{page.relative_to(root)}: there is no call {name}"
 
 
 def title_of(text: str) -> str:

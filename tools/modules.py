@@ -1,5 +1,6 @@
 """Reads the modules of definitions: what each one declares and imports, and where a path of an import leads."""
 
+import itertools
 import pathlib
 import re
 from typing import Dict, Iterator, List, NamedTuple, Optional, Tuple, Union
@@ -39,7 +40,7 @@ class Definition(NamedTuple):
     line: int
     name: str
     comment: Tuple[str, ...]
-    # the lines `module _ (..) where` that it stands under
+    # the lines `module _ (..) where` that it stands under, as they are indented
     under: Tuple[str, ...]
     text: Tuple[str, ...]
 
@@ -108,6 +109,8 @@ class Module:
         self.imports: List[Import] = []
         self.definitions: Dict[str, Definition] = {}
         self.constructors: Dict[str, Definition] = {}
+        # the comment at the file's top, which says what the module has
+        self.header: Tuple[str, ...] = ()
         # what is read now: the comment above, the blocks around with their depths, and the declaration's first line
         self._comment: List[str] = []
         self._blocks: List[Tuple[int, str]] = []
@@ -115,7 +118,9 @@ class Module:
         self._name = ""
         self._line = 0
         self._above: Tuple[str, ...] = ()
-        for number, line in enumerate(file.read_text(encoding="utf-8").split("\n"), 1):
+        lines = file.read_text(encoding="utf-8").split("\n")
+        self.header = tuple(line[2:].strip() for line in itertools.takewhile(lambda line: line.startswith("--"), lines))
+        for number, line in enumerate(lines[len(self.header) :], len(self.header) + 1):
             self._read(number, line)
         self._end()
 
@@ -130,6 +135,8 @@ class Module:
             self._blocks.pop()
         if self._name and depth_of(line) > self._depth():
             self._text.append(line)
+        elif bare.startswith("-- ----"):
+            self._comment = []
         elif bare.startswith("--"):
             self._comment.append(bare[2:].strip())
         else:
@@ -146,7 +153,7 @@ class Module:
             elif mod:
                 self.submodules.append(mod["name"])
             else:
-                self._blocks.append((depth_of(line), bare))
+                self._blocks.append((depth_of(line), line))
         elif name:
             comment = self._comment
             self._comment = []
@@ -188,6 +195,27 @@ class Modules:
         self.root = root
         self.crates = read_crates(root)
         self._read: Dict[pathlib.Path, Module] = {}
+        # by crate the places of its modules
+        self._order: Dict[str, Dict[str, int]] = {}
+
+    def rank(self, one: Definition) -> Tuple[int, int, int]:
+        """Its place in reading order: by crates, lowest first, by modules, each behind those that it imports, and by lines."""
+        if one.crate not in self._order:
+            paths: Dict[str, None] = {}
+            for module in self.all_of(one.crate):
+                self._put(module, paths, [])
+            self._order[one.crate] = {path: place for place, path in enumerate(paths)}
+        return self.crates.order().index(one.crate), self._order[one.crate][one.module], one.line
+
+    def _put(self, module: Module, paths: Dict[str, None], above: List[str]) -> None:
+        """Puts a module behind those of its crate that it imports."""
+        if module.path in paths or module.path in above:
+            return
+        for one in module.imports:
+            below = self.look(one.path) if one.path[0] == module.crate else None
+            if isinstance(below, Module):
+                self._put(below, paths, above + [module.path])
+        paths[module.path] = None
 
     def of_file(self, crate: str, path: str, file: pathlib.Path) -> Optional[Module]:
         """The module of a file, if it is there."""

@@ -91,6 +91,16 @@ class Scope:
             if "◌" in name and all(sign in tokens for sign in signs):
                 yield signs[0], name
 
+    def library_words(self, text: str, bound: Set[str]) -> Iterator[Tuple[str, str]]:
+        """The words of the toolchain's libraries that a text uses, each with its module."""
+        tokens = tokens_of(text)
+        signs = dict(self.operators(tokens))
+        for word, behind in heads_of(tokens):
+            name = signs.get(word, word)
+            path, there = self.names.get(name, (self.aliases.get(word, ()), behind or ""))
+            if word not in bound and path and there and path[0] not in self.modules.crates.listed:
+                yield ".".join(one for one in path if one != "specs"), there
+
     def cited_in(self, text: str, bound: Set[str]) -> Iterator[Word]:
         """What a text cites, in the order of the text."""
         tokens = tokens_of(text)
@@ -123,6 +133,13 @@ class Resting:
             self._cited[one] = tuple(word for word in found if word != one)
         return self._cited[one]
 
+    def library_of(self, one: Definition) -> Iterator[Tuple[str, str]]:
+        """The words of the toolchain's libraries that a definition uses, each with its module."""
+        module = self.modules.of_file(one.crate, one.module, one.file)
+        assert module is not None
+        text = "\n".join(one.under + one.text)
+        yield from Scope(self.modules, module.imports, module).library_words(text, bound_in(text) | patterns_in(one.name, text))
+
     def cited_by_function(self, function: Function, clause: str = "") -> List[Word]:
         """What the clauses of a function cite, or the one of this name."""
         found: Dict[Word, None] = {}
@@ -131,6 +148,33 @@ class Resting:
             if clause in ("", one.name):
                 found.update(dict.fromkeys(scope.cited_in(one.text, bound_in(one.text))))
         return list(found)
+
+    def above(self, one: Definition) -> Set[Word]:
+        """All definitions that rest on this one, and it itself."""
+        citing: Dict[Word, List[Definition]] = {}
+        for crate in self.modules.crates.order():
+            for other in self.modules.definitions_of(crate):
+                for word in self.cited_by(other):
+                    citing.setdefault(word, []).append(other)
+        found: Set[Word] = {one}
+        left: List[Word] = [one]
+        while left:
+            for other in citing.get(left.pop(), []):
+                if other not in found:
+                    found.add(other)
+                    left.append(other)
+        return found
+
+    def promising(self, one: Definition, functions: Sequence[Function]) -> Iterator[str]:
+        """Which of these functions have clauses that rest on a definition, each with the names of these clauses."""
+        above = self.above(one)
+        for each in functions:
+            names = dict.fromkeys(
+                clause.name for clause in each.clauses if above.intersection(self.cited_by_function(each, clause.name))
+            )
+            if names:
+                listed = ", ".join(name for name in names if name)
+                yield "::".join(each.shown()) + (f" ({listed})" if listed else "")
 
     def under(self, words: Sequence[Word]) -> Rest:
         """All that these words rest on, and they themselves. What is cited stands before what cites it."""
@@ -148,7 +192,7 @@ class Resting:
             stack.append((word, True))
             if isinstance(word, Definition) and not word.is_law():
                 stack.extend((below, False) for below in reversed(self.cited_by(word)) if below not in begun)
-        defined = [word for word in done if isinstance(word, Definition)]
+        defined = sorted((word for word in done if isinstance(word, Definition)), key=self.modules.rank)
         return Rest(
             tuple(one for one in defined if not one.is_law()),
             tuple(one for one in defined if one.is_law()),

@@ -1,6 +1,7 @@
 """Checks that scripts of the shell and of Python are well formed, by the tools that are there."""
 
 import ast
+import os
 import pathlib
 import shutil
 import subprocess
@@ -33,9 +34,11 @@ def python_scripts(files: Sequence[pathlib.Path]) -> List[pathlib.Path]:
     return [one for one in files if one.suffix == ".py" or not one.suffix and "python" in first_line(one)]
 
 
-def output_of(words: Sequence[str], root: pathlib.Path) -> Tuple[int, str]:
-    """How a command ends, and what it prints."""
-    done = subprocess.run(words, cwd=str(root), stdout=subprocess.PIPE, stderr=subprocess.STDOUT, check=False)
+def output_of(words: Sequence[str], root: pathlib.Path, **variables: str) -> Tuple[int, str]:
+    """How a command ends in a folder, where these variables are set besides, and what it prints."""
+    environment = {**os.environ, **variables}
+    pipe = subprocess.PIPE
+    done = subprocess.run(words, cwd=str(root), env=environment, stdout=pipe, stderr=subprocess.STDOUT, check=False)
     return done.returncode, done.stdout.decode("utf-8", errors="replace")
 
 
@@ -71,12 +74,25 @@ def python_faults(root: pathlib.Path, files: Sequence[pathlib.Path]) -> Iterator
 
 
 def type_faults(root: pathlib.Path) -> Iterator[str]:
-    """What mypy says of the packages that pyproject.toml names, and then of the models, which are run from their folder."""
-    models = sorted(str(one.name) for one in (root / "models").glob("*.py"))
-    for words, folder in ((["mypy"], root), (["mypy", "--config-file", "../pyproject.toml"] + models, root / "models")):
-        status, said = output_of(words, folder)
-        if status != 0:
-            yield from (line for line in said.strip().split("\n") if not line.startswith("Found "))
+    """What mypy says of the files that pyproject.toml names, and then of the models and of the tests of distac-view, which are run
+    from their folders."""
+    models, tests = root / "models", root / "view" / "tests"
+    here = ["mypy", "--config-file", str(root / "pyproject.toml")]
+    yield from faults_of_types(*output_of(here, root))
+    yield from faults_of_types(*output_of(here + names_in(models), models))
+    path = os.pathsep.join((str(root), str(models)))
+    yield from faults_of_types(*output_of(here + ["--explicit-package-bases"] + names_in(tests), tests, MYPYPATH=path))
+
+
+def names_in(folder: pathlib.Path) -> List[str]:
+    """The files of Python in a folder."""
+    return sorted(one.name for one in folder.glob("*.py"))
+
+
+def faults_of_types(status: int, said: str) -> Iterator[str]:
+    """The faults in what mypy said."""
+    if status != 0:
+        yield from (line for line in said.strip().split("\n") if not line.startswith("Found "))
 
 
 def is_here(tool: str) -> bool:

@@ -1,0 +1,166 @@
+"""The tests of the tools: readers over small texts, and what they say of this repository."""
+
+import io
+import pathlib
+import tempfile
+import unittest
+from typing import Dict, Iterator, List
+
+from tools.code_types import declarations_in
+from tools.contracts import Sources, clauses_of, head_of
+from tools.crates import HERE
+from tools.definition_page import by_hand, equations_of, list_of, rows_of
+from tools.definition_sources import DefinitionSources, tags_of
+from tools.modules import Definition, Module, Modules
+from tools.promises import Cited, Promises, promises_of
+from tools.resting import Resting
+from tools.tables import cells_of, line_of
+from tools.views import Views
+
+MODULE = """-- What the module has.
+use Rattle.std.specs.Prelude.{ℕ}
+
+-- ---- a part
+
+-- a thing
+abbrev pub IsThing : ℕ → Type 0
+IsThing n = Unit {0}
+
+-- the same, as a test
+abbrev pub is_thing : ℕ → ℕ
+is_thing n = n
+
+abbrev pub silent : ℕ → ℕ
+silent n = is_thing n
+"""
+FUNCTION = """    /// Does it.
+    pub fn does(&self) -> u64
+        requires { A }
+        ensures first { B self.now }
+        // Why.
+        ensures second { C
+            result }
+    {
+        1
+    }""".split("\n")
+LAWS = ["pub fn law()", "    ensures only { A }", "{}", "", "pub fn other()", "    ensures more { B }", "{}"]
+PROMISES = """## Crate by crate
+
+| Crate | Promise | Where it stands | Rests on |
+|---|---|---|---|
+| `dac_a` | one | `first`; `Two::second` (clauses `a`, `b`) | 3 |
+| | two | the same (clause `c`) | 4 |
+
+## Memory
+
+| Crate | Calls | What stays | Cases |
+|---|---|---|---|
+| `dac_b` | one | lent | two |
+"""
+
+
+class Reading(unittest.TestCase):
+    """Readers of small texts."""
+
+    def module(self) -> Module:
+        """The module of the text above."""
+        room = tempfile.TemporaryDirectory()
+        self.addCleanup(room.cleanup)
+        file = pathlib.Path(room.name) / "Things.antt"
+        file.write_text(MODULE, encoding="utf-8")
+        return Module("dac_a", "specs.Things", file)
+
+    def test_definitions(self) -> None:
+        module = self.module()
+        self.assertEqual(module.header, ("What the module has.",))
+        comments: Dict[str, str] = {name: " ".join(one.comment) for name, one in module.definitions.items()}
+        self.assertEqual(comments, {"IsThing": "a thing", "is_thing": "the same, as a test", "silent": ""})
+
+    def test_rows(self) -> None:
+        module = self.module()
+        chosen = set(module.definitions.values())
+        rows = list(rows_of(module, chosen, DefinitionSources(HERE)))
+        marked = {module.definitions["IsThing"]}
+        lines = ["`Things`:", "", "- **`IsThing`**, `is_thing`: a thing", "- `silent`: `silent n = is_thing n`"]
+        self.assertEqual(list(list_of(rows, marked)), lines)
+        self.assertEqual(equations_of(module.definitions["IsThing"]), "")
+
+    def test_by_hand(self) -> None:
+        first = "# Top\n\n## Names\n\nx\n\n## Texts\n\nsaid\n\n"
+        parts = by_hand(first + "### `dac_a`\n\nkept\n\n`Things`:\n\n- `a`: b\n\n### `dac_b`\n\n`C`:\n\n- d", ["Texts"])
+        del parts[""]
+        said = {heading: part.strip() for heading, part in parts.items()}
+        self.assertEqual(said, {"## Texts": "said", "### `dac_a`": "kept", "### `dac_b`": ""})
+
+    def test_tags(self) -> None:
+        found = [(one.crate, one.name, one.source) for one in tags_of("# a\n\nthe manual\n    dac_a: x y\nown\n    dac_b: z\n")]
+        self.assertEqual(found, [("dac_a", "x", "the manual"), ("dac_a", "y", "the manual"), ("dac_b", "z", "own")])
+
+    def test_contracts(self) -> None:
+        head = head_of(FUNCTION, 1)
+        self.assertEqual(head[-1].strip(), "result }")
+        clauses = [(one.kind, one.name) for one in clauses_of(head)]
+        self.assertEqual(clauses, [("requires", ""), ("ensures", "first"), ("ensures", "second")])
+        self.assertEqual(head_of(LAWS, 0), LAWS[:2])
+
+    def test_promises(self) -> None:
+        rows = list(promises_of(PROMISES))
+        self.assertEqual([row.crate for row in rows], ["dac_a", "dac_a"])
+        self.assertEqual(set(rows[0].cited), {Cited("first", ()), Cited("Two::second", ("a", "b"))})
+        self.assertEqual({one.clauses for one in rows[1].cited}, {("c",)})
+
+    def test_tables(self) -> None:
+        self.assertEqual(cells_of(r"| a | b \| c | |"), ["a", r"b \| c", ""])
+        self.assertEqual(line_of(["a", "", "b"]), "| a | | b |")
+
+    def test_types(self) -> None:
+        file = HERE / "crates" / "dac_base" / "src" / "lib.rt"
+        found = {one.name: one.text[-1] for one in declarations_in("dac_base", file)}
+        self.assertEqual(found["NodeId"], "pub struct NodeId(pub u8);")
+
+
+class Here(unittest.TestCase):
+    """What is so of this repository, whatever changes in it."""
+
+    modules = Modules()
+    sources = Sources()
+    resting = Resting(modules)
+
+    def under(self, name: str) -> List[Definition]:
+        """What a function rests on."""
+        (found,) = self.sources.named(name)
+        return list(self.resting.under(self.resting.cited_by_function(found)).definitions)
+
+    def test_each_word_stands_before_its_use(self) -> None:
+        found = self.under("World::run")
+        places = {one: place for place, one in enumerate(found)}
+        for one in found:
+            for word in self.resting.cited_by(one):
+                if isinstance(word, Definition) and not word.is_law():
+                    self.assertLess(places[word], places[one], (word.name, one.name))
+
+    def test_the_headline(self) -> None:
+        names = {one.name for one in self.under("World::run")}
+        self.assertLessEqual({"EachIsMeaning", "Agrees", "meaning_of", "Converges", "Settles", "verdict_of"}, names)
+
+    def test_views(self) -> None:
+        views = Views(self.resting)
+        (run,), (program,) = self.sources.named("World::run"), self.sources.named("dac_program::run")
+        names = {one.name for one in views.of_function(run)}
+        self.assertLessEqual({"World", "Node", "State", "Context", "Claims"}, names)
+        self.assertEqual(views.of_function(program), [])
+
+    def test_a_wrong_number_is_told(self) -> None:
+        promises = Promises(self.modules, self.sources, self.resting)
+        row = next(row for row in promises.rows if any(one.name == "World::run" for one in row.cited))
+        lines = promises.text.split("\n")
+        lines[row.line - 1] = line_of(row.cells + ("1",))
+        promises.text = "\n".join(lines)
+        self.assertEqual([fault.split(": ")[0] for fault in promises.faults()], [f"docs/PROMISES.md:{row.line}"])
+
+
+def faults_of_tests() -> Iterator[str]:
+    """The tests that fail, with the last line that each of them says."""
+    result = unittest.TextTestRunner(stream=io.StringIO()).run(unittest.defaultTestLoader.loadTestsFromName(__name__))
+    for test, said in result.failures + result.errors:
+        yield f"{test.id()}: {said.strip().splitlines()[-1]}"
