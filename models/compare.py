@@ -6,6 +6,7 @@ Usage: python3 compare.py PROGRAM [--seed S] [--count N] [--scripts M] [--live L
 PROGRAM may be a command of several words in one argument, as of a loader with its arguments. The word `check`, `sim` or `live`
 is added to it. A live run that hasn't ended after some minutes is a difference too. Packets are fed to `sim`, 500 by a script.
 What racing live scripts print hangs on the order of the threads. It is checked by what has to hold of each run: see racing.py.
+The inputs that ./fuzz found are played too, all of them: see found.py.
 The last line counts, and says whether PROGRAM is the proved program. Of a program elsewhere, as a copy, it says that it isn't.
 """
 
@@ -18,9 +19,11 @@ import sys
 from collections.abc import Iterator
 from concurrent.futures import ProcessPoolExecutor
 from dataclasses import dataclass
+from functools import partial
 from typing import Callable, Optional, Tuple
 
 import check
+import found
 import live
 import programs
 import racing
@@ -86,6 +89,10 @@ KINDS = {
     "live": Kind("live", random_live.random_live, by_model(live.run_live)),
     "racing": Kind("live", random_racing.random_racing, by_what_holds),
     "packets": Kind("sim", random_scripts.random_packets, by_model(sim.simulate)),
+    **{
+        f"found {command}": Kind(word, partial(found.source, command), by_model(found.MODELS[command]))
+        for command, word in found.WORDS.items()
+    },
 }
 
 
@@ -102,14 +109,14 @@ def run_program(program: list[str], word: str, source: bytes) -> Answer:
 def compare_batch(program: list[str], word: str, seed: int, numbers: range) -> list[Difference]:
     """The differences among the inputs of some numbers."""
     kind = KINDS[word]
-    found = []
+    differences = []
     for number in numbers:
         source = kind.make(seed, number)
         said = run_program(program, kind.word, source)
         judged = kind.judge(source, said)
         if judged is not None:
-            found.append(Difference(word, number, source, said, judged))
-    return found
+            differences.append(Difference(word, number, source, said, judged))
+    return differences
 
 
 def batches(word: str, count: int) -> Iterator[tuple[str, range]]:
@@ -154,14 +161,15 @@ def main() -> int:
     words = arguments()
     feeds = -(-words.packets // random_scripts.PACKETS)
     counts = {"check": words.count, "sim": words.scripts, "live": words.live, "racing": words.racing, "packets": feeds}
-    found = compare_all(words.program, words.seed, counts, words.jobs)
-    if found:
-        show(found[0])
+    kept = {f"found {command}": len(found.kept(command)) for command in found.WORDS}
+    differences = compare_all(words.program, words.seed, {**counts, **kept}, words.jobs)
+    if differences:
+        show(differences[0])
     state = "proved" if programs.is_proved(words.program) else "not proved"
     lives = f"{words.live} live scripts, {words.racing} racing live scripts"
     made = f"{words.count} texts, {words.scripts} scripts, {lives}, {feeds * random_scripts.PACKETS} packets"
-    print(f"{made}, {len(found)} differences; the program is {state}")
-    return 1 if found else 0
+    print(f"{made}, {sum(kept.values())} found inputs, {len(differences)} differences; the program is {state}")
+    return 1 if differences else 0
 
 
 if __name__ == "__main__":

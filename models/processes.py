@@ -12,6 +12,7 @@ import signal
 import subprocess
 import sys
 import threading
+import time
 from collections.abc import Callable, Collection, Iterator, Mapping, Sequence
 from concurrent.futures import ThreadPoolExecutor
 from dataclasses import dataclass
@@ -22,6 +23,9 @@ from typing import NoReturn, Union
 Word = Union[str, Path]
 # What runs now. Each begins a session, in which all stand that it starts.
 RUNNING: set[subprocess.Popen[bytes]] = set()
+# The sessions that are asked to end before they are killed, and how many seconds they have for it.
+ASKED: set[int] = set()
+MOST_SECONDS = 10
 LOCK = threading.Lock()
 ENDED = threading.Event()
 NO_END = -1
@@ -47,10 +51,12 @@ def run(
     source: bytes = b"",
     variables: Mapping[str, str] | None = None,
     is_joined: bool = False,
+    is_asked: bool = False,
     seconds: float | None = None,
 ) -> Exit:
-    """Runs a command to its end. Its errors are part of its output where they are joined."""
-    started = start(words, folder, variables, is_joined)
+    """Runs a command to its end. Its errors are part of its output where they are joined. A command that leaves something behind
+    when it is killed, as memory that it shares, is asked to end first."""
+    started = start(words, folder, variables, is_joined, is_asked)
     try:
         output, errors = started.communicate(source, timeout=seconds)
         status = started.returncode
@@ -61,13 +67,14 @@ def run(
     finally:
         with LOCK:
             RUNNING.discard(started)
+            ASKED.discard(started.pid)
     if ENDED.is_set():
         raise Ended
     return Exit(status, output, errors or b"")
 
 
 def start(
-    words: Sequence[Word], folder: Path | None, variables: Mapping[str, str] | None, is_joined: bool
+    words: Sequence[Word], folder: Path | None, variables: Mapping[str, str] | None, is_joined: bool, is_asked: bool
 ) -> subprocess.Popen[bytes]:
     """Starts a command, unless this run is ended."""
     errors = subprocess.STDOUT if is_joined else subprocess.PIPE
@@ -84,6 +91,8 @@ def start(
             start_new_session=True,
         )
         RUNNING.add(started)
+        if is_asked:
+            ASKED.add(started.pid)
     return started
 
 
@@ -103,11 +112,23 @@ def kill(sessions: Collection[int]) -> None:
                 os.kill(process, signal.SIGKILL)
 
 
+def ask(sessions: Collection[int]) -> None:
+    """Asks these sessions to end, and waits for a while."""
+    for session in sessions:
+        with contextlib.suppress(ProcessLookupError):
+            os.killpg(session, signal.SIGTERM)
+    until = time.monotonic() + MOST_SECONDS
+    while any(living(sessions)) and time.monotonic() < until:
+        time.sleep(0.05)
+
+
 def end(number: int, _frame: FrameType | None) -> NoReturn:
     """Ends all that runs, and then this run."""
     with LOCK:
         ENDED.set()
         sessions = {started.pid for started in RUNNING}
+        asked = sessions & ASKED
+    ask(asked)
     kill(sessions)
     sys.exit(128 + number)
 

@@ -10,7 +10,8 @@
 - All running nodes have the same page, and if no node went down then they have heard of everything that was issued.
 - `close ok` and `weave ok` stand last.
 
-A script has to end with two phases in which nobody asks for anything.
+In a script that doesn't end with two phases in which nobody asks for anything, not all may have been heard in the end. Of such a
+script each page is looked at alone, and no two are compared.
 """
 
 from __future__ import annotations
@@ -237,9 +238,14 @@ class Checked:
         found = self.take(shared_pattern(self.config), f"the page of {name!r}")
         return Page(int(head), found[0], int(found[1]), int(found[2]))
 
-    def pages(self) -> None:
-        """Checks the pages of all nodes."""
+    def pages(self, has_rest: bool) -> None:
+        """Checks the pages of all nodes, and compares them if all was heard."""
         pages = [self.page(node) for node in range(len(self.config.nodes))]
+        if has_rest:
+            self.compare(pages)
+
+    def compare(self, pages: list[Page]) -> None:
+        """Checks the pages beside each other."""
         running = [page for page in pages if page.inc is not None]
         demand(len({page.shared for page in running}) <= 1, "running nodes have different pages")
         for page in running[:1]:
@@ -269,9 +275,10 @@ def fault_of_run(source: bytes, output: bytes, status: int) -> str | None:
     checked = Checked(config, output, [{OFF} for _ in config.nodes])
     try:
         demand(status == 0, f"the status is {status}")
-        for number, phase in enumerate(phases_of(lines), 1):
+        phases = phases_of(lines)
+        for number, phase in enumerate(phases, 1):
             checked.phase(number, phase, Run(config))
-        checked.pages()
+        checked.pages(len(phases) > 1 and not any(phase.asked for phase in phases[-2:]))
         checked.take(rb"close ok\nweave ok\n\Z", "close ok and weave ok, and nothing behind them,")
     except Broken as broken:
         return str(broken)

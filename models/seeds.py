@@ -1,0 +1,202 @@
+"""What a fuzzer begins with: inputs of each command, and the words that its formats have.
+
+The inputs are the examples, the rows of crates/program_tests, the worked examples, and random ones. Those of `feed` are the
+bytes of packets under one configuration. The words stand in the tables of docs/FORMATS.md, and in its grammar of the
+configuration.
+"""
+
+from __future__ import annotations
+
+import ast
+import re
+from collections.abc import Callable, Iterator
+from pathlib import Path
+
+import random_live
+import random_scripts
+import random_texts
+import worked
+from check import read_config
+
+TOP = Path(__file__).resolve().parent.parent
+ROWS = TOP / "crates" / "program_tests" / "src"
+FORMATS = TOP / "docs" / "FORMATS.md"
+PARTED = b"--\n"
+# Longer inputs make a fuzzer slow.
+MOST_BYTES = 4096
+# The configuration under which packets are read.
+PACKETS_UNDER = worked.TWO_APPLICATIONS
+MARK = read_config(PACKETS_UNDER).mark.to_bytes(8, "big")
+
+LITERAL = r'(r#".*?"#|"(?:[^"\\]|\\.)*")'
+CONSTANT = re.compile(r"const (\w+): &str =\s*" + LITERAL, re.DOTALL)
+CONFIG_ROW = re.compile(r"text:\s*" + LITERAL, re.DOTALL)
+FAULT_ROW = re.compile(r"\(\s*" + LITERAL + r",\s*\"config fault", re.DOTALL)
+SCRIPT_ROW = re.compile(r"\(\s*([A-Z_]+),\s*" + LITERAL, re.DOTALL)
+
+
+# Inputs
+
+
+def text_of(literal: str) -> bytes:
+    """The text that a literal stands for."""
+    raw = literal[3:-2] if literal.startswith("r") else ast.literal_eval(literal)
+    return str(raw).encode()
+
+
+def source_of(name: str) -> str:
+    """A file of the tests, without its comments."""
+    return re.sub(r"^\s*//.*$", "", (ROWS / f"{name}.rt").read_text(), flags=re.MULTILINE)
+
+
+def constants_of(*names: str) -> dict[str, bytes]:
+    """The texts that have a name in some files of the tests, where a later file counts more."""
+    return {name: text_of(text) for file in names for name, text in CONSTANT.findall(source_of(file))}
+
+
+def scripts_in(name: str) -> Iterator[bytes]:
+    """The inputs in a file of the tests: a configuration by its name, and a script."""
+    named = constants_of("scripts", name)
+    for config, script in SCRIPT_ROW.findall(source_of(name)):
+        if config in named:
+            yield named[config] + PARTED + text_of(script)
+
+
+def examples(pattern: str) -> Iterator[bytes]:
+    """The examples of some names."""
+    for path in sorted(TOP.glob(f"examples/{pattern}")):
+        yield path.read_bytes()
+
+
+def worked_script(row: worked.Row) -> bytes:
+    """The input of a worked example."""
+    boots = [f"boot {node} 0" for node in worked.whole(row.booted.replace(" ", ";"))]
+    return row.config + PARTED + "\n".join([*boots, *worked.whole(row.script)]).encode()
+
+
+def texts() -> Iterator[bytes]:
+    """Configurations."""
+    yield from examples("*.config")
+    for row in CONFIG_ROW.findall(source_of("configs")) + FAULT_ROW.findall(source_of("faults")):
+        yield text_of(row)
+    yield from (text for text, _ in worked.TEXTS)
+    yield from (random_texts.random_text(1, number) for number in range(40))
+
+
+def scripts() -> Iterator[bytes]:
+    """Inputs of `sim`."""
+    yield from (source for source in examples("*.distac") if b"\nphase" not in source)
+    for name in ("scripts", "placements", "wires"):
+        yield from scripts_in(name)
+    yield from map(worked_script, worked.ROWS)
+    yield from (random_scripts.random_script(1, number) for number in range(40))
+
+
+def live_scripts() -> Iterator[bytes]:
+    """Inputs of `live`."""
+    yield from examples("live-*.distac")
+    yield from scripts_in("lives")
+    yield from (row.config + PARTED + "\n".join(worked.whole(row.script)).encode() for row in worked.LIVE_ROWS)
+    yield from (random_live.random_live(1, number) for number in range(25))
+
+
+def fed_in(source: bytes) -> Iterator[bytes]:
+    """The bytes that a script feeds."""
+    for digits in re.findall(rb"^feed ((?:[0-9a-f]{2})+)$", source, re.MULTILINE):
+        yield bytes.fromhex(digits.decode())
+
+
+def packets() -> Iterator[bytes]:
+    """Packets, with the mark of their configuration in place of any other."""
+    config = read_config(PACKETS_UNDER)
+    found = [worked.message_of(config, version) for version in (1, 2)]
+    found += [packet for source in (*scripts(), *live_scripts()) for packet in fed_in(source)]
+    grown = [source for source in (random_scripts.random_packets(1, number) for number in range(20))]
+    found += [packet for source in grown if source.startswith(PACKETS_UNDER) for packet in [*fed_in(source)][::10]]
+    yield from (packet[:4] + MARK + packet[12:] if len(packet) >= 12 else packet for packet in found)
+
+
+SOURCES: dict[str, Callable[[], Iterator[bytes]]] = {
+    "check": texts,
+    "sim": scripts,
+    "live": live_scripts,
+    "feed": packets,
+}
+
+
+def seeds(command: str) -> list[bytes]:
+    """The inputs to begin with, each once."""
+    return [source for source in dict.fromkeys(SOURCES[command]()) if 0 < len(source) <= MOST_BYTES]
+
+
+# Words
+
+
+def sections() -> dict[str, str]:
+    """The parts of docs/FORMATS.md by their titles."""
+    parts = re.split(r"^#+ (.*)$", FORMATS.read_text(), flags=re.MULTILINE)
+    return dict(zip(parts[1::2], parts[2::2]))
+
+
+def spans_of(section: str, columns: int = 1) -> list[str]:
+    """What stands between backticks in the first columns of the tables of a part."""
+    rows = re.findall(r"^\|(.*)\|$", section, re.MULTILINE)
+    return [span for row in rows for cell in row.split("|")[:columns] for span in re.findall(r"`([^`]+)`", cell)]
+
+
+def numbers_in(section: str) -> list[int]:
+    """The bounds that a part names, each with the number above it."""
+    powers = [2 ** int(power) for power in re.findall(r"2\^(\d+)", section)]
+    written = [int(number.replace(",", "")) for number in re.findall(r"\d{1,3}(?:,\d{3})+", section)]
+    return sorted({number + more for number in powers + written for more in (0, 1)})
+
+
+def words_of_texts(parts: dict[str, str]) -> Iterator[bytes]:
+    """The words of configurations: signs and the names of the grammar, but for those of its rules."""
+    grammar = parts["Shapes"]
+    block = grammar.split("```")[1]
+    rules = {*re.findall(r"^(\w+) *=", block, re.MULTILINE), *"atom number string fullstop end".split()}
+    names = [word for word in re.findall(r"[a-z_]{2,}", block) if word not in rules]
+    signs = [*spans_of(parts["Tokens"]), *re.findall(r'"([^"]+)"', block)]
+    yield from (word.encode() for word in [*signs, *names])
+    yield from (b"%d" % number for number in numbers_in(grammar))
+
+
+def words_of_lines(parts: dict[str, str], title: str) -> Iterator[bytes]:
+    """The words of scripts: those of the tables that don't stand for something else, and bounds."""
+    words = [word for span in spans_of(parts[title]) for word in span.split()]
+    yield from (word.encode() for word in words if word.islower())
+    yield from (b"true", b"false", b"\n" + PARTED)
+    yield from (b"%d" % number for number in numbers_in(parts["Script lines"]))
+
+
+def words_of_packets(parts: dict[str, str]) -> Iterator[bytes]:
+    """The fields of packets: written bytes, acts and kinds, and bounds in each width that holds them."""
+    section = parts["State bytes"] + parts["Message bytes"]
+    yield from (bytes.fromhex(span) for span in re.findall(r"`((?:[0-9a-f]{2} ?)+)`", section))
+    yield from (bytes((number,)) for number in range(8))
+    widths = sorted({int(bits) // 8 for bits in re.findall(r"`u(\d+)`", section)})
+    for number in [0, 1, 2, *numbers_in(section)]:
+        yield from (number.to_bytes(width, "big") for width in widths if number < 256**width)
+
+
+def words(command: str) -> list[bytes]:
+    """The words of a command's inputs, each once."""
+    parts = sections()
+    found = {
+        "check": words_of_texts(parts),
+        "sim": words_of_lines(parts, "Script lines"),
+        "live": words_of_lines(parts, "`distac live`"),
+        "feed": words_of_packets(parts),
+    }[command]
+    return [*dict.fromkeys(found)]
+
+
+def dictionary(command: str) -> str:
+    """The words as AFL++ reads them, a line for each."""
+    return "".join(f'"{"".join(map(escaped, word))}"\n' for word in words(command))
+
+
+def escaped(byte: int) -> str:
+    """A byte by its digits."""
+    return f"\\x{byte:02x}"
