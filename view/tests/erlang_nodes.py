@@ -53,8 +53,16 @@ class Node:
         self.name = name
         self.told: queue.Queue[str] = queue.Queue()
         self.noise: list[str] = []
-        pipes = {"stdin": subprocess.PIPE, "stdout": subprocess.PIPE, "stderr": subprocess.STDOUT}
-        self.process = subprocess.Popen(words, cwd=folder, env=environment, text=True, errors="replace", **pipes)
+        self.process = subprocess.Popen(
+            words,
+            cwd=folder,
+            env=environment,
+            text=True,
+            errors="replace",
+            stdin=subprocess.PIPE,
+            stdout=subprocess.PIPE,
+            stderr=subprocess.STDOUT,
+        )
         self.thread = threading.Thread(target=self.listen, daemon=True)
         self.thread.start()
 

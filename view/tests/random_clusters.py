@@ -16,11 +16,11 @@ class RandomCluster:
     """A configuration for all nodes: each application's time and groups, what is forbidden, and whom a starting node waits for."""
 
     random: Random
-    nodes: list
-    apps: dict
-    barred: list
-    sync: dict
-    sync_time: "int | None"
+    nodes: list[str]
+    apps: dict[str, tuple[int, list[list[str]]]]
+    barred: list[str]
+    sync: dict[str, list[str]]
+    sync_time: int | None
 
     @property
     def text(self) -> str:
@@ -76,7 +76,7 @@ def random_cluster(random: Random) -> RandomCluster:
     return RandomCluster(random, nodes, apps, barred, sync, random.choice((None, 1, 7000)) if not waited else random.choice((1, 7000)))
 
 
-def random_groups(random: Random, nodes: list) -> "list[list[str]]":
+def random_groups(random: Random, nodes: list[str]) -> list[list[str]]:
     """Some nodes in groups."""
     chosen, groups = random.sample(nodes, random.randint(1, len(nodes))), []
     while chosen:
@@ -86,13 +86,13 @@ def random_groups(random: Random, nodes: list) -> "list[list[str]]":
     return groups
 
 
-def entry(name: str, time: str, groups: list) -> str:
+def entry(name: str, time: str, groups: list[list[str]]) -> str:
     """An entry of `distributed`."""
     items = [group[0] if len(group) == 1 else "{%s}" % ",".join(group) for group in groups]
     return "{%s,[%s]}" % (name, ",".join(items)) if time == "0" else "{%s,%s,[%s]}" % (name, time, ",".join(items))
 
 
-def turned(random: Random, groups: list) -> list:
+def turned(random: Random, groups: list[list[str]]) -> list[list[str]]:
     """The same groups, with the nodes of each in another order."""
     return [random.sample(group, len(group)) for group in groups]
 

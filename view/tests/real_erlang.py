@@ -19,8 +19,10 @@ import tempfile
 import time
 from collections import Counter
 from dataclasses import dataclass, field
+from functools import partial
 from itertools import chain
 from pathlib import Path
+from typing import Any, Callable, Dict
 
 sys.dont_write_bytecode = True
 sys.path.insert(0, str(Path(__file__).resolve().parent))
@@ -100,11 +102,15 @@ NODE_FILE = """\
 """
 
 
+# what `what-if --json` says of an application
+Fate = Dict[str, Any]
+
+
 @dataclass
 class Score:
     """What was counted, and what is told of it."""
 
-    counts: Counter = field(default_factory=Counter)
+    counts: Counter[str] = field(default_factory=Counter)
     differing: list[str] = field(default_factory=list)
 
     def add(self, what: str, row: str = "") -> None:
@@ -121,7 +127,7 @@ class Case:
     scenario: Scenario
     down: tuple[str, ...]
     folder: Path
-    fates: list[dict]
+    fates: list[Fate]
     may_hang: bool
 
 
@@ -150,7 +156,7 @@ def prepared(scenario: Scenario, down: tuple[str, ...], folder: Path, now: dict[
     return Case(scenario, down, folder, fates, bool(pairs_among(lost, left)))
 
 
-def fates_by_what_if(config: Path, down: tuple[str, ...], now: dict[str, str]) -> list[dict]:
+def fates_by_what_if(config: Path, down: tuple[str, ...], now: dict[str, str]) -> list[Fate]:
     """What `what-if` says of each application, in the order of the file. Where they run now is told to it if it takes that."""
     words = ["what-if", str(config), "--json", "--down", *down]
     if now and "--now" in run_view("what-if", "--help").output:
@@ -158,7 +164,8 @@ def fates_by_what_if(config: Path, down: tuple[str, ...], now: dict[str, str]) -
     said = run_view(*words)
     if said.status == 2 or not said.output.startswith("{"):
         raise SystemExit(f"what-if: {said.output}{said.errors}")
-    return json.loads(said.output)["cases"][0]["applications"]
+    fates: list[Fate] = json.loads(said.output)["cases"][0]["applications"]
+    return fates
 
 
 def bare(name: str | None) -> str | None:
@@ -166,7 +173,7 @@ def bare(name: str | None) -> str | None:
     return name.strip("'") if name else None
 
 
-def expected(fates: list[dict], moment: str) -> dict[str, str | None]:
+def expected(fates: list[Fate], moment: str) -> dict[str, str | None]:
     """Where each application is to be. One whose time is weeks isn't waited for."""
     is_never = {fate["application"]: moment == "then" and (fate["milliseconds"] or 0) >= NEVER for fate in fates}
     return {fate["application"]: None if is_never[fate["application"]] else bare(fate[moment]) for fate in fates}
@@ -179,7 +186,9 @@ def seen(cluster: Cluster, names: list[str]) -> dict[str, str | None]:
 
 def wait_for(cluster: Cluster, wanted: dict[str, str | None], seconds: float) -> tuple[dict[str, str | None], dict[str, float]]:
     """What is seen once it is as wanted for half a second, or when time is up, and at which moment each application first ran."""
-    start, since, when = time.monotonic(), None, {}
+    start = time.monotonic()
+    since: float | None = None
+    when: dict[str, float] = {}
     while True:
         found, moment = seen(cluster, list(wanted)), time.monotonic()
         for app, node in found.items():
@@ -219,10 +228,10 @@ def run_case(scenario: Scenario, down: tuple[str, ...], score: Score) -> None:
     tell_case(case, {"now": now, "then": then, "back": back}, outages, score)
 
 
-def tell_case(case: Case, observed: dict[str, dict], outages: dict[str, float], score: Score) -> None:
+def tell_case(case: Case, observed: dict[str, dict[str, str | None]], outages: dict[str, float], score: Score) -> None:
     """Counts what agrees, and prints a line."""
     head = f"{case.scenario.name}, without {' and '.join(node.split('@')[0] for node in case.down)}"
-    kinds: Counter = Counter()
+    kinds: Counter[str] = Counter()
     for app, moment in ((app, moment) for app in case.scenario.names for moment in observed):
         wanted, found = expected(case.fates, moment)[app], observed[moment][app]
         kind = kind_of(case, observed, wanted, found, moment)
@@ -234,12 +243,12 @@ def tell_case(case: Case, observed: dict[str, dict], outages: dict[str, float], 
     print(f"{head}: {', '.join(f'{count} {kind}' for kind, count in kinds.items())}{warned}; back after {', '.join(returns) or 'nothing'}", flush=True)
 
 
-def is_moved(fate: dict, outages: dict[str, float]) -> bool:
+def is_moved(fate: Fate, outages: dict[str, float]) -> bool:
     """Whether an application was expected to move, and came back."""
     return fate["milliseconds"] is not None and fate["application"] in outages
 
 
-def kind_of(case: Case, observed: dict[str, dict], wanted: str | None, found: str | None, moment: str) -> str:
+def kind_of(case: Case, observed: dict[str, dict[str, str | None]], wanted: str | None, found: str | None, moment: str) -> str:
     """What one observation is: it agrees, or the controllers hang and that was said, or applications were started elsewhere."""
     if wanted == found:
         return "agree"
@@ -277,7 +286,9 @@ def roll(scenario: Scenario, order: list[str], score: Score) -> None:
         now = [f"{app}={node}" for app, node in places.items() if node]
         said = run_view("rolling", str(config), "--order", *order, "--now", *now)
         for step, node in zip(STEP.finditer(said.output), order):
-            for part, change in (("down", cluster.nodes[node].kill), ("back", lambda node=node: boot(cluster, (node,), scenario.names))):
+            changes: list[tuple[str, Callable[[], None]]]
+            changes = [("down", cluster.nodes[node].kill), ("back", partial(boot, cluster, (node,), scenario.names))]
+            for part, change in changes:
                 places = moved(places, step[part], node if part == "down" else "")
                 change()
                 found, _ = wait_for(cluster, places, LATE_SECONDS + 2)

@@ -3,6 +3,7 @@
 
 import sys
 from pathlib import Path
+from typing import Callable, Dict, Tuple
 
 sys.dont_write_bytecode = True
 sys.path.insert(0, str(Path(__file__).resolve().parents[2] / "models"))
@@ -11,7 +12,7 @@ import check
 import live
 import sim
 
-MODELS = {"check": check.check, "sim": sim.simulate, "live": live.run_live}
+MODELS: Dict[str, Callable[[bytes], Tuple[bytes, int]]] = {"check": check.check, "sim": sim.simulate, "live": live.run_live}
 
 
 def main() -> int:

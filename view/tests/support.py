@@ -61,7 +61,9 @@ def status_of(words: list[str]) -> int:
 def written(stream: io.TextIOWrapper) -> str:
     """What was written to a stream in memory."""
     stream.flush()
-    return stream.buffer.getvalue().decode("utf-8", "surrogateescape")  # type: ignore[attr-defined]
+    kept = stream.buffer
+    assert isinstance(kept, io.BytesIO)
+    return kept.getvalue().decode("utf-8", "surrogateescape")
 
 
 def run_view(*words: str, source: bytes = b"", program: str = PROGRAM) -> Said:

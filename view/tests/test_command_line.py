@@ -162,6 +162,7 @@ class Programs(unittest.TestCase):
         for words in COMMANDS:
             line = [sys.executable, str(TOP / "distac-view"), *words]
             with subprocess.Popen(line, stdout=subprocess.PIPE, stderr=subprocess.PIPE, env={**os.environ, "DISTAC": PROGRAM}) as process:
+                assert process.stdout and process.stderr
                 process.stdout.close()
                 errors = process.stderr.read()
                 self.assertEqual((process.wait(), errors), (0, b""), words)

@@ -5,6 +5,7 @@ from __future__ import annotations
 import unittest
 
 from support import distac
+from view.configuration import Configuration
 from view.equal_times import pairs_among, pairs_that_hang
 from view.loading import check_config
 
@@ -27,7 +28,7 @@ WENT_WELL = (
 )
 
 
-def configuration_of_two(entries: tuple[tuple[int, str], ...]):
+def configuration_of_two(entries: tuple[tuple[int, str], ...]) -> Configuration:
     """A configuration with two applications."""
     text = ",".join("{a%d,%d,%s}" % (number, time, nodes) for number, (time, nodes) in enumerate(entries))
     return check_config(distac(), "x", f"[{{kernel,[{{distributed,[{text}]}}]}}].".encode()).configuration

@@ -5,6 +5,7 @@ from __future__ import annotations
 import json
 import unittest
 from html.parser import HTMLParser
+from pathlib import Path
 
 from support import EXAMPLES, distac, view
 from view.loading import answers_of, load_script
@@ -22,10 +23,10 @@ class Shapes(HTMLParser):
         self.counts: dict[str, int] = {}
         self.outside: list[str] = []
 
-    def handle_starttag(self, tag: str, attrs: list) -> None:
+    def handle_starttag(self, tag: str, attrs: list[tuple[str, str | None]]) -> None:
         """Notes an element."""
         self.counts[tag] = self.counts.get(tag, 0) + 1
-        self.outside += [value for name, value in attrs if name in ("src", "href") or "http" in (value or "")]
+        self.outside += [value or "" for name, value in attrs if name in ("src", "href") or "http" in (value or "")]
 
 
 class Examples(unittest.TestCase):
@@ -86,7 +87,7 @@ class Examples(unittest.TestCase):
         self.assertTrue(shared)
 
 
-def answers_in(output: str, path) -> list[str]:
+def answers_in(output: str, path: Path) -> list[str]:
     """The answers that stand in the last column of what `play` printed."""
     loaded = load_script(distac(), str(path))
     events = [one.line.text for one in answers_of(distac(), loaded) if one.line.is_event]

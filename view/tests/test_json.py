@@ -7,7 +7,7 @@ import tempfile
 import unittest
 from pathlib import Path
 from random import Random
-from typing import Tuple
+from typing import Any, Tuple
 
 from support import EXAMPLES, view
 from json_schema import documented
@@ -31,12 +31,13 @@ class Answers(unittest.TestCase):
         path.write_bytes(text.encode("utf-8", "surrogateescape"))
         return str(path)
 
-    def expect(self, *words: str) -> dict:
+    def expect(self, *words: str) -> dict[str, Any]:
         """The answer to some words, which fits."""
         said = view(*words, "--json")
         self.assertEqual(said.status, 0, said)
         self.assertEqual(self.schema.faults_of(said.output), [], said.output)
-        return json.loads(said.output)
+        answer: dict[str, Any] = json.loads(said.output)
+        return answer
 
     def test_examples(self) -> None:
         for path in sorted(EXAMPLES.glob("*.config")):

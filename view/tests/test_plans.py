@@ -103,8 +103,8 @@ class Loads(Files):
         budgets = (("--fail-on lost", 0), ("--fail-on lost --pairs", 1), ("--most 2 --fail-on load", 1), ("--most 3 --fail-on lost,load", 0))
         for words, status in budgets:
             self.assertEqual(view("load", self.shop, *words.split()).status, status, words)
-        for words in (("--fail-on", "load"), ("--fail-on", "everything")):
-            self.assertEqual(view("load", self.shop, *words).status, 2)
+        for word in ("load", "everything"):
+            self.assertEqual(view("load", self.shop, "--fail-on", word).status, 2)
 
     def test_many_nodes_have_no_column_each(self) -> None:
         side = wide_side(Random("wide"), 12)

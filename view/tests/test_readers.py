@@ -18,7 +18,7 @@ from view.problems import Problem
 
 COUNT = 400
 ASIDE = Other("list with a tail")
-READ = (
+READ: tuple[tuple[str, object], ...] = (
     ("[].", []),
     ("{a,'b c',\"de\",\"f\" \"g\"}.", (Atom("a"), Atom("b c"), [100, 101], [102, 103])),
     ("[16#fF,2#10_01,36#zZ,1_000,-5,- 5,+5,$a,$\\n,$ ,$\\x{263a},-(4)].", [255, 9, 1295, 1000, -5, -5, 5, 97, 10, 32, 0x263A, -4]),
@@ -127,7 +127,7 @@ class ErlangThatFails(unittest.TestCase):
 
     def test_others(self) -> None:
         for output, message in ((["/bin/false"], "status 1"), (["/bin/true"], "answered 0 of 1")):
-            with mock.patch.object(erlang_reader.shutil, "which", lambda _: output[0]), self.assertRaisesRegex(Problem, message):
+            with mock.patch("shutil.which", lambda _: output[0]), self.assertRaisesRegex(Problem, message):
                 read_by_erlang(["[]."])
 
 

@@ -60,9 +60,16 @@ class Scripts(unittest.TestCase):
             self.assertEqual(caught.exception.remark.place.line, script.lines[fault.place - 1].number)
 
 
+def script_in(source: bytes) -> Script:
+    """The script of a file that has the line `--`."""
+    script = script_of(source)
+    assert script is not None
+    return script
+
+
 def shown_answers(source: bytes) -> list[str]:
     """The answers as the rows of `play` show them."""
-    script = script_of(source)
+    script = script_in(source)
     checked = check_config(distac(), "x", script.config)
     lines = checked_lines(distac(), "x", script, checked.configuration)
     from view.loading import Loaded
@@ -114,14 +121,14 @@ class Telling(unittest.TestCase):
 
 def told_lines(config: bytes, script: bytes) -> list[Line]:
     """The lines of a script with each `tell` written out."""
-    made = script_of(config + b"--\n" + script)
+    made = script_in(config + b"--\n" + script)
     checked = check_config(distac(), "x", config)
     return checked_lines(distac(), "x", made, checked.configuration)
 
 
 def told_answers(config: bytes, script: bytes) -> list[str]:
     """What is answered to all but ships, deliveries and shares. Numbers of messages are left out."""
-    made = script_of(config + b"--\n" + script)
+    made = script_in(config + b"--\n" + script)
     checked = check_config(distac(), "x", config)
     lines = checked_lines(distac(), "x", made, checked.configuration)
     output = lines_of(text_of(distac().asked("sim", plain_of(made, lines))[0]))

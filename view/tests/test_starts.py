@@ -7,6 +7,7 @@ from __future__ import annotations
 
 import tempfile
 import unittest
+from functools import partial
 from pathlib import Path
 from random import Random
 
@@ -218,7 +219,7 @@ class Courses(Asked):
                     self.assertTrue(course.back.held[name].runs_at, (name, held))
 
 
-def what_counts(course: Course) -> tuple:
+def what_counts(course: Course) -> tuple[object, ...]:
     """All that is shown of a case."""
     pages = (course.at_once, course.then, course.back)
     held = [{name: (each.runs_at, each.verdict, each.marks) for name, each in page.held.items()} for page in pages]
@@ -259,6 +260,11 @@ class Outages(unittest.TestCase):
             self.assertEqual((reply.tick_time, outage_of(reply.cases[0].fates[0].milliseconds or 0, reply.tick_time)), (seconds, outage))
 
 
+def counted(done: int) -> tuple[int, int]:
+    """How many of three cases are done."""
+    return done, 3
+
+
 class Progressing(unittest.TestCase):
     """What the progress says."""
 
@@ -267,7 +273,7 @@ class Progressing(unittest.TestCase):
         progress.ask()
         self.assertEqual(progress.what, "question 1 to distac")
         for done, what in ((0, "case 1 of 3"), (2, "case 3 of 3"), (3, "case 3 of 3")):
-            progress.cases = lambda done=done: (done, 3)
+            progress.cases = partial(counted, done)
             self.assertEqual(progress.what, what)
 
 

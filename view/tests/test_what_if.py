@@ -7,7 +7,9 @@ from __future__ import annotations
 
 import copy
 import unittest
+from collections.abc import Iterable
 from random import Random
+from typing import Optional, Tuple
 
 from support import IS_STAND_IN, distac
 import placement
@@ -19,6 +21,8 @@ from view.what_if import Question, reply_on
 COUNT = 500
 PENDING = (placement.START, placement.FAILOVER, placement.MOVE, placement.TAKEOVER)
 NODES = ("a@h", "b@h", "c@h", "d@h")
+# where an application is, where it is then, how, after how many milliseconds, and where in the end
+Fate = Tuple[Optional[int], Optional[int], str, Optional[int], Optional[int]]
 
 
 def random_config(random: Random) -> str:
@@ -65,7 +69,7 @@ class Oracle:
         self.rest(world, 0)
         return world
 
-    def start(self, world: World, nodes) -> None:
+    def start(self, world: World, nodes: Iterable[int]) -> None:
         """Everything is started at some nodes."""
         for node in nodes:
             for app in self.apps:
@@ -88,7 +92,7 @@ class Oracle:
         self.ticks(world, now, 1)
         self.ticks(world, now + 2 * self.longest + 1, len(self.apps) + 2)
 
-    def verdicts(self, world: World) -> list:
+    def verdicts(self, world: World) -> list[placement.Verdict]:
         """The verdict of each application, as the first running node sees it."""
         node = next((node for node in range(len(self.config.nodes)) if world.is_on(node)), None)
         if node is None:
@@ -103,11 +107,11 @@ class Oracle:
             found.append(max((state.claims[app].term for state in states if app in state.claims), default=0))
         return found
 
-    def places(self, world: World) -> list:
+    def places(self, world: World) -> list[int | None]:
         """The node where each application is at rest."""
         return [found.node if found.what in (placement.KEPT, placement.HALTED) else None for found in self.verdicts(world)]
 
-    def fates(self, down: list[int]) -> list[tuple]:
+    def fates(self, down: list[int]) -> list[Fate]:
         """For each application: where it is, then, how, after how long, and where in the end."""
         world = self.opened()
         begin = 10 * self.longest + 10
@@ -167,7 +171,9 @@ class WhatIf(unittest.TestCase):
         names = [name.decode() for name in config.nodes]
         oracle = Oracle(config, {names.index(node) for node in not_started})
         fates = oracle.fates(sorted(names.index(node) for node in down))
-        expected = [tuple(names[value] if place in (0, 1, 4) and value is not None else value for place, value in enumerate(fate)) for fate in fates]
+        named: dict[int | None, str | None] = {None: None}
+        named.update(enumerate(names))
+        expected = [(named[now], named[then], how, after, named[back]) for now, then, how, after, back in fates]
         reply = reply_on(distac(), check_config(distac(), "x", text.encode()), Question("x", down, not_started))
         answered = [(fate.now, fate.then, fate.how, fate.milliseconds, fate.back) for fate in reply.cases[0].fates]
         self.assertEqual(answered, expected)

@@ -25,7 +25,8 @@ class WideStates(unittest.TestCase):
 
     def test_which_lines(self) -> None:
         lines = ("state x", "bytes 1", "page x", "% state x", "")
-        for count, told in ((MOST_LIVES, []), (MOST_LIVES + 1, ["state x", "bytes 1"])):
+        rows: tuple[tuple[int, list[str]], ...] = ((MOST_LIVES, []), (MOST_LIVES + 1, ["state x", "bytes 1"]))
+        for count, told in rows:
             ends = [Answered(Line(count + place, text), ["00"]) for place, text in enumerate(lines, 1)]
             found = [(remark.place.behind, remark.name) for remark in too_wide([*booted(count), *ends])]
             self.assertEqual(found, [(text, "TooManyLives") for text in told])
