@@ -1,44 +1,47 @@
 -- The nodes of a list, group by group.
-use Rattle.std.proofs.Common.{◌≡◌, ℕ, Bool, true, false, ◌+◌, ◌-◌, ◌<◌, ◌≤◌, ◌==◌, List, [], Option, Some, None, get_or, cond, refl, sym, ap, ◌∙◌, arith}
+use Rattle.std.proofs.Common.{◌≡◌, ℕ, Bool, true, false, ◌+◌, ◌-◌, ◌<◌, ◌≤◌, ◌==◌, List, [], ◌++◌, Option, Some, None, get_or, cond, refl, sym, ap, ap₂, ◌∙◌, arith}
 use Rattle.std.proofs.lemmas.Map.Views.{exact_unsigned_eq}
 use Rattle.dac_base.specs.declared.limits.TheConstants.{MAX_NODES}
 use Rattle.dac_base.specs.declared.NodeId.{NodeId}
 use Rattle.dac_base.specs.declared.AppId.{AppId}
 use Rattle.dac_config.specs.Table.{Table, group_of, node_count}
 use Rattle.dac_status.specs.declared.marks.Mark.{Mark}
-use Rattle.dac_status.specs.Texts.{marked_text, mark_in, member_in, member_text, group_in, group_text, groups_of}
-use Rattle.dac_status.proofs.Places.{node_numbered, placed_at}
+use Rattle.dac_status.specs.Texts.{mark_text, mark_in, label_text, labels_of, member_in, member_text, group_in, group_text, groups_of}
+use Rattle.dac_status.proofs.Places.{node_numbered, placed_at, listed_at}
 use Rattle.dac_status.proofs.Lines.{texts, texts_end, same_texts}
 
-member_none : (t : Table) (found : Option ℕ) (marks : List Mark) (group : ℕ) (node : NodeId) → (found ≡ Some group → ⊥) → member_in t found marks group node ≡ []
-member_none t None marks group node other = refl
-member_none t (Some found) marks group node other = by (found == group) refl
+member_none : (label : List ℕ) (found : Option ℕ) (marks : List Mark) (group : ℕ) (node : NodeId) → (found ≡ Some group → ⊥) → member_in label found marks group node ≡ []
+member_none label None marks group node other = refl
+member_none label (Some found) marks group node other = by (found == group) refl
   where
-    by : (b : Bool) → found == group ≡ b → cond b (marked_text t (mark_in marks node) node) [] ≡ []
+    by : (b : Bool) → found == group ≡ b → cond b (label ++ mark_text (mark_in marks node)) [] ≡ []
     by true e = absurd (other (ap (λ n. Some n) (exact_unsigned_eq found group e)))
     by false e = refl
 
 -- a group that has no node has no text
-group_none : (t : Table) (groups : List (Option ℕ)) (marks : List Mark) (group : ℕ) → ((n : ℕ) → n < node_count t → get_or groups n None ≡ Some group → ⊥) → group_in t groups marks group ≡ []
-group_none t groups marks group none =
-    let f : NodeId → List ℕ = λ node. member_in t (get_or groups node.0 None) marks group node in
+group_none : (t : Table) (labels : List (List ℕ)) (groups : List (Option ℕ)) (marks : List Mark) (group : ℕ) → ((n : ℕ) → n < node_count t → get_or groups n None ≡ Some group → ⊥) → group_in t labels groups marks group ≡ []
+group_none t labels groups marks group none =
+    let f : NodeId → List ℕ = λ node. member_in (get_or labels node.0 []) (get_or groups node.0 None) marks group node in
     let all : node_count t ≡ 0 + node_count t = omega arith in
     ap (texts node_numbered f) all
-    ∙ texts_end node_numbered f 0 (node_count t) (λ n le lt. member_none t (get_or groups n None) marks group (node_numbered n) (none n (omega (arith, lt))))
+    ∙ texts_end node_numbered f 0 (node_count t) (λ n le lt. member_none (get_or labels n []) (get_or groups n None) marks group (node_numbered n) (none n (omega (arith, lt))))
 
-group_is : (t : Table) (app : AppId) (marks : List Mark) (group : ℕ) → group_in t (groups_of t app) marks group ≡ group_text t app marks group
+group_is : (t : Table) (app : AppId) (marks : List Mark) (group : ℕ) → group_in t (labels_of t) (groups_of t app) marks group ≡ group_text t app marks group
 group_is t app marks group =
-    same_texts node_numbered (λ node. member_in t (get_or (groups_of t app) node.0 None) marks group node) (member_text t app marks group) (node_count t) (node_count t) (omega arith)
-    (λ n lt. ap (λ found. member_in t found marks group (node_numbered n)) (placed_at MAX_NODES None node_numbered (group_of t app) (node_count t) n lt))
+    same_texts node_numbered (λ node. member_in (get_or (labels_of t) node.0 []) (get_or (groups_of t app) node.0 None) marks group node) (member_text t app marks group) (node_count t) (node_count t) (omega arith)
+    (λ n lt. ap₂ (λ label found. member_in label found marks group (node_numbered n))
+    (listed_at [] node_numbered (label_text t) (node_count t) n lt)
+    (placed_at MAX_NODES None node_numbered (group_of t app) (node_count t) n lt))
 
 -- the groups up to the last one that has a node are all that have a text
 pub list_is : (t : Table) (app : AppId) (marks : List Mark) (groups : List (Option ℕ)) (count : ℕ) → groups ≡ groups_of t app → count ≤ MAX_NODES
     → ((node group : ℕ) → node < node_count t → group < MAX_NODES → get_or groups node None ≡ Some group → group < count)
-    → texts (λ n. n) (group_in t groups marks) count ≡ texts (λ n. n) (group_text t app marks) MAX_NODES
+    → texts (λ n. n) (group_in t (labels_of t) groups marks) count ≡ texts (λ n. n) (group_text t app marks) MAX_NODES
 list_is t app marks groups count are few has =
     let left = MAX_NODES - count in
+    let labels = labels_of t in
     let all : count + left ≡ MAX_NODES = omega (arith, few) in
-    sym (texts_end (λ n. n) (group_in t groups marks) count left (λ group le lt. group_none t groups marks group (λ n inside at. omega (arith, le, has n group inside (omega (arith, lt, few)) at))))
-    ∙ ap (texts (λ n. n) (group_in t groups marks)) all
-    ∙ ap (λ gs. texts (λ n. n) (group_in t gs marks) MAX_NODES) are
-    ∙ same_texts (λ n. n) (group_in t (groups_of t app) marks) (group_text t app marks) MAX_NODES MAX_NODES (omega arith) (λ group lt. group_is t app marks group)
+    sym (texts_end (λ n. n) (group_in t labels groups marks) count left (λ group le lt. group_none t labels groups marks group (λ n inside at. omega (arith, le, has n group inside (omega (arith, lt, few)) at))))
+    ∙ ap (texts (λ n. n) (group_in t labels groups marks)) all
+    ∙ ap (λ gs. texts (λ n. n) (group_in t labels gs marks) MAX_NODES) are
+    ∙ same_texts (λ n. n) (group_in t labels (groups_of t app) marks) (group_text t app marks) MAX_NODES MAX_NODES (omega arith) (λ group lt. group_is t app marks group)

@@ -15,16 +15,30 @@ node_numbered n = record { 0 = n }
 abbrev pub app_numbered : ℕ → AppId
 app_numbered n = record { 0 = n }
 
+-- what stands at a place of a list of them
+pub listed_at : {X T : Type 0} (blank : T) (make : ℕ → X) (f : X → T) (count n : ℕ) → n < count → get_or (map f (map make (range_with_len 0 count))) n blank ≡ f (make n)
+listed_at blank make f count n lt =
+    get_or-map f (map make (range_with_len 0 count)) n (make n) blank (subst (λ m. n < m) (sym (length-map-range_with_len make 0 count)) lt)
+    ∙ ap f (get_or-map-range_with_len make 0 count n n (make n) lt (omega arith))
+
+-- how many they are
+pub length_listed : {X T : Type 0} (make : ℕ → X) (f : X → T) (count : ℕ) → length (map f (map make (range_with_len 0 count))) ≡ count
+length_listed make f count = length-map (map make (range_with_len 0 count)) f ∙ length-map-range_with_len make 0 count
+
+-- one more of them
+pub listed_more : {X T : Type 0} (make : ℕ → X) (f : X → T) (n : ℕ) → map f (map make (range_with_len 0 (n + 1))) ≡ map f (map make (range_with_len 0 n)) ++ f (make n) ∷ []
+listed_more make f n = ap (map f) (map-range_with_len_more make 0 n n (omega arith)) ∙ map-append f (map make (range_with_len 0 n)) (make n ∷ [])
+
 module _ {X T : Type 0} (places : ℕ) (blank : T) (make : ℕ → X) (f : X → T) where
   -- what the first n of them give
   abbrev first : ℕ → List T
   first n = map f (map make (range_with_len 0 n))
 
   length-first : (n : ℕ) → length (first n) ≡ n
-  length-first n = length-map (map make (range_with_len 0 n)) f ∙ length-map-range_with_len make 0 n
+  length-first = length_listed make f
 
   first-more : (n : ℕ) → first (n + 1) ≡ first n ++ f (make n) ∷ []
-  first-more n = ap (map f) (map-range_with_len_more make 0 n n (omega arith)) ∙ map-append f (map make (range_with_len 0 n)) (make n ∷ [])
+  first-more = listed_more make f
 
   pub placed_none : replicate places blank ≡ placed places blank (first 0)
   unfolding placed
@@ -49,5 +63,4 @@ module _ {X T : Type 0} (places : ℕ) (blank : T) (make : ℕ → X) (f : X →
   unfolding placed
   placed_at count n lt =
       get_or-append (first count) (replicate (places - length (first count)) blank) blank n (subst (λ m. n < m) (sym (length-first count)) lt)
-      ∙ get_or-map f (map make (range_with_len 0 count)) n (make n) blank (subst (λ m. n < m) (sym (length-map-range_with_len make 0 count)) lt)
-      ∙ ap f (get_or-map-range_with_len make 0 count n n (make n) lt (omega arith))
+      ∙ listed_at blank make f count n lt

@@ -1,7 +1,7 @@
 -- What a controller knows, in short: how much it has heard, and the life of each node. Of each application: who holds
 -- it, what is to become of it, and how each node stands for it. (This project's own.)
 use Rattle.std.specs.Prelude.{ℕ, ◌-◌, Bool, false, not, List, ◌++◌, length, map as list_map, replicate, Option, None, Some, if◌then◌else◌}
-use Rattle.std.specs.Option.{option_map_or}
+use Rattle.std.specs.Option.{option_and_then, option_map_or}
 use Rattle.std.specs.FinSet as set
 use Rattle.std.specs.FinMap as map
 use Rattle.dac_base.specs.declared.limits.TheConstants.{MAX_APPS, MAX_NODES}
@@ -9,7 +9,7 @@ use Rattle.dac_base.specs.declared.NodeId.{NodeId}
 use Rattle.dac_base.specs.declared.AppId.{AppId}
 use Rattle.dac_config.specs.Table.{Table}
 use Rattle.dac_chains.specs.declared.lives.Life.{Life}
-use Rattle.dac_chains.specs.Lives.{IsLive, live_at}
+use Rattle.dac_chains.specs.Lives.{IsLive, if_up, live_at}
 use Rattle.dac_meaning.specs.StateValue.{StateValue}
 use Rattle.dac_placement.specs.declared.verdicts.Verdict.TheVariants.{Nobody}
 use Rattle.dac_placement.specs.Placement.{IsPermittedAt, is_permitted_at, IsDrainedAt, is_drained_at, IsStartedAt, is_started_at, key_at, nodes_of, apps_of, verdict_of}
@@ -58,9 +58,17 @@ marks_of table s app = placed MAX_NODES Down (list_map (mark_of table s app) (no
 abbrev pub lives_of : Table → StateValue → List (Option Life)
 lives_of table s = placed MAX_NODES None (list_map (map.get s.lives) (nodes_of table))
 
+-- the incarnation of a life that is up
+abbrev pub live_in : Option Life → Option ℕ
+live_in life = option_and_then (λ (l : Life). if_up l.inc l.flag) life
+
+-- the node is drained at this incarnation, if there is one
+abbrev pub drains : StateValue → NodeId → Option ℕ → Bool
+drains s node live = option_map_or (is_drained_at s node) live false
+
 -- the node is live at an incarnation that is drained
 abbrev pub drains_live : StateValue → NodeId → Bool
-drains_live s node = option_map_or (is_drained_at s node) (live_at s.lives node) false
+drains_live s node = drains s node (live_at s.lives node)
 
 -- whether the nodes are, by their numbers
 abbrev pub drained_of : Table → StateValue → List Bool

@@ -101,26 +101,34 @@ mark_text mark.Ok = codes "ok"
 abbrev pub mark_in : List Mark → NodeId → Mark
 mark_in marks node = slice_index_or marks node.0 mark.Down
 
+-- what a node begins its mark with
+abbrev pub label_text : Table → NodeId → List ℕ
+label_text table node = codes " " ++ (name_text (node_name table node) ++ codes "=")
+
 -- a node with its mark
 abbrev pub marked_text : Table → Mark → NodeId → List ℕ
-marked_text table mark node = codes " " ++ (node_text table node ++ (codes "=" ++ mark_text mark))
+marked_text table mark node = label_text table node ++ mark_text mark
+
+-- what the nodes begin their marks with, by their numbers
+abbrev pub labels_of : Table → List (List ℕ)
+labels_of table = list_map (label_text table) (nodes_of table)
 
 -- the groups of the nodes in an application's list, by the nodes' numbers
 abbrev pub groups_of : Table → AppId → List (Option ℕ)
 groups_of table app = placed MAX_NODES None (list_map (group_of table app) (nodes_of table))
 
--- a node with its mark, where the group that has it, if one does, is this one
-abbrev pub member_in : Table → Option ℕ → List Mark → ℕ → NodeId → List ℕ
-member_in table found marks group node = if option_map_or (λ other. other == group) found false then marked_text table (mark_in marks node) node else []
+-- a node with its mark behind a label, where the group that has it, if one does, is this one
+abbrev pub member_in : List ℕ → Option ℕ → List Mark → ℕ → NodeId → List ℕ
+member_in label found marks group node = if option_map_or (λ other. other == group) found false then label ++ mark_text (mark_in marks node) else []
 
 -- a node with its mark, where it is of this group of the application's list
 abbrev pub member_text : Table → AppId → List Mark → ℕ → NodeId → List ℕ
-member_text table app marks group node = member_in table (group_of table app node) marks group node
+member_text table app marks group node = member_in (label_text table node) (group_of table app node) marks group node
 
--- the nodes of a group, by their names, where these are the groups of nodes by their numbers
-abbrev pub group_in : Table → List (Option ℕ) → List Mark → ℕ → List ℕ
-group_in table groups marks group =
-    flat_map (λ node. member_in table (slice_index_or groups node.0 None) marks group node) (nodes_of table)
+-- the nodes of a group, by their names, where these are the labels and the groups of nodes by their numbers
+abbrev pub group_in : Table → List (List ℕ) → List (Option ℕ) → List Mark → ℕ → List ℕ
+group_in table labels groups marks group =
+    flat_map (λ node. member_in (slice_index_or labels node.0 []) (slice_index_or groups node.0 None) marks group node) (nodes_of table)
 
 -- the nodes of one group of the application's list, by their names
 abbrev pub group_text : Table → AppId → List Mark → ℕ → List ℕ

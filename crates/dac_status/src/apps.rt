@@ -1,10 +1,11 @@
 //! Applications, as they are printed.
 
-ghost use Rattle.std.specs.Prelude.{◌≡◌, ◌<◌, ◌≤◌, ◌++◌, ◌==◌, ℕ, false, Some, None, slice_index_or, OnOk};
+ghost use Rattle.std.specs.Prelude.{◌≡◌, ◌<◌, ◌≤◌, ◌++◌, ◌==◌, ℕ, false, [], Some, None, length, slice_index_or, OnOk};
 ghost use Rattle.std.specs.Option.{option_map_or};
 ghost use Rattle.dac_config.specs.Table.{app_count, node_count};
-ghost use Rattle.dac_status.specs.Texts.{node_text, how_text, from_text, claim_text, holder_text, verdict_text, standing_text, mark_text, marked_text, groups_of, member_in, group_in, list_text, summary_text, app_lines};
+ghost use Rattle.dac_status.specs.Texts.{node_text, how_text, from_text, claim_text, holder_text, verdict_text, standing_text, mark_text, labels_of, groups_of, member_in, group_in, list_text, summary_text, app_lines};
 
+use crate::labels::Labels;
 use crate::marks::Mark;
 use crate::nodes::put_node;
 use crate::summary::AppSummary;
@@ -154,19 +155,11 @@ fn mark_text(mark: Mark) -> &'static str
     }
 }
 
-/// Puts behind a text a node with its mark.
-fn put_marked(
-    alloc: Global,
-    text: &mut Vec<u8>,
-    config: &Config,
-    mark: Mark,
-    node: NodeId,
-) -> Result<(), NoMemory>
-    ensures { OnOk result (text.new.items ≡ text.old.items ++ marked_text config.now mark node) }
+/// Puts behind a text a label and a mark.
+fn put_marked(text: &mut Vec<u8>, label: &[u8], mark: Mark) -> Result<(), NoMemory>
+    ensures { OnOk result (text.new.items ≡ text.old.items ++ (label.now ++ mark_text mark)) }
 {
-    text.push(b' ')?;
-    put_node(alloc, text, config, node)?;
-    text.push(b'=')?;
+    text.extend_from_slice(label)?;
     text.extend_from_slice(mark_text(mark).as_bytes())?;
     Ok(())
 }
@@ -225,62 +218,66 @@ fn is_member(groups: &[Option<u16>; MAX_NODES], group: u16, node: NodeId) -> boo
     }
 }
 
-/// Puts behind a text a node with its mark, where it is of this group, and these are the groups of nodes by their numbers.
+/// Puts behind a text a node with its mark behind its label, where it is of this group, and these are the groups of
+/// nodes by their numbers.
 fn put_member(
-    alloc: Global,
     text: &mut Vec<u8>,
-    config: &Config,
+    labels: &Labels,
     groups: &[Option<u16>; MAX_NODES],
     marks: &[Mark; MAX_NODES],
     group: u16,
     node: NodeId,
 ) -> Result<(), NoMemory>
-    requires { node.0 < MAX_NODES }
+    requires label { node.0 < length labels.now }
+    requires place { node.0 < MAX_NODES }
     ensures { OnOk result (text.new.items
         ≡ text.old.items
-        ++ member_in config.now (slice_index_or groups.now node.0 None) marks.now group node) }
+        ++ member_in (slice_index_or labels.now node.0 [])
+        (slice_index_or groups.now node.0 None) marks.now group node) }
 {
     if !is_member(groups, group, node) {
         return Ok(());
     }
     let mark = marks[node.0 as usize];
-    put_marked(alloc, text, config, mark, node)
+    put_marked(text, labels.at(node), mark)
 }
 
-/// Puts behind a text the nodes of a group with their marks, where these are the groups of nodes by their numbers.
+/// Puts behind a text the nodes of a group with their marks, where these are the labels and the groups of nodes by
+/// their numbers.
 fn put_group(
-    alloc: Global,
     text: &mut Vec<u8>,
     config: &Config,
+    labels: &Labels,
     groups: &[Option<u16>; MAX_NODES],
     marks: &[Mark; MAX_NODES],
     group: u16,
 ) -> Result<(), NoMemory>
-    ensures { OnOk result
-        (text.new.items ≡ text.old.items ++ group_in config.now groups.now marks.now group) }
+    requires { labels.now ≡ labels_of config.now }
+    ensures { OnOk result (text.new.items
+        ≡ text.old.items ++ group_in config.now labels.now groups.now marks.now group) }
 {
     for number in 0..config.nodes() {
-        let node = NodeId(number);
-        put_member(alloc, text, config, groups, marks, group, node)?;
+        put_member(text, labels, groups, marks, group, NodeId(number))?;
     }
     Ok(())
 }
 
 /// Puts behind a text the line of an application's list: the nodes group by group, each with its mark.
 fn put_list(
-    alloc: Global,
     text: &mut Vec<u8>,
     config: &Config,
+    labels: &Labels,
     app: AppId,
     marks: &[Mark; MAX_NODES],
 ) -> Result<(), NoMemory>
-    requires { app.0 < app_count config.now }
+    requires app { app.0 < app_count config.now }
+    requires labels { labels.now ≡ labels_of config.now }
     ensures { OnOk result (text.new.items ≡ text.old.items ++ list_text config.now app marks.now) }
 {
     text.extend_from_slice(b"list")?;
     let groups = groups_of(config, app);
     for group in 0..group_count(config, &groups) {
-        put_group(alloc, text, config, &groups, marks, group)?;
+        put_group(text, config, labels, &groups, marks, group)?;
     }
     text.push(b'\n')?;
     Ok(())
@@ -291,29 +288,33 @@ fn put_summary(
     alloc: Global,
     text: &mut Vec<u8>,
     config: &Config,
+    labels: &Labels,
     app: AppId,
     summary: &AppSummary,
 ) -> Result<(), NoMemory>
-    requires { app.0 < app_count config.now }
+    requires app { app.0 < app_count config.now }
+    requires labels { labels.now ≡ labels_of config.now }
     ensures { OnOk result
         (text.new.items ≡ text.old.items ++ summary_text config.now app summary.now) }
 {
     put_standing(alloc, text, config, app, summary.claim, summary.verdict)?;
-    put_list(alloc, text, config, app, &summary.marks)
+    put_list(text, config, labels, app, &summary.marks)
 }
 
 /// Puts behind a text the lines of an application, which stands as these say by their numbers.
 #[tactic(auto, unfolding(crate::specs::Texts::app_lines))]
-pub fn put_app(
+pub(crate) fn put_app(
     alloc: Global,
     text: &mut Vec<u8>,
     config: &Config,
+    labels: &Labels,
     apps: &[AppSummary; MAX_APPS],
     app: AppId,
 ) -> Result<(), NoMemory>
     requires app { app.0 < app_count config.now }
     requires place { app.0 < MAX_APPS }
+    requires labels { labels.now ≡ labels_of config.now }
     ensures { OnOk result (text.new.items ≡ text.old.items ++ app_lines config.now apps.now app) }
 {
-    put_summary(alloc, text, config, app, &apps[app.0 as usize])
+    put_summary(alloc, text, config, labels, app, &apps[app.0 as usize])
 }

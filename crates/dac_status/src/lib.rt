@@ -6,6 +6,7 @@
 #![tactic(auto)]
 
 mod apps;
+mod labels;
 mod marks;
 mod nodes;
 mod pages;

@@ -1,8 +1,10 @@
 //! How a node stands for an application.
 
-ghost use Rattle.std.specs.Prelude.{◌≡◌, ◌<◌};
+ghost use Rattle.std.specs.Prelude.{◌≡◌, ◌<◌, ◌↔◌, IsTrue, Some};
+ghost use Rattle.dac_chains.specs.Lives.{IsLive};
 ghost use Rattle.dac_config.specs.Table.{app_count};
-ghost use Rattle.dac_status.specs.Summaries.{IsMark, mark_of};
+ghost use Rattle.dac_status.specs.Summaries.{IsMark, mark_at, mark_of};
+ghost use Rattle.dac_placement.specs.Placement.{IsDrainedAt, is_drained_at};
 
 use dac_base::{AppId, NodeId};
 use dac_config::Config;
@@ -31,14 +33,28 @@ pub fn mark_of(config: &Config, state: &State, app: AppId, node: NodeId) -> Mark
     ensures value { result ≡ mark_of config.now state.now app node }
     ensures cases { IsMark config.now state.now app node result }
 {
-    let Some(inc) = state.lives().live(node) else {
-        return Mark::Down;
-    };
-    let key = Key { app, node, inc };
+    match state.lives().live(node) {
+        Some(inc) => {
+            let key = Key { app, node, inc };
+            mark_live(config, state, key, is_drained(state, node, inc))
+        }
+        None => Mark::Down,
+    }
+}
+
+/// How a live node stands for an application, where it is drained or not.
+pub(crate) fn mark_live(config: &Config, state: &State, key: Key, drained: bool) -> Mark
+    requires app { key.app.0 < app_count config.now }
+    requires drained { drained ≡ is_drained_at state.now key.node key.inc }
+    ensures value { result ≡ mark_at config.now state.now key.app key.node (Some key.inc) }
+    ensures cases { (IsTrue drained ↔ IsDrainedAt state.now key.node key.inc)
+        → IsLive state.now.lives key.node key.inc
+        → IsMark config.now state.now key.app key.node result }
+{
     if !is_permitted(config, state, key) {
         return Mark::Barred;
     }
-    if is_drained(state, node, inc) {
+    if drained {
         return Mark::Drained;
     }
     if !is_started(state, key) {

@@ -7,6 +7,7 @@ ghost use Rattle.dac_placement.specs.Placement.{nodes_of, apps_of};
 ghost use Rattle.dac_status.specs.Texts.{header_text, node_line, app_lines, page_text};
 
 use crate::apps::put_app;
+use crate::labels::Labels;
 use crate::nodes::put_node_line;
 use crate::summary::Summary;
 use dac_base::{AppId, NoMemory, NodeId};
@@ -82,8 +83,9 @@ fn put_apps(
     ensures { OnOk result (text.new.items
         ≡ text.old.items ++ flat_map (app_lines config.now summary.now.apps) (apps_of config.now)) }
 {
+    let labels = Labels::of(alloc, config)?;
     for number in 0..config.apps() {
-        put_app(alloc, text, config, &summary.apps, AppId(number))?;
+        put_app(alloc, text, config, &labels, &summary.apps, AppId(number))?;
     }
     Ok(())
 }

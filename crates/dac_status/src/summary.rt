@@ -2,14 +2,15 @@
 
 ghost use Rattle.std.specs.Prelude.{◌≡◌, ◌<◌};
 ghost use Rattle.dac_config.specs.Table.{app_count};
-ghost use Rattle.dac_status.specs.Summaries.{marks_of, lives_of, drains_live, drained_of, no_app, app_summary, app_summaries, summary_of};
+ghost use Rattle.dac_status.specs.Summaries.{mark_at, live_in, drains, marks_of, lives_of, drains_live, drained_of, no_app, app_summary, app_summaries, summary_of};
 
-use crate::marks::{Mark, mark_of};
+use crate::marks::{Mark, mark_live};
 use dac_base::{AppId, MAX_APPS, MAX_NODES, NodeId};
 use dac_chains::{Claim, Life};
 use dac_config::Config;
+use dac_lattice::Flag;
 use dac_placement::{Verdict, is_drained, verdict};
-use dac_state::State;
+use dac_state::{Key, State};
 
 /// Where an application stands.
 #[derive(Clone, Copy, Debug, PartialEq, Eq)]
@@ -45,12 +46,15 @@ impl Summary {
     pub fn of(config: &Config, state: &State) -> Summary
         ensures { result ≡ summary_of config.now state.now }
     {
+        let lives = lives_of(config, state);
+        let drained = drained_of(config, state);
+        let apps = apps_of(config, state, &lives, &drained);
         Summary {
             heard: state.heard().len(),
             known: state.known().len(),
-            lives: lives_of(config, state),
-            drained: drained_of(config, state),
-            apps: apps_of(config, state),
+            lives,
+            drained,
+            apps,
         }
     }
 }
@@ -87,27 +91,75 @@ fn drained_of(config: &Config, state: &State) -> [bool; MAX_NODES]
     drained
 }
 
-/// The mark of each node of the configuration, by its number.
-fn marks_of(config: &Config, state: &State, app: AppId) -> [Mark; MAX_NODES]
-    requires { app.0 < app_count config.now }
+/// The incarnation of a life that is up.
+fn live_in(life: Option<Life>) -> Option<u64>
+    ensures { result ≡ live_in life }
+{
+    let life = life?;
+    match life.flag {
+        Flag::Up => Some(life.inc),
+        Flag::Down => None,
+    }
+}
+
+/// The mark of a node of this life, which is drained or not.
+fn mark_by(
+    config: &Config,
+    state: &State,
+    app: AppId,
+    node: NodeId,
+    life: Option<Life>,
+    drained: bool,
+) -> Mark
+    requires app { app.0 < app_count config.now }
+    requires drained { drained ≡ drains state.now node (live_in life) }
+    ensures { result ≡ mark_at config.now state.now app node (live_in life) }
+{
+    match live_in(life) {
+        Some(inc) => mark_live(config, state, Key { app, node, inc }, drained),
+        None => Mark::Down,
+    }
+}
+
+/// The mark of each node of the configuration, by its number, where these are their lives, and whether they are drained.
+fn marks_of(
+    config: &Config,
+    state: &State,
+    app: AppId,
+    lives: &[Option<Life>; MAX_NODES],
+    drained: &[bool; MAX_NODES],
+) -> [Mark; MAX_NODES]
+    requires app { app.0 < app_count config.now }
+    requires lives { lives.now ≡ lives_of config.now state.now }
+    requires drained { drained.now ≡ drained_of config.now state.now }
     ensures { result ≡ marks_of config.now state.now app }
 {
     let mut marks = [Mark::Down; MAX_NODES];
     for number in 0..config.nodes() {
-        marks[number as usize] = mark_of(config, state, app, NodeId(number));
+        let place = number as usize;
+        let node = NodeId(number);
+        marks[place] = mark_by(config, state, app, node, lives[place], drained[place]);
     }
     marks
 }
 
-/// Where an application stands.
-fn app_summary(config: &Config, state: &State, app: AppId) -> AppSummary
-    requires { app.0 < app_count config.now }
+/// Where an application stands, where these are the lives of the nodes, and whether they are drained.
+fn app_summary(
+    config: &Config,
+    state: &State,
+    app: AppId,
+    lives: &[Option<Life>; MAX_NODES],
+    drained: &[bool; MAX_NODES],
+) -> AppSummary
+    requires app { app.0 < app_count config.now }
+    requires lives { lives.now ≡ lives_of config.now state.now }
+    requires drained { drained.now ≡ drained_of config.now state.now }
     ensures { result ≡ app_summary config.now state.now app }
 {
     AppSummary {
         claim: state.claims().greatest(app),
         verdict: verdict(config, state, app),
-        marks: marks_of(config, state, app),
+        marks: marks_of(config, state, app, lives, drained),
     }
 }
 
@@ -122,14 +174,22 @@ fn no_app() -> AppSummary
     }
 }
 
-/// Where each application of the configuration stands, by its number.
-fn apps_of(config: &Config, state: &State) -> [AppSummary; MAX_APPS]
+/// Where each application of the configuration stands, by its number, where these are the lives of the nodes, and
+/// whether they are drained.
+fn apps_of(
+    config: &Config,
+    state: &State,
+    lives: &[Option<Life>; MAX_NODES],
+    drained: &[bool; MAX_NODES],
+) -> [AppSummary; MAX_APPS]
+    requires lives { lives.now ≡ lives_of config.now state.now }
+    requires drained { drained.now ≡ drained_of config.now state.now }
     ensures { result ≡ app_summaries config.now state.now }
 {
     let blank = no_app();
     let mut apps = [blank; MAX_APPS];
     for number in 0..config.apps() {
-        apps[number as usize] = app_summary(config, state, AppId(number));
+        apps[number as usize] = app_summary(config, state, AppId(number), lives, drained);
     }
     apps
 }

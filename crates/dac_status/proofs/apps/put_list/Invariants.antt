@@ -5,4 +5,4 @@ use Rattle.dac_status.proofs.Lines.{texts}
 use Rattle.dac_status.proofs.apps.put_list.Given as goal
 
 abbrev pub invariant-loop-group : goal.invariant-loop-group
-invariant-loop-group l = l.text.items ≡ (l.fn.text.items ++ codes "list") ++ texts (λ n. n) (group_in l.config l.groups l.marks) l.group
+invariant-loop-group l = l.text.items ≡ (l.fn.text.items ++ codes "list") ++ texts (λ n. n) (group_in l.config l.labels l.groups l.marks) l.group

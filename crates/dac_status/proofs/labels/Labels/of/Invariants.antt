@@ -1,0 +1,8 @@
+use Rattle.std.proofs.Common.{◌≡◌, map}
+use Rattle.std.specs.List.{range_with_len}
+use Rattle.dac_status.specs.Texts.{label_text}
+use Rattle.dac_status.proofs.Places.{node_numbered}
+use Rattle.dac_status.proofs.labels.Labels.of.Given as goal
+
+abbrev pub invariant-loop-number : goal.invariant-loop-number
+invariant-loop-number l = map (λ label. label.items) l.labels.items ≡ map (label_text l.config) (map node_numbered (range_with_len 0 l.number))
