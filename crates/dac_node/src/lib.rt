@@ -6,8 +6,9 @@
 //! does. So a caller that keeps more than a node can make room for all of it before anything changes.
 //!
 //! At a tick a node looks after the applications. Once its start gate is open it notes which claims are lost, and
-//! claims what it is to run now. A ship sends another node what it hasn't acknowledged, as an interval of the newest
-//! deltas or as the whole state. What comes of a message is joined, and what all others have acknowledged is dropped.
+//! claims what it is to run now. Once its state has stayed for some ticks, it keeps a board of it, which gives the
+//! verdicts. A ship sends another node what it hasn't acknowledged, as an interval of the newest deltas or as the whole
+//! state. What comes of a message is joined, and what all others have acknowledged is dropped.
 //!
 //! A caller of two nodes. What the first one ships is new to the second one, which refuses it once it is off. The module
 //! `callers` of `controller_tests` runs it.
@@ -39,4 +40,5 @@ mod knowledge;
 mod node;
 mod running;
 mod shipping;
+mod stillness;
 mod ticking;

@@ -1,10 +1,11 @@
 //! What an accepted tick does.
 
-ghost use Rattle.std.specs.Prelude.{◌≡◌, ◌≤◌, ◌∷◌, [], List, IfOk, false, fold, unwrap_or};
+ghost use Rattle.std.specs.Prelude.{◌≡◌, ◌≤◌, ◌∷◌, [], List, IfOk, IfSome, false, fold, unwrap_or};
 ghost use Rattle.std.specs.Arc.{arc_value};
 ghost use Rattle.dac_meaning.specs.StateValue.{join};
 ghost use Rattle.dac_messages.specs.declared.event.Event.TheVariants.{Tick};
 ghost use Rattle.dac_decide.specs.FailoverWait.{Note, waits_of};
+ghost use Rattle.dac_model_node.specs.dac_ticks.KeptBoards.{IsBoardOf};
 ghost use Rattle.dac_model_node.specs.dac_ticks.Ticks.{turn_of};
 ghost use Rattle.dac_model_node.specs.dac_ticks.TurnSoFar.{IsMade};
 ghost use Rattle.dac_model_node.specs.EventRefusals.{refusal_to_tick, too_few_left};
@@ -16,6 +17,7 @@ use crate::advance::Advance;
 use crate::change::{After, Change};
 use crate::knowledge::Knowledge;
 use crate::running::Running;
+use crate::stillness::Stillness;
 use dac_base::NoMemory;
 use dac_config::Config;
 use dac_decide::{Moments, Opening, Waits, gate};
@@ -57,12 +59,13 @@ fn open_tick(config: &Config, last: u64, running: &Running, now: u64) -> Result<
     ensures { IfOk result (Effect config.now last running.now (Tick now)) }
 {
     let known = &running.knowledge;
-    let (waits, turn) = known.note_and_turn(config, now)?;
+    let still = known.still_at_tick(config)?;
+    let (waits, turn) = known.note_and_turn(config, &still, now)?;
     let Turn { ops, passed, left } = turn;
     let deltas = deltas_of(known.alloc, ops.as_slice())?;
     let noted = Arc::new(known.alloc, waits)?;
-    let state = known.left_by(left)?;
-    let next = known.after_tick(now, true, noted, state, deltas)?;
+    let (state, still) = known.left_by(left, still)?;
+    let next = known.after_tick(now, true, noted, state, deltas, still)?;
     Ok(Change::going_on(last, next, Reply::Ticked { ops, passed }))
 }
 
@@ -93,9 +96,23 @@ impl Running {
 }
 
 impl Knowledge {
+    /// What is kept by a tick that finds the state as it was.
+    fn still_at_tick(&self, config: &Config) -> Result<Stillness, NoMemory>
+        ensures { IfOk result
+            (λ still. IfSome still (λ board. IsBoardOf board self.now.state)) }
+    {
+        self.still.at_tick(self.alloc, config, &self.state)
+    }
+
     /// What is noted by a tick at this moment, and what the applications come to by it.
-    fn note_and_turn(&self, config: &Config, now: u64) -> Result<(Waits, Turn), NoMemory>
-        requires { too_few_left config.now self.now.state self.now.origin ≡ false }
+    fn note_and_turn(
+        &self,
+        config: &Config,
+        still: &Stillness,
+        now: u64,
+    ) -> Result<(Waits, Turn), NoMemory>
+        requires room { too_few_left config.now self.now.state self.now.origin ≡ false }
+        requires shows { IfSome still.now (λ board. IsBoardOf board self.now.state) }
         ensures noted { IfOk result (λ both. (notes : List Note)
             → self.now.waits ≡ waits_of config.now notes
             → both.0
@@ -105,7 +122,15 @@ impl Knowledge {
     {
         let mut waits = self.waits.copy()?;
         waits.note(config, &self.state, now);
-        let turn = turn_of(self.alloc, config, self.origin, &self.state, &waits, now)?;
+        let turn = turn_of(
+            self.alloc,
+            config,
+            self.origin,
+            &self.state,
+            still.board(),
+            &waits,
+            now,
+        )?;
         Ok((waits, turn))
     }
 
@@ -116,27 +141,35 @@ impl Knowledge {
     {
         let waits = Arc::try_clone(&self.waits)?;
         let state = Arc::try_clone(&self.state)?;
-        self.after_tick(now, false, waits, state, Vec::new(self.alloc))
+        let still = self.still.copy()?;
+        self.after_tick(now, false, waits, state, Vec::new(self.alloc), still)
     }
 
-    /// The state after claims that left this one, where there were any.
-    fn left_by(&self, left: Option<State>) -> Result<Arc<State, Global>, NoMemory>
-        ensures { IfOk result (λ state. arc_value state ≡ unwrap_or left self.now.state) }
+    /// The state after claims that left this one, where there were any, and what is kept of it.
+    fn left_by(
+        &self,
+        left: Option<State>,
+        still: Stillness,
+    ) -> Result<(Arc<State, Global>, Stillness), NoMemory>
+        requires { IfSome still (λ board. IsBoardOf board self.now.state) }
+        ensures state { IfOk result (λ both. arc_value both.0 ≡ unwrap_or left self.now.state) }
+        ensures still { IfOk result
+            (λ both. IfSome both.1 (λ board. IsBoardOf board (arc_value both.0))) }
     {
         match left {
             Some(state) => {
                 let state = Arc::new(self.alloc, state)?;
-                Ok(state)
+                Ok((state, Stillness::none()))
             }
             None => {
                 let state = Arc::try_clone(&self.state)?;
-                Ok(state)
+                Ok((state, still))
             }
         }
     }
 
     /// What goes on after a tick at this moment. The start gate is so, so much is noted, and the claims' deltas left
-    /// this state.
+    /// this state, of which this is kept.
     fn after_tick(
         &self,
         now: u64,
@@ -144,9 +177,11 @@ impl Knowledge {
         waits: Arc<Waits, Global>,
         state: Arc<State, Global>,
         deltas: Vec<State>,
+        still: Stillness,
     ) -> Result<Advance, NoMemory>
         requires order { self.now.moments.last ≤ now }
         requires grown { arc_value state ≡ fold join self.now.state deltas.items }
+        requires shows { IfSome still (λ board. IsBoardOf board (arc_value state)) }
         ensures { IfOk result
             (λ next. next ≡ ticking self.now now is_open (arc_value waits) deltas.items) }
     {
@@ -162,6 +197,7 @@ impl Knowledge {
             waits,
             state,
             peers,
+            still,
         };
         Ok(Advance {
             knowledge,

@@ -4,5 +4,6 @@ pub mod Staying
 pub mod TurnSoFar
 pub mod InWords
 pub mod Issued
+pub mod KeptBoards
 pub mod TakesEffect
 pub mod laws

@@ -6,11 +6,14 @@
 //! controller that has claimed an application sees its own claim, and the load that it brings, when it looks at the
 //! next.
 //!
-//! A tick computes one verdict for each application that its own node may run. A claim costs one delta and one join, and a
+//! A tick computes one verdict for each application that its own node may run, or takes the verdicts from a board that shows
+//! the state: a controller may keep one, as a [`KeptBoard`], until its state changes. A claim costs one delta and one join, and a
 //! tick that claims nothing copies no state.
 #![tactic(auto)]
 
+pub use kept::KeptBoard;
 pub use turning::{Turn, turn_of};
 
+mod kept;
 pub mod laws;
 mod turning;

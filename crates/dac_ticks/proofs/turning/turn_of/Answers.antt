@@ -1,7 +1,11 @@
+use Rattle.std.specs.Prelude.{IfSome}
+use Rattle.std.specs.Option.{option_copied}
 use Rattle.std.proofs.Common.{◌≡◌, ℕ, ◌+◌, ◌≤◌, List, sym, ap, subst, ◌∙◌, arith}
 use Rattle.dac_base.specs.declared.AppId.{AppId}
 use Rattle.dac_operations.specs.Operations.{Operation}
+use Rattle.dac_meaning.specs.StateValue.{StateValue}
 use Rattle.dac_config.specs.Table.{app_count}
+use Rattle.dac_board.specs.Boards.{Shows}
 use Rattle.dac_placement.specs.Placement.{apps_of}
 use Rattle.dac_decide.specs.FailoverWait.{waits_of}
 use Rattle.dac_commands.specs.Commands.{KnowsItself, greatest_counter}
@@ -53,3 +57,10 @@ returns-clause-words c = λ notes stands.
     let passed = sym (c.new-4.ensures ∙ ap (λ (turn : Turn). turn.passed) all) in
     subst (λ (os : List Operation). IsTurn t own notes now s (apps_of t) os c.new-4.result) ops
     (subst (λ (apps : List AppId). IsTurn t own notes now s (apps_of t) (turn_of t own (waits_of t notes) now s).ops apps) passed (turn_in_words t own notes now s c.requires.room))
+
+pub found_of-requires-clause-shows : goal.found_of-requires-clause-shows
+found_of-requires-clause-shows c =
+    let t = c.args.config.now in
+    let s = c.args.state.now in
+    subst (λ (x : StateValue). IfSome (option_copied c.board-board.result) (λ b. Shows t b x)) (sym c.state-state.ensures)
+    (c.board-board.ensures t s (c.board_under-first.ensures s c.requires.shows))
