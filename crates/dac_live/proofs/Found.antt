@@ -1,7 +1,7 @@
 -- What is found in records, as they come.
 use Rattle.std.proofs.Common.{◌≡◌, ℕ, zero, suc, ◌+◌, ◌<◌, List, [], ◌∷◌, ◌++◌, length, take, get_or, map, Option, Some, None, refl, sym, ap, ◌∙◌, arith}
 use Rattle.std.proofs.lemmas.List.{take_more}
-use Rattle.dac_run.specs.Compared.{before, found}
+use Rattle.dac_crews.specs.Compared.{before, found}
 
 -- one, or none
 abbrev pub listed : {B : Type 0} → Option B → List B

@@ -12,7 +12,7 @@ use Rattle.dac_journal.specs.ModelNode.{shown}
 use Rattle.dac_journal.specs.Histories.{off_after}
 use Rattle.dac_journal.specs.Step.{Steps}
 use Rattle.dac_journal.specs.laws.Going.{goes_on}
-use Rattle.dac_run.specs.Record.{Record}
+use Rattle.dac_crews.specs.Record.{Record}
 use Rattle.dac_journal.specs.Journals.{Beginning, EndsAt}
 
 -- the step that the node made is that of its answer

@@ -3,8 +3,8 @@ use Rattle.std.proofs.Common.{◌≡◌, ℕ, ◌*◌, List, [], ◌∷◌, map,
 use Rattle.dac_base.specs.declared.NodeId.{NodeId}
 use Rattle.dac_messages.specs.declared.event.Event.TheVariants.{Hear}
 use Rattle.dac_messages.specs.declared.message.Message.{Message}
-use Rattle.dac_run.specs.Record.{Record}
-use Rattle.dac_run.specs.Compared.{Linked, found, event_one, sent_one}
+use Rattle.dac_crews.specs.Record.{Record}
+use Rattle.dac_crews.specs.Compared.{Linked, found, event_one, sent_one}
 use Rattle.dac_workers.specs.Links.{ships_to}
 
 heard_all : (ms : List (Bor Message)) → map (λ (m : Bor Message). Hear m.now) ms ≡ map Hear (map (λ (m : Bor Message). m.now) ms)

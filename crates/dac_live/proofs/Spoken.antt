@@ -4,7 +4,7 @@ use Rattle.std.specs.List.{AllZip, flat_map, zip}
 use Rattle.std.proofs.lemmas.List.{take_more}
 use Rattle.std.proofs.lemmas.List.Concat.{flat_map-append}
 use Rattle.std.proofs.lemmas.Slice.Zip.{all_zipped_more, length-zip, get_or-zip}
-use Rattle.dac_run.specs.Compared.{found}
+use Rattle.dac_crews.specs.Compared.{found}
 use Rattle.dac_live.proofs.Found.{found_more, listed}
 
 -- what is found in one more, behind what was there

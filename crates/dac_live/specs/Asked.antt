@@ -2,7 +2,7 @@
 use Rattle.std.specs.Prelude.{ℕ, ◌==◌, Option, Some, None, Result, if◌then◌else◌}
 use Rattle.dac_messages.specs.declared.reply.Reply.{Reply}
 use Rattle.dac_events.specs.declared.refusal.Refusal.{Refusal}
-use Rattle.dac_run.specs.Record.{Record}
+use Rattle.dac_crews.specs.Record.{Record}
 
 -- of a record of this seat
 abbrev pub answer_one : ℕ → Record → Option (Result Reply Refusal)

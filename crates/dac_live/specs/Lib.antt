@@ -5,8 +5,8 @@ pub mod Pairs
 pub mod Seating
 pub mod laws
 pub use Rattle.dac_sites.specs.Sites
-pub use Rattle.dac_run.specs.RunFault
-pub use Rattle.dac_run.specs.RunFaults
-pub use Rattle.dac_run.specs.declared.phases.Ask
-pub use Rattle.dac_run.specs.declared.phases.Line
-pub use Rattle.dac_run.specs.declared.phases.Phase
+pub use Rattle.dac_crews.specs.RunFault
+pub use Rattle.dac_crews.specs.RunFaults
+pub use Rattle.dac_crews.specs.declared.phases.Ask
+pub use Rattle.dac_crews.specs.declared.phases.Line
+pub use Rattle.dac_crews.specs.declared.phases.Phase

@@ -4,13 +4,13 @@ use Rattle.std.specs.List.{AllZip}
 use Rattle.dac_messages.specs.declared.event.Event.{Event}
 use Rattle.dac_messages.specs.declared.reply.Reply.{Reply}
 use Rattle.dac_events.specs.declared.refusal.Refusal.{Refusal}
-use Rattle.dac_run.specs.Record.{Record}
-use Rattle.dac_run.specs.Journals.{JournalValue}
-use Rattle.dac_run.specs.Compared.{found, event_one}
-use Rattle.dac_run.specs.declared.phases.Ask.{Ask}
-use Rattle.dac_run.specs.declared.phases.Ask.TheVariants.{Do, Read}
-use Rattle.dac_run.specs.declared.phases.Line.{Line}
-use Rattle.dac_run.specs.declared.phases.Phase.{Phase}
+use Rattle.dac_crews.specs.Record.{Record}
+use Rattle.dac_crews.specs.Journals.{JournalValue}
+use Rattle.dac_crews.specs.Compared.{found, event_one}
+use Rattle.dac_crews.specs.declared.phases.Ask.{Ask}
+use Rattle.dac_crews.specs.declared.phases.Ask.TheVariants.{Do, Read}
+use Rattle.dac_crews.specs.declared.phases.Line.{Line}
+use Rattle.dac_crews.specs.declared.phases.Phase.{Phase}
 use Rattle.dac_live.specs.declared.report.LineAnswer.{LineAnswer}
 use Rattle.dac_live.specs.declared.report.LineAnswer.TheVariants.{Done, Fresh, Stale}
 use Rattle.dac_live.specs.Asked.{answer_one}

@@ -1,8 +1,8 @@
 -- The journals and the last pages of all nodes.
 use Rattle.std.specs.Prelude.{◌≡◌, ◌<◌, ℕ, List, [], length, map, slice_index_or}
 use Rattle.dac_config.specs.Table.{Table}
-use Rattle.dac_run.specs.Journals.{JournalValue, nowhere, beginning_of, AreHistory}
-use Rattle.dac_run.specs.Paged.{page_after}
+use Rattle.dac_crews.specs.Journals.{JournalValue, nowhere, beginning_of, AreHistory}
+use Rattle.dac_crews.specs.Paged.{page_after}
 use Rattle.dac_pages.specs.declared.page.Page.{Page}
 
 -- the journal at this place

@@ -1,8 +1,8 @@
 -- The links between closed journals.
 use Rattle.std.specs.Prelude.{◌≢◌, ◌<◌, ◌≤◌, ◌+◌, ◌*◌, ℕ, All, List, [], length, nat_lt, slice_index_or, if◌then◌else◌}
-use Rattle.dac_run.specs.Record.{Record}
-use Rattle.dac_run.specs.Journals.{JournalValue, nowhere}
-use Rattle.dac_run.specs.Compared.{Linked}
+use Rattle.dac_crews.specs.Record.{Record}
+use Rattle.dac_crews.specs.Journals.{JournalValue, nowhere}
+use Rattle.dac_crews.specs.Compared.{Linked}
 
 -- The seats 1 to 4 are the callers'. Then each other node, by name, has two: its shipper's and its link
 -- worker's. Nodes before this one have the seats from 5 on. It has none at itself, so those after it have two

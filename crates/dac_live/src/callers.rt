@@ -3,15 +3,15 @@
 ghost use Rattle.std.specs.Prelude.{◌≡◌, ◌≤◌, ◌++◌, ◌∷◌, ◌↔◌, [], true, map, length, IfOk, OnOk, IsTrue};
 ghost use Rattle.std.specs.Option.{option_copied};
 ghost use Rattle.dac_base.specs.declared.limits.TheConstants.{MAX_NODES};
-ghost use Rattle.dac_run.specs.Compared.{found, event_one};
+ghost use Rattle.dac_crews.specs.Compared.{found, event_one};
 ghost use Rattle.dac_live.specs.Asked.{answer_one};
 ghost use Rattle.dac_live.specs.Lines.{AreAnswered, CallerHolds, NodeHolds, CallersHold};
 
 use crate::lines::{asked_by, told_to};
 use crate::lists::AnswerList;
 use dac_base::{NoMemory, NodeId};
+use dac_crews::{Answer, CALLERS, Closed, Phase, Record, event_of};
 use dac_messages::Event;
-use dac_run::{Answer, CALLERS, Closed, Phase, Record, event_of};
 use std::alloc::Global;
 
 /// Whether the records of this seat ask these events, in order and no others.

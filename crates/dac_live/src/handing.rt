@@ -7,7 +7,7 @@ use crate::callers::answers_of;
 use crate::lists::AnswerList;
 use crate::report::LineAnswer;
 use dac_base::NodeId;
-use dac_run::{Answer, Ask, CloseFault, Closed, Line, Phase, RunFault, Seen};
+use dac_crews::{Answer, Ask, CloseFault, Closed, Line, Phase, RunFault, Seen};
 use std::alloc::Global;
 
 /// What is still to be handed out of what a caller was answered and read. The next one stands last.
@@ -67,9 +67,7 @@ fn rest_of(alloc: Global, closed: &[Closed], seen: Seen) -> Result<Rest, RunFaul
     let Some(one) = closed.get(usize::from(node.0)) else {
         return Err(RunFault::NoPage { node });
     };
-    let Ok(mut answers) = answers_of(alloc, one.records(), caller) else {
-        return Err(RunFault::NoMemory);
-    };
+    let mut answers = answers_of(alloc, one.records(), caller)?;
     answers.reverse();
     fresh.reverse();
     Ok(Rest {
@@ -85,9 +83,7 @@ fn rests_of(alloc: Global, closed: &[Closed], all: Vec<Seen>) -> Result<Vec<Rest
     let mut rests = Vec::new(alloc);
     for seen in all {
         let rest = rest_of(alloc, closed, seen)?;
-        if rests.push(rest).is_err() {
-            return Err(RunFault::NoMemory);
-        }
+        rests.push(rest)?;
     }
     Ok(rests)
 }
@@ -111,9 +107,7 @@ fn answers_in(alloc: Global, rests: &mut [Rest], lines: &[Line]) -> Result<Answe
         let Some(answer) = next_of(rests, line) else {
             return Err(mismatch(line.node));
         };
-        if all.push(answer).is_err() {
-            return Err(RunFault::NoMemory);
-        }
+        all.push(answer)?;
     }
     Ok(AnswerList::new(all))
 }
@@ -137,9 +131,7 @@ pub(crate) fn all_answers(
     for i in 0..phases.len() {
         let phase = &phases[i];
         let answers = answers_in(alloc, rests.as_mut_slice(), phase.lines.as_slice())?;
-        if all.push(answers).is_err() {
-            return Err(RunFault::NoMemory);
-        }
+        all.push(answers)?;
     }
     Ok(all)
 }

@@ -7,9 +7,9 @@ ghost use Rattle.dac_journal.specs.Step.{Steps};
 use crate::callers::same_answer;
 use dac_base::{NoMemory, NodeId};
 use dac_config::Config;
+use dac_crews::{Answer, Record};
 use dac_events::Refusal;
 use dac_journal::Node;
-use dac_run::{Answer, Record};
 use std::alloc::Global;
 
 /// Refuses an answer that memory was refused: nothing was answered.

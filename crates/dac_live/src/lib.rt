@@ -5,12 +5,12 @@
 #![tactic(auto)]
 
 pub use callers::{answers_of, are_asked, are_told, strange_node};
-pub use dac_run::{Ask, Closed, Gate, Line, Page, Phase, RunFault};
+pub use dac_crews::{Ask, Closed, Gate, Line, Page, Phase, RunFault};
 pub use dac_sites::{
     Answer, Call, CloseFault, LiveFault, OpenFault, PageReader, Receipt, Record, Seat, Site,
     SiteBlank, SiteName, blank_site, laws, open_site,
 };
-pub use dac_workers::links;
+pub use dac_workers::{Reading, fresh_page, links};
 pub use histories::are_history;
 pub use lines::{are_answered, asked_by, told_to};
 pub use lists::{AnswerList, AnswersByPhase, ClosedList, PageList};

@@ -2,14 +2,14 @@
 
 ghost use Rattle.std.specs.Prelude.{◌≡◌, ◌++◌, true, map, length, IfOk};
 ghost use Rattle.std.specs.Option.{option_copied};
-ghost use Rattle.dac_run.specs.Compared.{found};
+ghost use Rattle.dac_crews.specs.Compared.{found};
 ghost use Rattle.dac_live.specs.Lines.{is_of, ask_one, asks_of, told_one, told_in, told_of, Answers, LinesAnswered, AreAnswered};
 
 use crate::lists::AnswerList;
 use crate::report::LineAnswer;
 use dac_base::{NoMemory, NodeId};
+use dac_crews::{Answer, Ask, Line, Phase};
 use dac_messages::Event;
-use dac_run::{Answer, Ask, Line, Phase};
 use std::alloc::Global;
 
 /// Whether the line is this caller's of this node.

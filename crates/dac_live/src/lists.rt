@@ -3,7 +3,7 @@
 ghost use Rattle.std.specs.Prelude.{◌≡◌};
 
 use crate::report::LineAnswer;
-use dac_run::{Closed, Page};
+use dac_crews::{Closed, Page};
 use std::marker::Model;
 
 /// What came of the lines of a phase, in their order. Contracts see it as the list.
@@ -170,7 +170,7 @@ impl Drop for ClosedList {
 impl Model for ClosedList {
     ghost use Rattle.std.specs.Prelude.{List};
     ghost use Rattle.std.specs.Coded.{coded_list};
-    ghost use Rattle.dac_run.specs.Journals.{JournalValue};
+    ghost use Rattle.dac_crews.specs.Journals.{JournalValue};
     ghost use Rattle.dac_journal.specs.contracts.closed.Closed as journal_row;
 
     ghost Value = { List JournalValue };

@@ -17,24 +17,23 @@ use crate::report::LiveReport;
 use crate::seats::check_seats;
 use dac_base::NodeId;
 use dac_config::Config;
-use dac_run::{Closed, Gate, MAX_SITES, Outcome, Phase, RunFault, run_sites};
+use dac_crews::{Closed, Gate, MAX_SITES, Outcome, Phase, RunFault, run_sites};
 use std::alloc::Global;
 use std::sync::Wait;
 use std::thread::Threads;
 
-// Refuses journals in which a link carried something else than it was to carry.
+/// Refuses journals in which a link carried something else than it was to carry.
 fn check_links(alloc: Global, phases: usize, closed: &[Closed]) -> Result<(), RunFault>
     requires { length closed.now ≤ MAX_NODES }
     ensures { OnOk result (LinksHold phases closed.now) }
 {
-    match lost_link(alloc, phases, closed) {
-        Ok(None) => Ok(()),
-        Ok(Some((from, to))) => Err(RunFault::LinkLost { from, to }),
-        Err(_) => Err(RunFault::NoMemory),
+    match lost_link(alloc, phases, closed)? {
+        None => Ok(()),
+        Some((from, to)) => Err(RunFault::LinkLost { from, to }),
     }
 }
 
-// Refuses answers that aren't those of the lines, and journals in which a caller's seat has other records.
+/// Refuses answers that aren't those of the lines, and journals in which a caller's seat has other records.
 fn check_callers(
     alloc: Global,
     phases: &[Phase],
@@ -48,15 +47,14 @@ fn check_callers(
     if !are_answered(phases, answers) {
         return Err(mismatch(NodeId(0)));
     }
-    match strange_node(alloc, phases, answers, closed) {
-        Ok(None) => Ok(()),
-        Ok(Some(node)) => Err(mismatch(node)),
-        Err(_) => Err(RunFault::NoMemory),
+    match strange_node(alloc, phases, answers, closed)? {
+        None => Ok(()),
+        Some(node) => Err(mismatch(node)),
     }
 }
 
-// The fault of a run of at most four nodes, which aren't too many. If they were taken for too many, nothing would run, and the
-// first node would leave no page.
+/// The fault of a run of at most four nodes, which aren't too many. If they were taken for too many, nothing would run, and the
+/// first node would leave no page.
 fn fault_of_few(why: RunFault) -> RunFault
     ensures { result ≢ RunFault.TooManyNodes }
 {
@@ -66,7 +64,7 @@ fn fault_of_few(why: RunFault) -> RunFault
     }
 }
 
-// What came of a run, by its journals.
+/// What came of a run, by its journals.
 fn report_of(
     alloc: Global,
     config: &Config,

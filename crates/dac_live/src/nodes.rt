@@ -8,10 +8,10 @@ ghost use Rattle.dac_live.specs.Nodes.{AreNodes, IsFirstOf, PagesHold, IsTrueOf,
 use crate::pages::last_page;
 use dac_base::NodeId;
 use dac_config::Config;
-use dac_run::{Closed, Page, RunFault};
+use dac_crews::{Closed, Page, RunFault};
 use std::alloc::Global;
 
-// The page that was read last of a node, if it is that of the whole journal.
+/// The page that was read last of a node, if it is that of the whole journal.
 fn page_of(
     alloc: Global,
     config: &Config,
@@ -24,14 +24,13 @@ fn page_of(
     ensures history { IfOk result (λ _. IsTrueOf config.now closed.now) }
     ensures named { IfOk result (λ _. IsFirstOf me.0 closed.now) }
 {
-    match last_page(alloc, config, me, closed, read) {
-        Ok(Some(page)) => Ok(page),
-        Ok(None) => Err(RunFault::NoPage { node: me }),
-        Err(_) => Err(RunFault::NoMemory),
+    match last_page(alloc, config, me, closed, read)? {
+        Some(page) => Ok(page),
+        None => Err(RunFault::NoPage { node: me }),
     }
 }
 
-// That the next node is missing, where so many were found.
+/// That the next node is missing, where so many were found.
 fn missing(found: usize, nodes: u8) -> RunFault {
     let node = NodeId(found.min(usize::from(nodes)) as u8);
     RunFault::NoPage { node }
@@ -65,9 +64,7 @@ pub fn last_pages(
     for i in 0..closed.len() {
         let one = &closed[i];
         let page = page_of(alloc, config, NodeId(i as u8), one, &read[i])?;
-        let Ok(()) = all.push(page) else {
-            return Err(RunFault::NoMemory);
-        };
+        all.push(page)?;
     }
     Ok(all)
 }

@@ -5,7 +5,7 @@ ghost use Rattle.dac_config.specs.Table.{node_count};
 ghost use Rattle.dac_live.specs.Lines.{IsLineOf, HasLines};
 
 use dac_config::Config;
-use dac_run::{CALLERS, Line, Phase};
+use dac_crews::{CALLERS, Line, Phase};
 
 /// Whether the line is one of a node below this number, and of a caller from 1 to 4.
 fn is_line(nodes: u8, line: &Line) -> bool

@@ -1,14 +1,14 @@
 //! The last page of a closed journal.
 
 ghost use Rattle.std.specs.Prelude.{◌≡◌, IfOk, IfSome};
-ghost use Rattle.dac_run.specs.Journals.{beginning_of, AreHistory};
-ghost use Rattle.dac_run.specs.Paged.{page_after};
+ghost use Rattle.dac_crews.specs.Journals.{beginning_of, AreHistory};
+ghost use Rattle.dac_crews.specs.Paged.{page_after};
 
 use crate::histories::are_history;
 use crate::same_pages::same_page;
 use dac_base::{NoMemory, NodeId};
 use dac_config::Config;
-use dac_run::{Closed, Page, replay};
+use dac_crews::{Closed, Page, replay};
 use std::alloc::Global;
 
 /// The page that was read, if it is that after all records of the journal, of a node that had no incarnation before it. `None`

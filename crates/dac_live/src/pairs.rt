@@ -2,11 +2,11 @@
 
 ghost use Rattle.std.specs.Prelude.{◌≡◌, ◌≢◌, ◌<◌, ◌≤◌, true, length, IfOk};
 ghost use Rattle.dac_base.specs.declared.limits.TheConstants.{MAX_NODES};
-ghost use Rattle.dac_run.specs.Compared.{Linked};
+ghost use Rattle.dac_crews.specs.Compared.{Linked};
 ghost use Rattle.dac_live.specs.Pairs.{shipper_seat, worker_seat, RowHolds, LinksHold};
 
 use dac_base::{NoMemory, NodeId};
-use dac_run::{Closed, Record, SHIPS_OF_PHASE, are_heard, are_ships, sent_by};
+use dac_crews::{Closed, Record, SHIPS_OF_PHASE, are_heard, are_ships, sent_by};
 use std::alloc::Global;
 
 /// The seat of the shipper to this node.

@@ -6,7 +6,7 @@ ghost use Rattle.dac_live.specs.Pairs.{IsSeat, AreOfSeats, SeatsHold};
 ghost use Rattle.dac_live.specs.Seating.{AreInOrder};
 
 use dac_base::NodeId;
-use dac_run::{CloseFault, Closed, Record, RunFault};
+use dac_crews::{CloseFault, Closed, Record, RunFault};
 
 /// The seats of a node are numbered in order, from 1 on: those of callers 1 to 4, and for each other node, by name, its shipper's
 /// and its link worker's. So nobody shares a seat, and there is no other one.

@@ -1,18 +1,15 @@
-//! Running sites: up to four, each under a name of its own, with all their threads.
+//! Running workers phase by phase: each in a thread of its own.
 //!
-//! A run goes in phases. In a phase the callers with lines, the shippers and the link workers of all sites run at once, each
-//! in a thread of its own, until all have ended; then each link ships and hears once more, while no thread runs.
+//! A [`Worker`] says what it does in a phase, and what in its turn of the round behind it. [`run_phases`] runs all workers of a
+//! phase at once, until all have ended. Then they take their turns, one after another, while no thread runs.
 #![tactic(auto)]
 
-pub use dac_workers::compare::{SHIPS_OF_PHASE, are_heard, are_ships, event_of, sent_by};
-pub use dac_workers::{Answer, CloseFault, Closed, Gate, Page, Record, RunFault, replay};
-pub use hiring::{CALLERS, ROOM};
-pub use phases::{Ask, Line, Outcome, Phase, Seen};
-pub use sites::{MAX_SITES, run_sites};
+pub use either::Either;
+pub use parting::{joined, parted};
+pub use phases::run_phases;
+pub use worker::{Side, Stop, Turn, Worker};
 
-mod endings;
-mod hiring;
+mod either;
+mod parting;
 mod phases;
-mod rounds;
-mod sites;
-mod team;
+mod worker;

@@ -1,54 +1,163 @@
-//! What a run is asked for, and what it reports.
+//! A phase of all workers, and the round behind it.
 
+ghost use Rattle.std.specs.Thread.{IsSend};
+
+use crate::worker::{Side, Stop, Turn, Worker};
 use dac_base::NodeId;
-use dac_messages::Event;
-use dac_workers::{Closed, Page};
+use std::alloc::Global;
+use std::sync::Wait;
+use std::thread;
+use std::thread::{JoinHandle, Scope, Threads};
 
-/// What a caller's line asks for.
+/// A worker in a phase.
 #[derive(Drop)]
-pub enum Ask {
-    /// Its node is asked this.
-    Do(Event),
-    /// The page of its node is read.
-    Read,
+enum Started<W: Worker> {
+    /// It has nothing to do, and no thread.
+    Idle(W),
+    /// It works in a thread.
+    Busy(JoinHandle<Result<W, W::Fault>>),
 }
 
-/// A line of a caller.
-#[derive(Drop)]
-pub struct Line {
-    /// Its node.
-    pub node: NodeId,
-    /// Its number, from 1 to 4.
-    pub caller: u8,
-    /// What it asks for.
-    pub what: Ask,
+/// Starts a worker that has work in the phase.
+fn start<'s, E, W: Worker + 's, R: Threads + Wait + Sync>(
+    scope: &Scope<'s, E>,
+    rt: &'s R,
+    phase: usize,
+    worker: W,
+) -> Result<Started<W>, Stop<W::Fault>> {
+    if !worker.works_in(phase) {
+        return Ok(Started::Idle(worker));
+    }
+    match scope.spawn(move || worker.work(rt, phase)) {
+        Ok(handle) => Ok(Started::Busy(handle)),
+        Err(_) => Err(Stop::NoThread),
+    }
 }
 
-/// What the callers do before the next phase begins.
-#[derive(Drop)]
-pub struct Phase {
-    /// The lines, of each caller in order.
-    pub lines: Vec<Line>,
+/// Starts all workers, in order.
+fn start_all<'s, E, W: Worker + 's, R: Threads + Wait + Sync>(
+    scope: &Scope<'s, E>,
+    rt: &'s R,
+    alloc: Global,
+    phase: usize,
+    workers: Vec<W>,
+) -> Result<Vec<Started<W>>, Stop<W::Fault>> {
+    let mut all = Vec::new(alloc);
+    for worker in workers {
+        let started = start(scope, rt, phase, worker)?;
+        all.push(started)?;
+    }
+    Ok(all)
 }
 
-/// What a caller of a node read: of each of its lines that reads, whether the page was fresh.
-#[derive(Drop)]
-pub struct Seen {
-    /// The node.
-    pub node: NodeId,
-    /// The caller, by its number.
-    pub caller: u16,
-    /// Of each of its lines that reads.
-    pub fresh: Vec<bool>,
+/// Waits for a worker.
+fn ended<W: Worker, R: Threads + Wait>(rt: &R, started: Started<W>) -> Result<W, W::Fault> {
+    match started {
+        Started::Idle(worker) => Ok(worker),
+        Started::Busy(handle) => handle.join(rt),
+    }
 }
 
-/// What came of the phases: the journals, the final pages, and what the callers read.
-#[derive(Drop)]
-pub struct Outcome {
-    /// The journal of each node, by name.
-    pub closed: Vec<Closed>,
-    /// The last page of each node, by name.
-    pub pages: Vec<Page>,
-    /// What each caller read.
-    pub seen: Vec<Seen>,
+/// Waits for all workers, in order. Of several faults the last one is told.
+fn join_all<W: Worker, R: Threads + Wait>(
+    rt: &R,
+    alloc: Global,
+    all: Vec<Started<W>>,
+) -> Result<Vec<W>, Stop<W::Fault>> {
+    let mut workers = Vec::new(alloc);
+    let mut stop = None;
+    for started in all {
+        match ended(rt, started) {
+            Ok(worker) => match workers.push(worker) {
+                Ok(()) => {}
+                Err(_) => stop = Some(Stop::NoMemory),
+            },
+            Err(fault) => stop = Some(Stop::Fault(fault)),
+        }
+    }
+    match stop {
+        Some(stop) => Err(stop),
+        None => Ok(workers),
+    }
+}
+
+/// A phase: all workers that have work run at once, each in a thread of its own, until all have ended.
+fn run_phase<W: Worker, R: Threads + Wait + Sync>(
+    rt: &R,
+    alloc: Global,
+    phase: usize,
+    workers: Vec<W>,
+) -> Result<Vec<W>, Stop<W::Fault>> {
+    thread::scope(
+        thread::scope_env(),
+        rt,
+        |scope|
+            requires { IsSend W.row }
+        {
+            let all = start_all(scope, rt, alloc, phase, workers)?;
+            join_all(rt, alloc, all)
+        },
+    )
+}
+
+/// The workers whose turn it is take it.
+fn take<W: Worker, R: Wait>(
+    rt: &R,
+    workers: &mut Vec<W>,
+    turn: Turn,
+) -> Result<(), Stop<W::Fault>> {
+    for worker in workers {
+        match worker.take_turn(rt, turn) {
+            Ok(()) => {}
+            Err(fault) => return Err(Stop::Fault(fault)),
+        }
+    }
+    Ok(())
+}
+
+/// The turns of a link: it ships, and then it hears.
+fn take_both<W: Worker, R: Wait>(
+    rt: &R,
+    workers: &mut Vec<W>,
+    from: NodeId,
+    to: NodeId,
+) -> Result<(), Stop<W::Fault>> {
+    let side = Side::Ship;
+    take(rt, workers, Turn { from, to, side })?;
+    let side = Side::Hear;
+    take(rt, workers, Turn { from, to, side })
+}
+
+/// The round behind a phase: the links of all ordered pairs of nodes, by name.
+fn last_round<W: Worker, R: Wait>(
+    rt: &R,
+    nodes: u8,
+    workers: &mut Vec<W>,
+) -> Result<(), Stop<W::Fault>> {
+    for from in 0..nodes {
+        for to in 0..nodes {
+            if from != to {
+                take_both(rt, workers, NodeId(from), NodeId(to))?;
+            }
+        }
+    }
+    Ok(())
+}
+
+/// Runs so many phases, each with the round behind it. The workers come back in order.
+///
+/// `NoThread` comes where a thread can't be made, and `NoMemory` where the list of workers has no room. `Fault` is that of a worker.
+pub fn run_phases<W: Worker, R: Threads + Wait + Sync>(
+    rt: &R,
+    alloc: Global,
+    nodes: u8,
+    phases: usize,
+    workers: Vec<W>,
+) -> Result<Vec<W>, Stop<W::Fault>> {
+    let mut workers = workers;
+    for phase in 0..phases {
+        workers = run_phase(rt, alloc, phase, workers)?;
+        last_round(rt, nodes, &mut workers)?;
+    }
+    Ok(workers)
 }

@@ -1,2 +1,3 @@
 mod Found
+mod Readings
 mod Shipping

@@ -1,6 +1,7 @@
 pub mod Compared
 pub mod Letters
 pub mod Links
+pub mod Readings
 pub mod RunFaults
 pub use Rattle.dac_sites.specs.Journals
 pub use Rattle.dac_sites.specs.Paged

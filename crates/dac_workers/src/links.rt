@@ -26,6 +26,32 @@ pub trait Gate: Sync {
     fn after(&self, from: NodeId, to: NodeId, k: u64);
 }
 
+/// The same, where threads needn't share it.
+pub trait Watch {
+    /// Before the hearing.
+    fn before(&self, from: NodeId, to: NodeId, k: u64);
+
+    /// After it.
+    fn after(&self, from: NodeId, to: NodeId, k: u64);
+}
+
+/// A gate that stands round hearings.
+#[derive(Drop)]
+pub struct Gated<'a, G: Gate> {
+    /// The gate.
+    pub gate: &'a G,
+}
+
+impl<G: Gate> Watch for Gated<'_, G> {
+    fn before(&self, from: NodeId, to: NodeId, k: u64) {
+        self.gate.before(from, to, k);
+    }
+
+    fn after(&self, from: NodeId, to: NodeId, k: u64) {
+        self.gate.after(from, to, k);
+    }
+}
+
 /// How often a shipper ships in a phase.
 pub const SHIPS: u64 = 4;
 
@@ -179,6 +205,44 @@ fn hear_once<L: SiteName, R: Wait>(
 /// `LinkLost` of these two nodes comes where no letter can be taken, or one isn't read as a message. `Site` of the node that hears
 /// comes where its journal is full or a call has no memory, and `NoMemory` where a message has none. No other fault comes. What
 /// was taken and heard before it stays so.
+pub fn hear_by<L: SiteName, H: Watch, R: Wait>(
+    rt: &R,
+    alloc: Global,
+    config: &Config,
+    from: NodeId,
+    to: NodeId,
+    site: &Site<L>,
+    seat: &mut Seat<L>,
+    link: &mut LinkReceiver,
+    watch: &H,
+) -> Result<(), RunFault>
+    ensures number { seat.new.number ≡ seat.old.number }
+    ensures link { receives_on link.new.end ≡ receives_on link.old.end }
+    ensures ok { OnOk result (Hears config.now seat.old.calls seat.new.calls
+        (view link.old.pass).taken (view link.new.pass).taken (None ∷ [])) }
+    ensures err { IfErr result (IsLinkFault from to to) }
+{
+    let ends = Ends { from, to, own: to };
+    for _ in rt.forever() {
+        let Ok(letter) = link.take(rt) else {
+            return Err(ends.loss());
+        };
+        match letter.into_bytes() {
+            Some(bytes) => {
+                let message = message_in(alloc, config, ends, &bytes)?;
+                let k = (seat.calls().len() as u64).saturating_add(1);
+                watch.before(from, to, k);
+                hear_once(rt, ends, site, seat, message)?;
+                watch.after(from, to, k);
+            }
+            None => return Ok(()),
+        }
+    }
+    unreachable!()
+}
+
+/// Hears the message of each letter, in order, until the end letter, round each hearing the gate. The faults are those of
+/// [`hear_by`].
 pub fn hear_link<L: SiteName, G: Gate, R: Wait>(
     rt: &R,
     alloc: Global,
@@ -196,21 +260,15 @@ pub fn hear_link<L: SiteName, G: Gate, R: Wait>(
         (view link.old.pass).taken (view link.new.pass).taken (None ∷ [])) }
     ensures err { IfErr result (IsLinkFault from to to) }
 {
-    let ends = Ends { from, to, own: to };
-    for _ in rt.forever() {
-        let Ok(letter) = link.take(rt) else {
-            return Err(ends.loss());
-        };
-        match letter.into_bytes() {
-            Some(bytes) => {
-                let message = message_in(alloc, config, ends, &bytes)?;
-                let k = (seat.calls().len() as u64).saturating_add(1);
-                gate.before(from, to, k);
-                hear_once(rt, ends, site, seat, message)?;
-                gate.after(from, to, k);
-            }
-            None => return Ok(()),
-        }
-    }
-    unreachable!()
+    hear_by(
+        rt,
+        alloc,
+        config,
+        from,
+        to,
+        site,
+        seat,
+        link,
+        &Gated { gate },
+    )
 }

@@ -8,8 +8,8 @@ use dac_live::laws::{add_record, same_calls};
 use dac_live::links::{LinkReceiver, LinkSender, hear_link, link, ship_link};
 use dac_live::{
     Ask, CloseFault, Closed, Gate, Line, LineAnswer, LiveFault, LiveReport, OpenFault, Page,
-    PageReader, Phase, Receipt, Record, RunFault, Seat, Site, SiteBlank, SiteName, are_runnable,
-    blank_site, open_site, run_live,
+    PageReader, Phase, Reading, Receipt, Record, RunFault, Seat, Site, SiteBlank, SiteName,
+    are_runnable, blank_site, fresh_page, open_site, run_live,
 };
 use dac_weave::{WeaveFault, weave};
 use std::alloc::Global;
@@ -29,7 +29,7 @@ impl Gate for Open {
     fn after(&self, _from: NodeId, _to: NodeId, _k: u64) {}
 }
 
-/// The place of the page that is read behind a boot.
+/// The place of the page that is read behind a boot. It is fresh if it is read again.
 fn read_at<L: SiteName, R: Wait>(
     rt: &R,
     site: &Site<L>,
@@ -40,7 +40,11 @@ fn read_at<L: SiteName, R: Wait>(
     let mut receipt = answer.ok()?;
     reader.learn(&mut receipt);
     let page: Page = reader.read()?;
-    Some(page.place)
+    let again: Reading = fresh_page(&mut Some(receipt), reader);
+    match again {
+        Reading::Fresh(_) => Some(page.place),
+        Reading::Stale(_) => None,
+    }
 }
 
 /// What the two workers of links say whose other ends are gone.

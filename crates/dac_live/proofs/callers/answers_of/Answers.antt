@@ -1,5 +1,5 @@
 use Rattle.std.proofs.Common.{◌++◌, ◌∷◌, [], take, Some, None, sym, ap, ◌∙◌, append-nil}
-use Rattle.dac_run.specs.Compared.{found}
+use Rattle.dac_crews.specs.Compared.{found}
 use Rattle.dac_live.specs.Asked.{answer_one}
 use Rattle.dac_live.proofs.Found.{found_more}
 use Rattle.dac_live.proofs.callers.answers_of.Goals as goal

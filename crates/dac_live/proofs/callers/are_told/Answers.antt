@@ -1,7 +1,7 @@
 use Rattle.std.proofs.Common.{◌≡◌, ◌++◌, ◌∷◌, [], ◌<◌, length, take, Some, None, Result, Bor, sym, ◌∙◌, arith, append-nil}
 use Rattle.dac_messages.specs.declared.reply.Reply.{Reply}
 use Rattle.dac_events.specs.declared.refusal.Refusal.{Refusal}
-use Rattle.dac_run.specs.Compared.{found}
+use Rattle.dac_crews.specs.Compared.{found}
 use Rattle.dac_live.specs.Asked.{answer_one}
 use Rattle.dac_live.proofs.Found.{found_more, taken_more}
 use Rattle.dac_live.proofs.callers.are_told.Goals as goal

@@ -1,7 +1,7 @@
 use Rattle.std.proofs.Common.{List, subst, take_all}
 use Rattle.dac_journal.specs.Journals.{beginning_of, EndsAt}
 use Rattle.dac_journal.specs.laws.Going.{is_history}
-use Rattle.dac_run.specs.Record.{Record}
+use Rattle.dac_crews.specs.Record.{Record}
 use Rattle.dac_live.proofs.Repeated.{ends_on, ends_off}
 use Rattle.dac_live.proofs.histories.are_history.Goals as goal
 

@@ -1,6 +1,6 @@
 use Rattle.std.proofs.Common.{List, subst, arith}
-use Rattle.dac_run.specs.declared.phases.Line.{Line}
-use Rattle.dac_run.specs.declared.phases.Phase.{Phase}
+use Rattle.dac_crews.specs.declared.phases.Line.{Line}
+use Rattle.dac_crews.specs.declared.phases.Phase.{Phase}
 use Rattle.dac_live.specs.declared.report.LineAnswer.{LineAnswer}
 use Rattle.dac_live.specs.Lines.{LinesAnswered}
 use Rattle.dac_live.proofs.Spoken.{all_zip_next}

@@ -1,5 +1,5 @@
 use Rattle.std.proofs.Common.{arith}
-use Rattle.dac_run.specs.declared.phases.Line.{Line}
+use Rattle.dac_crews.specs.declared.phases.Line.{Line}
 use Rattle.dac_live.specs.declared.report.LineAnswer.{LineAnswer}
 use Rattle.dac_live.specs.Lines.{Answers}
 use Rattle.dac_live.proofs.Spoken.{all_zip_next}

@@ -2,7 +2,7 @@ use Rattle.std.proofs.Common.{◌≡◌, ◌+◌, ◌++◌, ◌∷◌, [], ◌<�
 use Rattle.std.proofs.lemmas.List.{map_push}
 use Rattle.dac_messages.specs.declared.reply.Reply.{Reply}
 use Rattle.dac_events.specs.declared.refusal.Refusal.{Refusal}
-use Rattle.dac_run.specs.Compared.{found}
+use Rattle.dac_crews.specs.Compared.{found}
 use Rattle.dac_live.specs.Lines.{told_one}
 use Rattle.dac_live.proofs.Spoken.{found_on, zip_within, zip_at, zip_all}
 use Rattle.dac_live.proofs.lines.with_answers.Goals as goal

@@ -1,7 +1,7 @@
 use Rattle.std.proofs.Common.{◌≡◌, ◌+◌, ◌++◌, ◌∷◌, [], take, map, Option, Some, None, Bor, sym, ap, ◌∙◌, append-nil}
 use Rattle.std.proofs.lemmas.List.{map_push}
 use Rattle.dac_messages.specs.declared.event.Event.{Event}
-use Rattle.dac_run.specs.Compared.{found}
+use Rattle.dac_crews.specs.Compared.{found}
 use Rattle.dac_live.specs.Lines.{ask_one}
 use Rattle.dac_live.proofs.Spoken.{found_on}
 use Rattle.dac_live.proofs.lines.with_events.Goals as goal

@@ -2,7 +2,7 @@ use Rattle.std.proofs.Common.{◌≡◌, ℕ, [], subst, arith}
 use Rattle.std.proofs.lemmas.Grind.{common_steps}
 use Rattle.std.proofs.lemmas.List.{get_or_read}
 use borrow.Author.Count.{below_more}
-use Rattle.dac_run.specs.Journals.{nowhere}
+use Rattle.dac_crews.specs.Journals.{nowhere}
 use Rattle.dac_live.specs.Nodes.{IsTrueOf, journal_at}
 use Rattle.dac_live.proofs.nodes.last_pages.Goals as goal
 

@@ -1,5 +1,5 @@
 use Rattle.std.proofs.Common.{ℕ, ◌<◌, ◌≢◌}
-use Rattle.dac_run.specs.Compared.{Linked}
+use Rattle.dac_crews.specs.Compared.{Linked}
 use Rattle.dac_live.specs.Pairs.{shipper_seat, worker_seat, records_at}
 use Rattle.dac_live.proofs.pairs.lost_to.Given as goal
 

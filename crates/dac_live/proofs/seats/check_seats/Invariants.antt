@@ -1,5 +1,5 @@
 use Rattle.std.proofs.Common.{All, length, take}
-use Rattle.dac_run.specs.Journals.{JournalValue}
+use Rattle.dac_crews.specs.Journals.{JournalValue}
 use Rattle.dac_live.specs.Pairs.{AreOfSeats}
 use Rattle.dac_live.proofs.seats.check_seats.Given as goal
 

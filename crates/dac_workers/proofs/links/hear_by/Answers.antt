@@ -2,7 +2,7 @@ use Rattle.std.proofs.Common.{◌≡◌, ◌++◌, ◌∷◌, [], List, Option, 
 use Rattle.crossbeam_channel.specs.Claims.{view}
 use Rattle.dac_wire.specs.Decoding.{packet_at}
 use Rattle.dac_workers.proofs.Shipping.{hears_none, hears_more}
-use Rattle.dac_workers.proofs.links.hear_link.Goals as goal
+use Rattle.dac_workers.proofs.links.hear_by.Goals as goal
 
 pub loop-init : goal.loop-init
 loop-init g c = record { number = refl; same = refl; hears = hears_none _ _ _ }

@@ -1,4 +1,4 @@
-use Rattle.dac_run.proofs.sites.at_first.Given as goal
+use Rattle.dac_crews.proofs.sites.at_first.Given as goal
 
 abbrev pub ghosts-with_first-L-Ledger : goal.ghosts-with_first-L-Ledger
 ghosts-with_first-L-Ledger g a = record { name = a.blank.blank.name; parts = a.blank.blank.parts }

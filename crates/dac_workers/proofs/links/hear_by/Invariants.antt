@@ -2,7 +2,7 @@ use Rattle.std.proofs.Common.{◌≡◌, []}
 use Rattle.crossbeam_channel.specs.Claims.{view}
 use Rattle.crossbeam_channel.specs.Ends.{receives_on}
 use Rattle.dac_workers.specs.Links.{Hears}
-use Rattle.dac_workers.proofs.links.hear_link.Given as goal
+use Rattle.dac_workers.proofs.links.hear_by.Given as goal
 
 abbrev pub invariant-loop : goal.invariant-loop
 invariant-loop g l = record {

@@ -1,0 +1,133 @@
+//! How sites end.
+
+ghost use Rattle.std.specs.Prelude.{◌≡◌};
+
+use crate::phases::{Outcome, Seen};
+use crate::posts::Shared;
+use crate::tasks::Task;
+use dac_base::NodeId;
+use dac_run::{Either, parted};
+use dac_workers::{Closed, Page, PageReader, RunFault, Seat, Site, SiteName, Watch};
+use std::alloc::Global;
+use std::sync::Wait;
+
+/// What the run leaves to a site, and to those that were opened before it.
+#[derive(Drop)]
+pub(crate) struct Back<L: SiteName, W> {
+    /// The site's seats.
+    pub(crate) seats: Vec<Seat<L>>,
+    /// The workers of the others.
+    pub(crate) rest: Vec<W>,
+    pub(crate) outcome: Outcome,
+}
+
+/// A seat goes behind the list, and what its caller read behind the other one.
+fn put_back<L: SiteName, H: Watch>(
+    node: NodeId,
+    task: Task<'_, L, H>,
+    seats: &mut Vec<Seat<L>>,
+    all: &mut Vec<Seen>,
+) -> Result<(), RunFault> {
+    let (seat, fresh) = task.into_parts();
+    let caller = seat.number();
+    seats.push(seat)?;
+    if let Some(fresh) = fresh {
+        all.push(Seen {
+            node,
+            caller,
+            fresh,
+        })?;
+    }
+    Ok(())
+}
+
+/// All seats of the site's tasks, which stand behind the other workers. What its callers read goes behind the outcome's list.
+pub(crate) fn back_of<L: SiteName, H: Watch, W: Drop>(
+    alloc: Global,
+    node: NodeId,
+    workers: Vec<Either<W, Task<'_, L, H>>>,
+    mut outcome: Outcome,
+) -> Result<Back<L, W>, RunFault> {
+    let (rest, tasks) = parted(alloc, workers)?;
+    let mut seats = Vec::new(alloc);
+    for task in tasks {
+        put_back(node, task, &mut seats, &mut outcome.seen)?;
+    }
+    Ok(Back {
+        seats,
+        rest,
+        outcome,
+    })
+}
+
+/// Ends a site whose tasks are lost, or that stands for no node.
+fn shut<L: SiteName, R: Wait>(rt: &R, alloc: Global, site: Site<L>)
+    requires { L.seats ≡ L.parts }
+{
+    let _ = site.close(rt, Vec::new(alloc));
+}
+
+/// The page that is read last.
+fn last_page<L: SiteName>(node: NodeId, last: Option<PageReader<L>>) -> Result<Page, RunFault> {
+    match last {
+        Some(mut reader) => match reader.read() {
+            Some(page) => Ok(page),
+            None => Err(RunFault::NoPage { node }),
+        },
+        None => Err(RunFault::NoPage { node }),
+    }
+}
+
+/// Closes the site of a node: its journal and its final page go behind the lists.
+fn close<L: SiteName, R: Wait>(
+    rt: &R,
+    node: NodeId,
+    site: Site<L>,
+    seats: Vec<Seat<L>>,
+    last: Option<PageReader<L>>,
+    outcome: &mut Outcome,
+) -> Result<(), RunFault>
+    requires { L.seats ≡ L.parts }
+{
+    let page = last_page(node, last);
+    let closed: Closed = match site.close(rt, seats) {
+        Ok(closed) => closed,
+        Err(why) => return Err(RunFault::Close { node, why }),
+    };
+    outcome.closed.push(closed)?;
+    outcome.pages.push(page?)?;
+    Ok(())
+}
+
+/// Ends the site of a node, or one that stands for none, when the run has left it.
+pub(crate) fn end_site<L: SiteName, W: Drop, H: Watch, R: Wait>(
+    rt: &R,
+    shared: &Shared<'_, H>,
+    node: NodeId,
+    site: Site<L>,
+    last: Option<PageReader<L>>,
+    back: Result<Back<L, W>, RunFault>,
+) -> Result<(Vec<W>, Outcome), RunFault>
+    requires { L.seats ≡ L.parts }
+{
+    match back {
+        Ok(
+            Back {
+                seats,
+                rest,
+                mut outcome,
+            },
+        ) => {
+            if node.0 >= shared.nodes {
+                shut(rt, shared.alloc, site);
+            } else {
+                close(rt, node, site, seats, last, &mut outcome)?;
+            }
+            Ok((rest, outcome))
+        }
+        Err(fault) => {
+            shut(rt, shared.alloc, site);
+            Err(fault)
+        }
+    }
+}

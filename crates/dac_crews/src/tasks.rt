@@ -1,0 +1,241 @@
+//! What the threads of a site do: its callers, its shippers and its link workers.
+
+use crate::phases::{Ask, Line};
+use crate::posts::Post;
+use dac_base::NodeId;
+use dac_links::{LinkReceiver, LinkSender};
+use dac_messages::Event;
+use dac_run::{Side, Turn, Worker};
+use dac_workers::{
+    LiveFault, PageReader, Reading, Receipt, RunFault, Seat, SiteName, Watch, fresh_page, hear_by,
+    ship_last, ship_link,
+};
+use std::sync::Wait;
+
+/// A caller of a site, with what it saw.
+#[derive(Drop)]
+pub(crate) struct Caller<'a, L: SiteName> {
+    pub(crate) post: &'a Post<'a, L>,
+    pub(crate) seat: Seat<L>,
+    pub(crate) reader: PageReader<L>,
+    /// The receipt that it was given last.
+    pub(crate) last: Option<Receipt<L>>,
+    /// Of each of its lines that reads, whether the page was fresh.
+    pub(crate) fresh: Vec<bool>,
+}
+
+impl<L: SiteName> Caller<'_, L> {
+    /// Whether the line is one of its lines.
+    fn is_own(&self, line: &Line) -> bool {
+        line.node == self.post.node && u16::from(line.caller) == self.seat.number()
+    }
+
+    /// Whether it has lines in the phase.
+    fn has_lines(&self, phase: usize) -> bool {
+        self.post
+            .lines_in(phase)
+            .iter()
+            .any(|line| self.is_own(line))
+    }
+
+    /// Asks its node. A refusal of the node is an answer too.
+    fn ask<R: Wait>(&mut self, rt: &R, event: Event) -> Result<(), RunFault> {
+        match self.post.site.call(rt, &mut self.seat, event) {
+            Ok(receipt) => {
+                self.last = Some(receipt);
+                Ok(())
+            }
+            Err(LiveFault::Refused { place: _, why: _ }) => Ok(()),
+            Err(why) => Err(RunFault::Site {
+                node: self.post.node,
+                why,
+            }),
+        }
+    }
+
+    /// Reads the page of its node, and notes whether it was fresh.
+    fn read(&mut self) -> Result<(), RunFault> {
+        let fresh = match fresh_page(&mut self.last, &mut self.reader) {
+            Reading::Fresh(_) => true,
+            Reading::Stale(_) => false,
+        };
+        self.fresh.push(fresh)?;
+        Ok(())
+    }
+
+    /// One of its lines.
+    fn do_line<R: Wait>(&mut self, rt: &R, what: &Ask) -> Result<(), RunFault> {
+        match what {
+            Ask::Do(event) => {
+                let event = event.copy()?;
+                self.ask(rt, event)
+            }
+            Ask::Read => self.read(),
+        }
+    }
+
+    /// Its lines in a phase, in order.
+    fn do_lines<R: Wait>(&mut self, rt: &R, phase: usize) -> Result<(), RunFault> {
+        let post = self.post;
+        for line in post.lines_in(phase) {
+            if self.is_own(line) {
+                self.do_line(rt, &line.what)?;
+            }
+        }
+        Ok(())
+    }
+}
+
+/// A shipper of a site.
+#[derive(Drop)]
+pub(crate) struct Shipper<'a, L: SiteName> {
+    pub(crate) post: &'a Post<'a, L>,
+    pub(crate) to: NodeId,
+    pub(crate) seat: Seat<L>,
+    pub(crate) out: LinkSender,
+}
+
+impl<L: SiteName> Shipper<'_, L> {
+    /// Its ships in a phase.
+    fn ship<R: Wait>(&mut self, rt: &R) -> Result<(), RunFault> {
+        let post = self.post;
+        ship_link(
+            rt,
+            post.alloc,
+            post.config,
+            post.node,
+            self.to,
+            post.site,
+            &mut self.seat,
+            &mut self.out,
+        )
+    }
+
+    /// In its turn behind a phase: it ships once more.
+    fn ship_again<R: Wait>(&mut self, rt: &R) -> Result<(), RunFault> {
+        let post = self.post;
+        ship_last(
+            rt,
+            post.alloc,
+            post.config,
+            post.node,
+            self.to,
+            post.site,
+            &mut self.seat,
+            &mut self.out,
+        )
+    }
+
+    /// Whether it has this turn.
+    fn has(&self, turn: Turn) -> bool {
+        turn.side == Side::Ship && turn.from == self.post.node && turn.to == self.to
+    }
+}
+
+/// A link worker of a site.
+#[derive(Drop)]
+pub(crate) struct Listener<'a, L: SiteName, H: Watch> {
+    pub(crate) post: &'a Post<'a, L>,
+    pub(crate) watch: &'a H,
+    pub(crate) from: NodeId,
+    pub(crate) seat: Seat<L>,
+    pub(crate) link: LinkReceiver,
+}
+
+impl<L: SiteName, H: Watch> Listener<'_, L, H> {
+    /// Hears until the end letter.
+    fn hear<R: Wait>(&mut self, rt: &R) -> Result<(), RunFault> {
+        let post = self.post;
+        hear_by(
+            rt,
+            post.alloc,
+            post.config,
+            self.from,
+            post.node,
+            post.site,
+            &mut self.seat,
+            &mut self.link,
+            self.watch,
+        )
+    }
+
+    /// Whether it has this turn.
+    fn has(&self, turn: Turn) -> bool {
+        turn.side == Side::Hear && turn.from == self.from && turn.to == self.post.node
+    }
+}
+
+/// What a thread of a site does. At a fault its end of a link is gone, and so the link's other thread ends.
+#[derive(Drop)]
+pub(crate) enum Task<'a, L: SiteName, H: Watch> {
+    /// It calls.
+    Call(Caller<'a, L>),
+    /// It ships.
+    Ship(Shipper<'a, L>),
+    /// It hears.
+    Hear(Listener<'a, L, H>),
+}
+
+impl<L: SiteName, H: Watch> Task<'_, L, H> {
+    /// Its work in a phase.
+    fn do_work<R: Wait>(&mut self, rt: &R, phase: usize) -> Result<(), RunFault> {
+        match self {
+            Task::Call(caller) => caller.do_lines(rt, phase),
+            Task::Ship(shipper) => shipper.ship(rt),
+            Task::Hear(listener) => listener.hear(rt),
+        }
+    }
+
+    /// Its seat, and of each of its lines that reads, if it is a caller, whether the page was fresh.
+    pub(crate) fn into_parts(self) -> (Seat<L>, Option<Vec<bool>>) {
+        match self {
+            Task::Call(caller) => (caller.seat, Some(caller.fresh)),
+            Task::Ship(shipper) => (shipper.seat, None),
+            Task::Hear(listener) => (listener.seat, None),
+        }
+    }
+}
+
+impl<L: SiteName + Send + Sync, H: Watch + Sync> Worker for Task<'_, L, H> {
+    type Fault = RunFault;
+
+    fn works_in(&self, phase: usize) -> bool {
+        match self {
+            Task::Call(caller) => caller.has_lines(phase),
+            _ => true,
+        }
+    }
+
+    fn work<R: Wait>(mut self, rt: &R, phase: usize) -> Result<Self, RunFault> {
+        self.do_work(rt, phase)?;
+        Ok(self)
+    }
+
+    fn take_turn<R: Wait>(&mut self, rt: &R, turn: Turn) -> Result<(), RunFault> {
+        match self {
+            Task::Ship(shipper) if shipper.has(turn) => shipper.ship_again(rt),
+            Task::Hear(listener) if listener.has(turn) => listener.hear(rt),
+            _ => Ok(()),
+        }
+    }
+}
+
+/// Nobody, who has no work and no turn. The last list of workers has no others.
+#[derive(Drop)]
+pub(crate) struct Nobody;
+
+impl Worker for Nobody {
+    type Fault = RunFault;
+
+    fn works_in(&self, _phase: usize) -> bool {
+        false
+    }
+
+    fn work<R: Wait>(self, _rt: &R, _phase: usize) -> Result<Self, RunFault> {
+        Ok(self)
+    }
+
+    fn take_turn<R: Wait>(&mut self, _rt: &R, _turn: Turn) -> Result<(), RunFault> {
+        Ok(())
+    }
+}

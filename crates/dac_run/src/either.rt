@@ -1,0 +1,44 @@
+//! Workers of two kinds in one list.
+
+use crate::worker::{Turn, Worker};
+use std::sync::Wait;
+
+/// A worker of one kind or of another.
+#[derive(Drop)]
+pub enum Either<W, V> {
+    /// Of the one.
+    One(W),
+    /// Of the other.
+    Other(V),
+}
+
+impl<W: Worker, V: Worker<Fault = W::Fault>> Worker for Either<W, V> {
+    type Fault = W::Fault;
+
+    fn works_in(&self, phase: usize) -> bool {
+        match self {
+            Either::One(one) => one.works_in(phase),
+            Either::Other(other) => other.works_in(phase),
+        }
+    }
+
+    fn work<R: Wait>(self, rt: &R, phase: usize) -> Result<Self, W::Fault> {
+        match self {
+            Either::One(one) => match one.work(rt, phase) {
+                Ok(one) => Ok(Either::One(one)),
+                Err(fault) => Err(fault),
+            },
+            Either::Other(other) => match other.work(rt, phase) {
+                Ok(other) => Ok(Either::Other(other)),
+                Err(fault) => Err(fault),
+            },
+        }
+    }
+
+    fn take_turn<R: Wait>(&mut self, rt: &R, turn: Turn) -> Result<(), W::Fault> {
+        match self {
+            Either::One(one) => one.take_turn(rt, turn),
+            Either::Other(other) => other.take_turn(rt, turn),
+        }
+    }
+}
