@@ -8,7 +8,6 @@ pub mod Counters
 pub mod Numbers
 pub mod Writing
 pub mod Keeping
-pub mod Dropping
 pub mod Effect
 pub mod Shipping
 pub mod Again
