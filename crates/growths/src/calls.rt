@@ -181,12 +181,14 @@ pub const CALLS: &[(&str, Call)] = &[
     ("Node::step:down", Call::Step(Happens::Down)),
     ("Node::step:takeover", Call::Step(Happens::Takeover)),
     ("Node::step:tick", Call::Step(Happens::Tick)),
+    ("Node::step:still-tick", Call::Step(Happens::StillTick)),
     ("Node::step:ship-whole", Call::Step(Happens::ShipWhole)),
     (
         "Node::step:ship-interval",
         Call::Step(Happens::ShipInterval),
     ),
     ("Node::step:ship-nothing", Call::Step(Happens::ShipNothing)),
+    ("Node::step:ship-again", Call::Step(Happens::ShipAgain)),
     ("Node::step:hear-whole", Call::Step(Happens::HearWhole)),
     (
         "Node::step:hear-interval",
@@ -240,6 +242,7 @@ pub const CALLS: &[(&str, Call)] = &[
     ("World::step:start", Call::World(OfWorld::Start)),
     ("World::step:tick", Call::World(OfWorld::Tick)),
     ("World::step:ship", Call::World(OfWorld::Ship)),
+    ("World::step:ship-equal", Call::World(OfWorld::ShipEqual)),
     ("World::step:deliver", Call::World(OfWorld::Deliver)),
     ("World::step:hand", Call::World(OfWorld::Hand)),
     ("weave", Call::Closed(OfClosed::Weave)),

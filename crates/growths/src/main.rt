@@ -34,13 +34,12 @@ fn word(text: &[u8]) -> (&[u8], &[u8]) {
     (text, &text[text.len()..])
 }
 
-/// Prints what came of a try, behind the call's name and the colon.
+/// Prints what came of a try, behind the word that says it.
 fn tell<T: Print>(rt: &T, came: Came) {
     match came {
         Came::SetUp => println!(rt; ": set-up").ok(),
-        Came::Well(number) => println!(rt; "well {number}").ok(),
-        Came::Refused(number) => println!(rt; "refused {number}").ok(),
-        Came::Wrong => println!(rt; "wrong").ok(),
+        Came::Well(number) | Came::Refused(number) => println!(rt; "{number}").ok(),
+        Came::Wrong => println!(rt; "").ok(),
     };
 }
 

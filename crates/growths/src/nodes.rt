@@ -1,12 +1,16 @@
 //! Steps of a node, and calls of a journal.
+use dac_base::NodeId;
 use dac_config::Config;
 use dac_events::{Command, Refusal};
 use dac_journal::{Journal, Node};
 use dac_lattice::Lattice;
 use dac_messages::{Body, Event, Reply};
 use std::alloc::Global;
-use tried_calls::sample::{APP, Does, ME, OTHER, config, meaning, message, operation};
+use tried_calls::sample::{APP, Does, ME, OTHER, config, meaning, message, operation, origin};
 use tried_calls::trial::{Bench, Said};
+
+/// The node that neither is asked nor tells much.
+pub const THIRD: NodeId = NodeId(2);
 
 /// What happens at the node.
 #[derive(Clone, Copy, Debug, PartialEq, Eq)]
@@ -19,9 +23,12 @@ pub enum Happens {
     Down,
     Takeover,
     Tick,
+    /// A tick that makes a board: it is the eighth one since the state changed.
+    StillTick,
     ShipWhole,
     ShipInterval,
     ShipNothing,
+    ShipAgain,
     HearWhole,
     HearInterval,
     HearNothing,
@@ -51,10 +58,11 @@ fn event(alloc: Global, happens: Happens) -> Option<Event> {
         }),
         Happens::Down => command(Command::Down { node: OTHER }),
         Happens::Takeover => command(Command::Takeover { app: APP }),
-        Happens::Tick => Some(Event::Tick { now: 9 }),
+        Happens::Tick | Happens::StillTick => Some(Event::Tick { now: 9 }),
         Happens::ShipWhole | Happens::ShipInterval | Happens::ShipNothing => {
             Some(Event::Ship { to: OTHER })
         }
+        Happens::ShipAgain => Some(Event::Ship { to: THIRD }),
         Happens::Crash => Some(Event::Crash),
         _ => what_comes(alloc, happens),
     }
@@ -94,6 +102,27 @@ fn before(alloc: Global, happens: Happens) -> Option<Option<Event>> {
     }
 }
 
+/// What is to come last before an interval is shipped again: both other nodes acknowledged the first delta alone, and to one
+/// of them the interval was shipped.
+fn push_shipped(alloc: Global, events: &mut Vec<Event>) -> Option<()> {
+    let mut sent = message(Body::Nothing, 1);
+    sent.from = origin(THIRD);
+    let up = Event::HearOp(operation(alloc, THIRD, Does::Up)?);
+    events.push(up).ok()?;
+    events.push(Event::Hear(sent)).ok()?;
+    events.push(Event::Hear(message(Body::Nothing, 1))).ok()?;
+    events.push(Event::Ship { to: OTHER }).ok()?;
+    Some(())
+}
+
+/// What is to come last before a tick that makes a board: ticks, of which the first one claims.
+fn push_ticks(events: &mut Vec<Event>) -> Option<()> {
+    for now in 0..8 {
+        events.push(Event::Tick { now }).ok()?;
+    }
+    Some(())
+}
+
 /// All that comes before it: the node boots and has its application started, and the other one too.
 pub fn all_before(alloc: Global, happens: Happens) -> Option<Vec<Event>> {
     let mut events = Vec::new(alloc);
@@ -106,6 +135,11 @@ pub fn all_before(alloc: Global, happens: Happens) -> Option<Vec<Event>> {
     events.push(hand(alloc, Does::Start)?).ok()?;
     if let Some(last) = before(alloc, happens)? {
         events.push(last).ok()?;
+    }
+    match happens {
+        Happens::ShipAgain => push_shipped(alloc, &mut events)?,
+        Happens::StillTick => push_ticks(&mut events)?,
+        _ => {}
     }
     Some(events)
 }

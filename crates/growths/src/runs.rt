@@ -10,7 +10,7 @@ use std::io::Print;
 use std::sync::Wait;
 use std::thread::Threads;
 use tried_calls::sample::config;
-use tried_calls::trial::{Bench, Came, Said};
+use tried_calls::trial::{Bench, Came, Said, ended};
 
 /// A script of each verb.
 const VERBS: &[u8] =
@@ -114,12 +114,13 @@ pub fn try_run<T: Print + Threads + Wait + Sync>(rt: &T, alloc: Global) -> Came 
         return Came::SetUp;
     };
     print!(rt; ": ").ok();
-    match run_phases(rt, alloc, &config, &phases) {
+    let came = match run_phases(rt, alloc, &config, &phases) {
         Said::Well(number) => Came::Well(number),
         Said::Other => Came::Wrong,
         Said::NoMemory => match run_phases(rt, alloc, &config, &phases) {
             Said::Well(number) => Came::Refused(number),
             _ => Came::Wrong,
         },
-    }
+    };
+    ended(rt, came)
 }

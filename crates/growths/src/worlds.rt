@@ -1,5 +1,5 @@
 //! Calls of worlds, and journals that are woven.
-use crate::nodes::number_of;
+use crate::nodes::{THIRD, number_of};
 use dac_base::NodeId;
 use dac_config::Config;
 use dac_core::{Command, Refusal, Reply, What, World, WorldEvent, WorldFault};
@@ -20,6 +20,7 @@ pub enum OfWorld {
     Start,
     Tick,
     Ship,
+    ShipEqual,
     Deliver,
     Hand,
 }
@@ -59,10 +60,82 @@ fn events(alloc: Global) -> Option<Vec<WorldEvent>> {
     Some(events)
 }
 
+/// Who tells whom in a round.
+const PAIRS: [(NodeId, NodeId); 6] = [
+    (ME, OTHER),
+    (ME, THIRD),
+    (OTHER, ME),
+    (OTHER, THIRD),
+    (THIRD, ME),
+    (THIRD, OTHER),
+];
+
+/// The nodes in their order.
+const NODES: [NodeId; 3] = [ME, OTHER, THIRD];
+
+/// A node ships to another one the message of this number, which that one hears.
+fn tell(events: &mut Vec<WorldEvent>, from: NodeId, to: NodeId, number: u64) -> Option<()> {
+    let ship = What::Ship { to };
+    events
+        .push(WorldEvent {
+            node: from,
+            what: ship,
+        })
+        .ok()?;
+    let hear = What::Deliver(number);
+    events
+        .push(WorldEvent {
+            node: to,
+            what: hear,
+        })
+        .ok()?;
+    Some(())
+}
+
+/// All nodes boot and tell each other, until the third acknowledged all deltas of the others.
+fn acknowledged(alloc: Global) -> Option<Vec<WorldEvent>> {
+    let mut events = Vec::new(alloc);
+    for node in NODES {
+        events.push(WorldEvent { node, what: BOOT }).ok()?;
+    }
+    for i in 0..12usize {
+        let (from, to) = PAIRS[i % 6];
+        tell(&mut events, from, to, i as u64 + 1)?;
+    }
+    Some(events)
+}
+
+/// What comes before equal intervals of two nodes. The first node wishes three times for a start. It tells the second each
+/// time, so that both have three deltas more, which join to the same. Then it ships the third their join.
+fn shipped_once(alloc: Global) -> Option<Vec<WorldEvent>> {
+    let mut events = acknowledged(alloc)?;
+    for i in 0..NODES.len() {
+        let start = Command::Start {
+            app: APP,
+            node: NODES[i],
+        };
+        let what = What::Command(start);
+        events.push(WorldEvent { node: ME, what }).ok()?;
+        tell(&mut events, ME, OTHER, i as u64 + 13)?;
+    }
+    let what = What::Ship { to: THIRD };
+    events.push(WorldEvent { node: ME, what }).ok()?;
+    Some(events)
+}
+
+/// What has happened before what is asked.
+fn events_before(alloc: Global, asked: OfWorld) -> Option<Vec<WorldEvent>> {
+    if asked == OfWorld::ShipEqual {
+        shipped_once(alloc)
+    } else {
+        events(alloc)
+    }
+}
+
 /// The bench of a call.
 pub fn worlds(alloc: Global, asked: OfWorld) -> Option<WorldBench> {
     let config = config(alloc)?;
-    let events = events(alloc)?;
+    let events = events_before(alloc, asked)?;
     let (world, _) = World::run(alloc, &config, &events).ok()?;
     let counts = (world.operations().len(), world.messages().len());
     Some(WorldBench {
@@ -78,7 +151,7 @@ pub fn worlds(alloc: Global, asked: OfWorld) -> Option<WorldBench> {
 /// What is asked of the world next.
 fn next(asked: OfWorld) -> WorldEvent {
     let (node, what) = match asked {
-        OfWorld::Boot => (NodeId(2), BOOT),
+        OfWorld::Boot => (THIRD, BOOT),
         OfWorld::Start => (
             OTHER,
             What::Command(Command::Start {
@@ -86,7 +159,8 @@ fn next(asked: OfWorld) -> WorldEvent {
                 node: OTHER,
             }),
         ),
-        OfWorld::Ship => (ME, What::Ship { to: NodeId(2) }),
+        OfWorld::Ship => (ME, What::Ship { to: THIRD }),
+        OfWorld::ShipEqual => (OTHER, What::Ship { to: THIRD }),
         OfWorld::Deliver => (OTHER, What::Deliver(1)),
         OfWorld::Hand => (OTHER, What::Hand(1)),
         _ => (ME, What::Tick { now: 9 }),

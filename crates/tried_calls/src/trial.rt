@@ -45,17 +45,35 @@ fn made_again<B: Bench>(bench: &mut B) -> Came {
     }
 }
 
-/// Makes the call, and once more where memory was refused. A colon is printed first, from which on growths are the call's.
+/// Makes the call, and once more where memory was refused.
+fn made<B: Bench>(bench: &mut B) -> Came {
+    match bench.call() {
+        Said::Well(number) => Came::Well(number),
+        Said::Other => Came::Wrong,
+        Said::NoMemory => made_again(bench),
+    }
+}
+
+/// Prints what is said of a call. It ends what is counted of the call.
+pub fn ended<T: Print>(rt: &T, came: Came) -> Came {
+    match came {
+        Came::SetUp => None,
+        Came::Well(_) => print!(rt; "well ").ok(),
+        Came::Refused(_) => print!(rt; "refused ").ok(),
+        Came::Wrong => print!(rt; "wrong").ok(),
+    };
+    came
+}
+
+/// Makes the call, and once more where memory was refused. A colon is printed first, from which on growths are the call's. What
+/// came of it is printed before all that the call was made of goes.
 pub fn try_call<T: Print, B: Bench>(rt: &T, bench: Option<B>) -> Came {
     let Some(mut bench) = bench else {
         return Came::SetUp;
     };
     print!(rt; ": ").ok();
-    match bench.call() {
-        Said::Well(number) => Came::Well(number),
-        Said::Other => Came::Wrong,
-        Said::NoMemory => made_again(&mut bench),
-    }
+    let came = made(&mut bench);
+    ended(rt, came)
 }
 
 /// What bytes are told apart by.
