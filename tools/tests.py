@@ -2,6 +2,7 @@
 
 import io
 import pathlib
+import runpy
 import tempfile
 import unittest
 from typing import Dict, Iterator, List
@@ -157,6 +158,26 @@ class Here(unittest.TestCase):
         lines[row.line - 1] = line_of(row.cells + ("1",))
         promises.text = "\n".join(lines)
         self.assertEqual([fault.split(": ")[0] for fault in promises.faults()], [f"docs/PROMISES.md:{row.line}"])
+
+
+SAID_BY_THE_GATE = """rt: dac_a: 1 of its 4 must-fail edits were tried by an earlier run on this machine, and nothing has changed
+rt: must-fail dac_a/at_a_goal.edit: refused, as it must be: note: src/lib.rt:3:1: it is not proved
+rt: must-fail dac_a/by_a_name.edit: refused, as it must be (only because a proof file names what the edit took away): note
+rt: must-fail dac_a/by_a_limit.edit: refused, as it must be (only by a limit of the prover, which gave no verdict): note
+rt: must-fail dac_a/the_same.edit: NOT REFUSED: the crate is still proved with this edit""".split("\n")
+
+
+class MutantsTest(unittest.TestCase):
+    """What `./mutants` reads of what the gate says."""
+
+    def test_verdicts(self) -> None:
+        script = runpy.run_path(str(HERE / "mutants"), run_name="mutants")
+        names = ["at_a_goal.edit", "by_a_limit.edit", "by_a_name.edit", "left_out.edit", "the_same.edit"]
+        tried = script["Tried"]("dac_a", script["verdicts_in"](SAID_BY_THE_GATE, names))
+        self.assertEqual(tried.refused(), [f"dac_a/{name}" for name in names[:3]])
+        self.assertEqual(tried.refused_by("name"), ["dac_a/by_a_name.edit"])
+        self.assertEqual(tried.refused_by("limit"), ["dac_a/by_a_limit.edit"])
+        self.assertEqual((tried.lost(), tried.verdicts["left_out.edit"]), (2, "NOT TRIED"))
 
 
 def faults_of_tests() -> Iterator[str]:
