@@ -9,18 +9,22 @@ from typing import Dict, Iterator, List
 
 FORMATS = Path(__file__).resolve().parents[2] / "docs" / "FORMATS.md"
 HEADING = "## Answers of `distac-view` as JSON\n"
-FIELD = re.compile(r"\| (?P<object>[\w-]+) \| `(?P<field>\w+)` \| (?P<value>[^|]+?) \| ", re.MULTILINE)
+FIELD = re.compile(r"^\|(?P<objects>[\w, -]*)\| `(?P<field>\w+)` \| (?P<value>[^|]+?) \| ", re.MULTILINE)
 NOTE_ID = re.compile(r"^\| `(?P<id>\w+)` \| ", re.MULTILINE)
 KINDS = {"name": str, "text": str, "number": int, "null": type(None)}
 
 
 class Schema:
-    """The objects of the documented tables: each has fields, and each field a value of a kind."""
+    """The objects of the documented tables: each has fields, and each field a value of a kind. A row may name several objects,
+    and a row that names none is of those above it."""
 
     def __init__(self, text: str) -> None:
         self.objects: Dict[str, Dict[str, str]] = {}
+        objects: List[str] = []
         for found in FIELD.finditer(text):
-            self.objects.setdefault(found["object"], {})[found["field"]] = found["value"]
+            objects = re.findall(r"[\w-]+", found["objects"]) or objects
+            for one in objects:
+                self.objects.setdefault(one, {})[found["field"]] = found["value"]
         self.note_ids = {found["id"] for found in NOTE_ID.finditer(text)}
 
     def faults_of(self, answer: str) -> List[str]:
