@@ -1,4 +1,3 @@
-mod LineFaults
 mod Parting
 mod ReadOn
 mod Accepted

@@ -1,5 +1,6 @@
 pub mod Digits
 pub mod Roles
+pub mod Judged
 pub mod LineByLine
 pub mod WholeInput
 pub mod Atoms

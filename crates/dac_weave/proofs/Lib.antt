@@ -1,4 +1,4 @@
-mod Filed
+mod Finding
 mod Least
 mod Twice
 mod Replays

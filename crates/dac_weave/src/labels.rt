@@ -1,10 +1,24 @@
 //! The labels under which messages and operations are filed.
 
-ghost use Rattle.std.specs.Prelude.{◌≡◌};
-ghost use Rattle.dac_weave.specs.Labels.{label as label_by, message_label, operation_label};
+ghost use Rattle.std.specs.Prelude.{◌≡◌, ◌↔◌, ℕ, IsTrue};
+ghost use Rattle.dac_weave.specs.Labels.{label as label_by};
 
 use dac_messages::Message;
 use dac_operations::Op;
+
+/// What is filed under a label.
+pub(crate) trait Labelled {
+    /// The label.
+    ghost label_of: { Self → ℕ };
+
+    /// The label. Equal items have the same one.
+    fn label(&self) -> u64
+        ensures { result ≡ label_of self.now };
+
+    /// Whether the two are one item.
+    fn is_same(&self, other: &Self) -> bool
+        ensures { IsTrue result ↔ (self.now ≡ other.now) };
+}
 
 /// Three numbers as one label.
 fn label(most: u64, next: u64, least: u16) -> u64
@@ -13,25 +27,39 @@ fn label(most: u64, next: u64, least: u16) -> u64
     most % 1_099_511_627_776 * 1_000_003 + (next % 1_099_511_627_776 * 10_007 + least as u64)
 }
 
-/// The label of a message.
-pub(crate) fn label_of_message(message: &Message) -> u64
-    ensures { result ≡ message_label message.now }
-{
-    let acked = match &message.ack {
-        Some((_, count)) => *count,
-        None => 0,
-    };
-    label(
-        message.up_to,
-        acked,
-        message.from.node.0 as u16 * 256 + message.to.0 as u16,
-    )
+impl Labelled for Message {
+    ghost use Rattle.dac_weave.specs.Labels.{message_label};
+
+    ghost label_of = { message_label };
+
+    fn label(&self) -> u64 {
+        let acked = match &self.ack {
+            Some((_, count)) => *count,
+            None => 0,
+        };
+        label(
+            self.up_to,
+            acked,
+            self.from.node.0 as u16 * 256 + self.to.0 as u16,
+        )
+    }
+
+    fn is_same(&self, other: &Self) -> bool {
+        self.equal(other)
+    }
 }
 
-/// The label of an operation.
-pub(crate) fn label_of_operation(operation: &Op) -> u64
-    ensures { result ≡ operation_label operation.now }
-{
-    let dot = operation.dot();
-    label(dot.n, dot.origin.inc as u64, dot.origin.node.0 as u16)
+impl Labelled for Op {
+    ghost use Rattle.dac_weave.specs.Labels.{operation_label};
+
+    ghost label_of = { operation_label };
+
+    fn label(&self) -> u64 {
+        let dot = self.dot();
+        label(dot.n, dot.origin.inc as u64, dot.origin.node.0 as u16)
+    }
+
+    fn is_same(&self, other: &Self) -> bool {
+        self.equal(other)
+    }
 }

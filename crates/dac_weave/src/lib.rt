@@ -12,10 +12,9 @@ pub use weaving::weave;
 
 mod buckets;
 mod fault;
+mod filed;
 mod labels;
 mod loom;
-mod messages;
-mod operations;
 mod replay;
 mod strand;
 mod unfit;

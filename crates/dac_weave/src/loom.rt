@@ -3,15 +3,15 @@
 ghost use Rattle.std.specs.Prelude.{◌≡◌, ◌<◌, ◌≤◌, ◌++◌, IfOk, OnOk, MatchOption, length};
 ghost use Rattle.dac_weave.specs.Names.{Names, issued_in, shipped_in};
 
-use crate::messages::Messages;
-use crate::operations::Operations;
+use crate::filed::Filed;
 use crate::strand::{Strand, strands_of};
 use crate::unfit::lesser;
 use dac_base::{NoMemory, NodeId};
 use dac_config::Config;
 use dac_events::{What, WorldEvent};
 use dac_journal::{Answer, Closed};
-use dac_messages::{Event, OpList, Reply};
+use dac_messages::{Event, Message, OpList, Reply};
+use dac_operations::Op;
 use std::alloc::Global;
 
 /// The events so far, and what they issued and shipped.
@@ -19,12 +19,16 @@ use std::alloc::Global;
 pub(crate) struct Loom<'a> {
     pub(crate) strands: Vec<Strand>,
     pub(crate) events: Vec<WorldEvent>,
-    pub(crate) operations: Operations<'a>,
-    pub(crate) messages: Messages<'a>,
+    pub(crate) operations: Filed<'a, Op>,
+    pub(crate) messages: Filed<'a, Message>,
 }
 
 /// The event of the world that is this event at its node, if there is one now.
-fn name_event(operations: &Operations<'_>, messages: &Messages<'_>, event: &Event) -> Option<What>
+fn name_event(
+    operations: &Filed<'_, Op>,
+    messages: &Filed<'_, Message>,
+    event: &Event,
+) -> Option<What>
     ensures { Names operations.now messages.now event.now result }
 {
     match event {
@@ -45,7 +49,7 @@ fn name_event(operations: &Operations<'_>, messages: &Messages<'_>, event: &Even
 }
 
 /// Notes operations that were issued.
-fn note_all<'a>(operations: &mut Operations<'a>, issued: &'a OpList) -> Result<(), NoMemory>
+fn note_all<'a>(operations: &mut Filed<'a, Op>, issued: &'a OpList) -> Result<(), NoMemory>
     ensures { OnOk result (operations.new ≡ operations.old ++ issued.now) }
 {
     for operation in issued.as_slice() {
@@ -56,8 +60,8 @@ fn note_all<'a>(operations: &mut Operations<'a>, issued: &'a OpList) -> Result<(
 
 /// Notes what an answer issues and ships.
 fn note<'a>(
-    operations: &mut Operations<'a>,
-    messages: &mut Messages<'a>,
+    operations: &mut Filed<'a, Op>,
+    messages: &mut Filed<'a, Message>,
     answer: &'a Answer,
 ) -> Result<(), NoMemory>
     ensures operations { OnOk result (operations.new ≡ operations.old ++ issued_in answer.now) }
@@ -96,8 +100,8 @@ impl<'a> Loom<'a> {
     {
         let strands = strands_of(alloc, config, journals)?;
         let room = count_all(journals);
-        let operations = Operations::new(alloc, room)?;
-        let messages = Messages::new(alloc, room)?;
+        let operations = Filed::new(alloc, room)?;
+        let messages = Filed::new(alloc, room)?;
         Ok(Loom {
             strands,
             events: Vec::new(alloc),

@@ -14,7 +14,7 @@ use Rattle.dac_script.specs.declared.failure.Failure.{Failure}
 use Rattle.dac_script.specs.declared.failure.Failure.TheVariants as failure
 use Rattle.dac_script.specs.Words.{words_of}
 use Rattle.dac_script.specs.LineFaults.{IsFaultless, IsLeast}
-use Rattle.dac_script.specs.Script.{is_said, line_in, readable, ReadsAs, IsFirstFault, IsScriptFailure, IsLineFailure}
+use Rattle.dac_script.specs.Script.{is_said, line_in, readable, IsJudged, ReadsAs, IsFirstFault, IsScriptFailure, IsLineFailure}
 
 -- a turn of a loop over numbered lines: at its place stands its line
 pub record IsTurn (lines : List (List ℕ)) (i place : ℕ) (line : List ℕ) : Type 0 where
@@ -30,7 +30,7 @@ turn_at lines i place line turn =
 
 module _ {Line : Type 0} (read : Table → List (List ℕ) → Result Line ScriptFaultKind)
     (HasFault : Table → List (List ℕ) → ScriptFaultKind → Type 0)
-    (judged : (table : Table) (line : List (List ℕ)) → MatchResult (read table line) (λ _. IsFaultless (HasFault table line)) (IsLeast (HasFault table line))) where
+    (judged : IsJudged read HasFault) where
   abbrev Fine : Table → List ℕ → Type 0
   Fine table line = IsFaultless (HasFault table (words_of line))
 

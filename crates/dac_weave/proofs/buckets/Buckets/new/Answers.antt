@@ -1,4 +1,4 @@
-use Rattle.dac_weave.proofs.Filed.{none-in}
+use Rattle.dac_weave.proofs.Finding.{none-in}
 use Rattle.dac_weave.proofs.buckets.Buckets.new.Goals as goal
 
 pub returns : goal.returns

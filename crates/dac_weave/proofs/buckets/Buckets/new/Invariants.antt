@@ -1,5 +1,5 @@
 use Rattle.std.proofs.Common.{◌<◌, length}
-use Rattle.dac_weave.proofs.Filed.{AllEmpty}
+use Rattle.dac_weave.proofs.Finding.{AllEmpty}
 use Rattle.dac_weave.proofs.buckets.Buckets.new.Given as goal
 
 abbrev pub invariant-loop : goal.invariant-loop

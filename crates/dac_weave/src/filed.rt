@@ -1,0 +1,90 @@
+//! Items in order, each of which is found again by its number.
+
+ghost use Rattle.std.specs.Prelude.{◌≡◌, ℕ, ◌++◌, ◌∷◌, [], Some, IfOk, OnOk, MatchOption};
+ghost use Rattle.dac_journal.specs.ModelWorld.{counted};
+
+use crate::buckets::Buckets;
+use crate::labels::Labelled;
+use dac_base::NoMemory;
+use std::alloc::Global;
+use std::marker::Model;
+
+/// Items in the order in which they came, filed under their labels. Contracts see them as the list.
+pub(crate) struct Filed<'a, T: Labelled> {
+    items: Vec<&'a T>,
+    buckets: Buckets,
+}
+
+/// Written out: a drop is one call for a proof, wherever it stands.
+impl<T: Labelled> Drop for Filed<'_, T> {
+    fn drop(self) {
+        let Filed {
+            items: _items,
+            buckets: _buckets,
+        } = self;
+    }
+}
+
+impl<'a, T: Labelled> Model for Filed<'a, T> {
+    ghost use Rattle.std.specs.Prelude.{List};
+    ghost use Rattle.dac_weave.specs.Labels.{lent};
+    ghost use Rattle.dac_weave.specs.Filing.{Finds};
+
+    ghost Value = { List T };
+
+    ghost view = { λ a. lent a.items.items };
+
+    ghost invariant = { λ a. Finds T.label_of (lent a.items.items) a.buckets.lists.items };
+}
+
+impl<'a, T: Labelled> Filed<'a, T> {
+    /// None, with room for so many.
+    pub(crate) fn new(alloc: Global, room: usize) -> Result<Self, NoMemory>
+        ensures { IfOk result (λ made. made ≡ []) }
+    {
+        let buckets = Buckets::new(alloc, room)?;
+        Ok(Filed {
+            items: Vec::new(alloc),
+            buckets,
+        })
+    }
+
+    /// The number of an equal item, from 1, if there is one.
+    pub(crate) fn number(&self, item: &T) -> Option<u64>
+        ensures { MatchOption result ((k : ℕ) → counted self.now k ≡ Some item.now → ⊥)
+            (λ k. counted self.now k ≡ Some item.now) }
+    {
+        let bucket = self.buckets.bucket(item.label());
+        for i in 0..bucket.len() {
+            let place = bucket[i];
+            if self.items[place].is_same(item) {
+                return Some(place as u64 + 1);
+            }
+        }
+        None
+    }
+
+    /// One more item.
+    pub(crate) fn put(&mut self, item: &'a T) -> Result<(), NoMemory>
+        ensures { OnOk result (self.new ≡ self.old ++ item.now ∷ []) }
+    {
+        match self.number(item) {
+            Some(_) => {
+                self.items.push(item)?;
+                Ok(())
+            }
+            None => self.put_new(item),
+        }
+    }
+
+    // One more item, which is filed under its label.
+    fn put_new(&mut self, item: &'a T) -> Result<(), NoMemory>
+        ensures { OnOk result (self.new ≡ self.old ++ item.now ∷ []) }
+    {
+        let place = self.items.len();
+        self.items.reserve(1)?;
+        self.buckets.file(item.label(), place)?;
+        self.items.push_reserved(item);
+        Ok(())
+    }
+}
