@@ -206,3 +206,9 @@ touched_words table old new app node = (
         ↔ (¬ (map.get old.lives node ≡ map.get new.lives node) ⊎ ((inc : ℕ) × IsLive new.lives node inc × ¬ StandAlike old new (key_at app node inc)))
     differs = either _ _ _ _ (negate _ _ (life_decides (map.get old.lives node) (map.get new.lives node)))
         (λ e. with_live.0 ((if_live old new app node (live_at new.lives node)).0 e), λ h. (if_live old new app node (live_at new.lives node)).1 (with_live.1 h))
+
+-- what no list has isn't touched
+pub untouched_outside : (table : Table) (old new : StateValue) (app : AppId) (node : NodeId) → group_of table app node ≡ None → is_touched table old new app node ≡ true → ⊥
+untouched_outside table old new app node outside touched =
+    let listed = (and_parts (is_some (group_of table app node)) _ touched).0 in
+    false≢true (sym (ap is_some outside) ∙ listed)

@@ -1,8 +1,8 @@
 //! Decisions that are kept up.
-ghost use Rattle.std.specs.Prelude.{◌≡◌, ◌<◌, ◌≤◌, ◌+◌, ◌^◌, IfOk, IsTrue, ◌↔◌, Some, length};
+ghost use Rattle.std.specs.Prelude.{◌≡◌, ◌<◌, ◌≤◌, ◌+◌, ◌^◌, IfOk, IsTrue, ◌↔◌, Some, None, length};
 ghost use Rattle.dac_base.specs.declared.AppId.{AppId as App};
 ghost use Rattle.dac_base.specs.declared.NodeId.{NodeId as Named};
-ghost use Rattle.dac_config.specs.Table.{Table, app_count};
+ghost use Rattle.dac_config.specs.Table.{Table, app_count, group_of};
 ghost use Rattle.dac_meaning.specs.StateValue.{StateValue, join};
 ghost use Rattle.dac_placement.specs.Placement.{verdict_of, load_of, is_less};
 ghost use Rattle.dac_board.specs.Boards.{Shows};
@@ -92,6 +92,8 @@ impl Board {
         ensures pairs { (app : App) (node : Named)
             → IsTrue (is_touched config.now old.now new.now app node)
             ↔ IsTouched config.now old.now new.now app node }
+        ensures outside { (app : App) (node : Named) → group_of config.now app node ≡ None
+            → IsTrue (is_touched config.now old.now new.now app node) → ⊥ }
     {
         let moved = moved_by(old, new);
         let mut looked = self.looked;

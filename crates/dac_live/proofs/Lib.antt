@@ -1,4 +1,4 @@
-mod Found
 mod Repeated
+mod Seating
 mod Shipped
 mod Spoken

@@ -5,7 +5,7 @@ use Rattle.std.proofs.lemmas.List.{take_more}
 use Rattle.std.proofs.lemmas.List.Concat.{flat_map-append}
 use Rattle.std.proofs.lemmas.Slice.Zip.{all_zipped_more, length-zip, get_or-zip}
 use Rattle.dac_crews.specs.Compared.{found}
-use Rattle.dac_live.proofs.Found.{found_more, listed}
+use Rattle.dac_workers.specs.laws.Found.{found_more, listed}
 
 -- what is found in one more, behind what was there
 pub found_on : {A B : Type 0} (b : List B) (f : A → Option B) (xs : List A) (i : ℕ) (x : A) (o : Option B) → i < length xs → x ≡ get_or xs i x → f x ≡ o → b ++ found f (take (i + 1) xs) ≡ (b ++ found f (take i xs)) ++ listed o

@@ -3,7 +3,6 @@ pub mod Lines
 pub mod Nodes
 pub mod Pairs
 pub mod Seating
-pub mod laws
 pub use Rattle.dac_sites.specs.Sites
 pub use Rattle.dac_crews.specs.RunFault
 pub use Rattle.dac_crews.specs.RunFaults

@@ -1,5 +1,6 @@
--- Which side outweighs in the order of states: of the votes of one dot that two states give different values, the
--- greater state has the one that drains, or the one that forbids. It is said in the words of drained and permitted.
+-- What outweighs in the order of states: drained, and forbidden. In a greater state what is drained stays drained, and
+-- what is forbidden stays forbidden, as long as none of the votes is replaced. It is said in the words of drained and
+-- permitted, and names no flag.
 use Rattle.std.specs.Prelude.{◌≡◌, Bool, true, false, is_some}
 use Rattle.std.specs.FinMap as map
 use Rattle.dac_origins.specs.declared.dot.Dot.{Dot}

@@ -3,6 +3,7 @@ pub mod Letters
 pub mod Links
 pub mod Readings
 pub mod RunFaults
+pub mod laws
 pub use Rattle.dac_sites.specs.Journals
 pub use Rattle.dac_sites.specs.Paged
 pub use Rattle.dac_sites.specs.Record

@@ -34,8 +34,8 @@ fn learn_last<L: SiteName>(last: &mut Option<Receipt<L>>, reader: &mut PageReade
 /// Reads the page that was published last, behind the receipt that its caller was given last. Without a receipt each page is
 /// fresh.
 ///
-/// The reader first learns the receipt, so no older page comes of one as its call gave it: it is stale only where no page is read.
-/// An older page comes where the receipt's owner has set a later place, or another reader was the first to learn it.
+/// The reader first learns the receipt. If the receipt is as its call gave it, the page is stale only if none was read. An older
+/// page is possible if the receipt's owner has set a later place, or if another reader was the first to learn it.
 pub fn fresh_page<L: SiteName>(last: &mut Option<Receipt<L>>, reader: &mut PageReader<L>) -> Reading
     ensures page { IsReading (place_in last.old) result }
     // The reader stands at the page that was read, or where the receipt has brought it.

@@ -1,7 +1,7 @@
 use Rattle.std.proofs.Common.{◌≡◌, ◌++◌, ◌∷◌, [], ◌<◌, length, take, Some, None, Bor, sym, ◌∙◌, arith, append-nil}
 use Rattle.dac_messages.specs.declared.event.Event.{Event}
 use Rattle.dac_crews.specs.Compared.{found, event_one}
-use Rattle.dac_live.proofs.Found.{found_more, taken_more}
+use Rattle.dac_workers.specs.laws.Found.{found_more, taken_more}
 use Rattle.dac_live.proofs.callers.are_asked.Goals as goal
 use Rattle.dac_live.proofs.callers.are_asked.Goals.{in-Some+else-next-asked+else-not-equal, in-None}
 

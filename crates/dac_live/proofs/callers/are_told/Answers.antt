@@ -3,7 +3,7 @@ use Rattle.dac_messages.specs.declared.reply.Reply.{Reply}
 use Rattle.dac_events.specs.declared.refusal.Refusal.{Refusal}
 use Rattle.dac_crews.specs.Compared.{found}
 use Rattle.dac_live.specs.Asked.{answer_one}
-use Rattle.dac_live.proofs.Found.{found_more, taken_more}
+use Rattle.dac_workers.specs.laws.Found.{found_more, taken_more}
 use Rattle.dac_live.proofs.callers.are_told.Goals as goal
 use Rattle.dac_live.proofs.callers.are_told.Goals.{in-Some+else-next-told+else-not-same_answer, in-None}
 

@@ -1,4 +1,4 @@
-use Rattle.dac_live.specs.laws.Seating.{seats_in_order}
+use Rattle.dac_live.proofs.Seating.{seats_in_order}
 use Rattle.dac_live.proofs.seats.seats_are_in_order.Goals as goal
 
 pub returns : goal.returns

@@ -2,7 +2,7 @@ use Rattle.std.proofs.Common.{◌≡◌, ◌++◌, ◌∷◌, [], ◌<◌, lengt
 use Rattle.dac_messages.specs.declared.event.Event.TheVariants.{Hear}
 use Rattle.dac_messages.specs.declared.message.Message.{Message}
 use Rattle.dac_workers.specs.Compared.{found, event_one}
-use Rattle.dac_workers.proofs.Found.{found_more, taken_more}
+use Rattle.dac_workers.specs.laws.Found.{found_more, taken_more}
 use Rattle.dac_workers.proofs.compare.are_heard.Goals as goal
 use Rattle.dac_workers.proofs.compare.are_heard.Goals.{in-Some+else-next-sent+else-not-is_heard, in-None}
 

@@ -1,7 +1,7 @@
 use Rattle.std.proofs.Common.{◌≡◌, ◌+◌, ◌++◌, ◌∷◌, [], suc, take, Some, None, sym, ap, ◌∙◌, arith, append-nil}
 use Rattle.dac_workers.specs.Compared.{found, event_one}
 use Rattle.dac_workers.specs.Links.{ships_to}
-use Rattle.dac_workers.proofs.Found.{found_more}
+use Rattle.dac_workers.specs.laws.Found.{found_more}
 use Rattle.dac_workers.proofs.Shipping.{ships_push}
 use Rattle.dac_workers.proofs.compare.are_ships.Goals as goal
 use Rattle.dac_workers.proofs.compare.are_ships.Goals.{in-Some+else-not-is_ship, in-None}

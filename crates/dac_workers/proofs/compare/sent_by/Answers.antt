@@ -2,7 +2,7 @@ use Rattle.std.proofs.Common.{◌≡◌, ◌+◌, ◌++◌, ◌∷◌, [], take,
 use Rattle.std.proofs.lemmas.List.{map_push}
 use Rattle.dac_messages.specs.declared.message.Message.{Message}
 use Rattle.dac_workers.specs.Compared.{found, sent_one}
-use Rattle.dac_workers.proofs.Found.{found_more}
+use Rattle.dac_workers.specs.laws.Found.{found_more}
 use Rattle.dac_workers.proofs.compare.sent_by.Goals as goal
 use Rattle.dac_workers.proofs.compare.sent_by.Goals.{in-Some+in_ok-push-in-Some, in-None}
 

@@ -6,7 +6,7 @@ use Rattle.dac_board.specs.Rows.{no_row}
 use Rattle.dac_board.specs.Touched.{touched_of}
 use Rattle.dac_board.proofs.Counting.{numbered_app, untrue}
 use Rattle.dac_board.proofs.Filling.{filled_by, filled_at, length_filled, one_more, rest_kept, get_any, more_summed}
-use Rattle.dac_board.proofs.Untouched.{touched_words}
+use Rattle.dac_board.proofs.Untouched.{touched_words, untouched_outside}
 use Rattle.dac_board.proofs.board.Board.absorb.Goals as goal
 
 pub loop-place-init : goal.loop-place-init
@@ -80,3 +80,6 @@ returns-clause-few c =
 
 pub returns-clause-pairs : goal.returns-clause-pairs
 returns-clause-pairs c = λ app node. touched_words c.args.config.now c.args.old.now c.args.new.now app node
+
+pub returns-clause-outside : goal.returns-clause-outside
+returns-clause-outside c = λ app node. untouched_outside c.args.config.now c.args.old.now c.args.new.now app node
