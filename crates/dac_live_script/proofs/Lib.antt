@@ -1,2 +1,1 @@
-mod LiveFaults
 mod LiveAccepted

@@ -3,3 +3,4 @@ pub mod LiveFaults
 pub mod LiveInputs
 pub mod LiveForms
 pub mod LiveInWords
+pub mod laws

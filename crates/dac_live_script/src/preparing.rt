@@ -3,32 +3,15 @@
 ghost use Rattle.std.specs.Prelude.{◌≡◌, IfOk, IfErr, IfSome, All};
 ghost use Rattle.dac_config.specs.Table.{node_count};
 ghost use Rattle.dac_script.specs.Input.{IsReadWithinBound};
-ghost use Rattle.dac_script.specs.Inputs.{HasParts, IsPartsFailure};
 ghost use Rattle.dac_script.specs.Sources.{IsReadBy};
-ghost use Rattle.dac_live_script.specs.LiveLines.{live_line_of, HasActors};
-ghost use Rattle.dac_live_script.specs.LiveFaults.{HasFault};
+ghost use Rattle.dac_live_script.specs.LiveLines.{HasActors};
 ghost use Rattle.dac_live_script.specs.LiveInputs.{SaysLiveScript, IsLiveFailureOf};
 
 use crate::line::LiveLine;
-use crate::script::read_live_script;
-use dac_config::{Config, read_config};
-use dac_script::{Failure, InputFault, Source, read_input, split_input};
+use dac_config::Config;
+use dac_script::{Failure, Source, prepare_lines};
 use std::alloc::Global;
 use std::io::Read;
-
-/// Reads both parts of an input: its configuration, and then its script.
-fn parts_of(alloc: Global, text: &[u8]) -> Result<(Config, Vec<LiveLine>), Failure>
-    ensures says { IfOk result (λ both. HasParts live_line_of HasFault text.now both.0 both.1.items) }
-    ensures actors { IfOk result (λ both. All (HasActors (node_count both.0)) both.1.items) }
-    ensures fails { IfErr result (IsPartsFailure live_line_of HasFault text.now) }
-{
-    let Some((config, script)) = split_input(text) else {
-        return Err(Failure::Input(InputFault::NoScript));
-    };
-    let config = read_config(alloc, config)?;
-    let script = read_live_script(alloc, &config, script)?;
-    Ok((config, script))
-}
 
 /// Reads and checks a whole input of `distac live`: the input as such, its configuration and then its script. The first
 /// of these that has a fault is answered; `NoMemory` only where memory is refused before a fault is met.
@@ -46,7 +29,5 @@ pub fn prepare_live<R: Read>(
     ensures bound { IsReadWithinBound source.old.left source.new.left }
     ensures same_reader { source.new.reader ≡ source.old.reader }
 {
-    let text = read_input(alloc, source)?;
-    let both = parts_of(alloc, &text)?;
-    Ok(both)
+    prepare_lines(alloc, source)
 }

@@ -1,32 +1,35 @@
 //! A script of `distac live`, line by line.
 
-ghost use Rattle.std.specs.Prelude.{◌≡◌, Ok, IfOk, IfErr, All};
+ghost use Rattle.std.specs.Prelude.{IfOk, IfErr, All};
 ghost use Rattle.dac_config.specs.Table.{node_count};
-ghost use Rattle.dac_script.specs.Script.{lines_of, line_in, ReadsAs, IsScriptFailure, IsLineFailure};
+ghost use Rattle.dac_script.specs.Script.{lines_of, ReadsAs, IsScriptFailure};
 ghost use Rattle.dac_live_script.specs.LiveLines.{live_line_of, HasActors};
 ghost use Rattle.dac_live_script.specs.LiveFaults.{HasFault};
 
 use crate::line::{LiveLine, live_line_of};
+use dac_base::NoMemory;
 use dac_config::Config;
-use dac_script::{Failure, ScriptFault, is_said, words_of};
+use dac_script::{Failure, ReadsLine, ScriptFaultKind, read_lines};
 use std::alloc::Global;
 
-/// What the line of this number says.
-fn read_line(
-    alloc: Global,
-    config: &Config,
-    number: usize,
-    line: &[u8],
-) -> Result<LiveLine, Failure>
-    ensures ok { IfOk result (λ said. line_in live_line_of config.now line.now ≡ Ok said) }
-    ensures actors { IfOk result (HasActors (node_count config.now)) }
-    ensures fault { IfErr result (IsLineFailure live_line_of config.now number line.now) }
-{
-    let words = words_of(alloc, line)?;
-    match live_line_of(alloc, config, &words)? {
-        Ok(said) => Ok(said),
-        Err(kind) => Err(Failure::Script(ScriptFault { line: number, kind })),
+impl ReadsLine for LiveLine {
+    ghost use Rattle.dac_live_script.specs.laws.LiveJudged.{judged};
+
+    ghost said_by = { live_line_of };
+
+    ghost has_fault = { HasFault };
+
+    ghost has_actors = { HasActors };
+
+    fn read_words(
+        alloc: Global,
+        config: &Config,
+        words: &[&[u8]],
+    ) -> Result<Result<LiveLine, ScriptFaultKind>, NoMemory> {
+        live_line_of(alloc, config, words)
     }
+
+    ghost is_judged = { judged };
 }
 
 /// Reads a script of `distac live`. Its lines end at a line feed or at the end of the text, and are counted from 1. Empty
@@ -45,11 +48,5 @@ pub fn read_live_script(
     ensures fault { IfErr result
         (IsScriptFailure live_line_of HasFault config.now (lines_of text.now)) }
 {
-    let mut script = Vec::new(alloc);
-    for (place, line) in text.split(|byte| *byte == b'\n').enumerate() {
-        if is_said(line) {
-            script.push(read_line(alloc, config, place + 1, line)?)?;
-        }
-    }
-    Ok(script)
+    read_lines(alloc, config, text)
 }

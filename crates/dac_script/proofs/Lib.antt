@@ -1,4 +1,4 @@
-mod LineFaults
 mod Parting
+mod LineByLine
 mod ReadOn
 mod Accepted

@@ -1,6 +1,7 @@
 -- A whole script, of `sim` or of `live`: by what the words of a line say, and by which faults they have.
 use Rattle.std.specs.Prelude.{◌≡◌, ℕ, ◌-◌, ◌<◌, Bool, true, false, not, List, [], ◌∷◌, All, map, filter, take, Some, Ok, Err, Result, slice_get, ◌==◌}
 use Rattle.std.specs.List.{slice_split}
+use Rattle.std.specs.Result.{MatchResult}
 use Rattle.dac_config.specs.Table.{Table}
 use Rattle.dac_script.specs.declared.failure.Failure.{Failure}
 use Rattle.dac_script.specs.declared.failure.Failure.TheVariants as failure
@@ -38,6 +39,11 @@ module _ {Line : Type 0} (read : Table → List (List ℕ) → Result Line Scrip
 -- scripts in general, by what words say and by which kinds of fault they have
 module _ {Line : Type 0} (read : Table → List (List ℕ) → Result Line ScriptFaultKind)
     (HasFault : Table → List (List ℕ) → ScriptFaultKind → Type 0) where
+  -- words say something if they have no fault, and else are answered the least kind of fault that they have
+  abbrev pub IsJudged : Type 0
+  IsJudged = (table : Table) (words : List (List ℕ))
+      → MatchResult (read table words) (λ _. IsFaultless (HasFault table words)) (IsLeast (HasFault table words))
+
   -- of these lines, those that say something have no fault and say this, in their order
   pub record ReadsAs (table : Table) (lines : List (List ℕ)) (script : List Line) : Type 0 where
     pub said : map (line_in read table) (filter is_said lines) ≡ map readable script

@@ -1,6 +1,6 @@
 pub mod Digits
 pub mod Roles
-pub mod LineByLine
+pub mod Judged
 pub mod WholeInput
 pub mod Atoms
 pub mod Numbers

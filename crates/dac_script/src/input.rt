@@ -27,7 +27,7 @@ fn line_len(text: &[u8]) -> usize
 }
 
 /// The first line of the text, and what stands behind its line feed, if it ends at one.
-fn first_line(text: &[u8]) -> (&[u8], Option<&[u8]>)
+pub(crate) fn first_line(text: &[u8]) -> (&[u8], Option<&[u8]>)
     ensures last { IfNone result.1 (lines_of text.now ≡ result.0.now ∷ []) }
     ensures whole { IfSome result.1 (λ behind. text.now ≡ result.0.now ++ 10 ∷ behind.now) }
     ensures more { IfSome result.1

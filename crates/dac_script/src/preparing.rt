@@ -2,9 +2,8 @@
 
 ghost use Rattle.std.specs.Prelude.{◌≡◌, IfOk, IfErr, IfSome, All};
 ghost use Rattle.dac_config.specs.Table.{node_count};
-ghost use Rattle.dac_script.specs.Line.{line_of, HasActors};
-ghost use Rattle.dac_script.specs.LineFaults.{HasFault};
-ghost use Rattle.dac_script.specs.Inputs.{HasParts, IsPartsFailure, SaysScript, IsFailureOf};
+ghost use Rattle.dac_script.specs.Line.{HasActors};
+ghost use Rattle.dac_script.specs.Inputs.{HasParts, IsPartsFailure, SaysAll, IsInputFailure, SaysScript, IsFailureOf};
 ghost use Rattle.dac_script.specs.Input.{IsReadWithinBound};
 ghost use Rattle.dac_script.specs.Sources.{IsReadBy};
 
@@ -12,24 +11,47 @@ use crate::failure::Failure;
 use crate::fault::InputFault;
 use crate::input::{read_input, split_input};
 use crate::line::ScriptLine;
-use crate::script::read_script;
+use crate::lines::{ReadsLine, read_lines};
 use crate::source::Source;
 use dac_config::{Config, read_config};
 use std::alloc::Global;
 use std::io::Read;
 
 /// Reads both parts of an input: its configuration, and then its script.
-fn parts_of(alloc: Global, text: &[u8]) -> Result<(Config, Vec<ScriptLine>), Failure>
-    ensures says { IfOk result (λ both. HasParts line_of HasFault text.now both.0 both.1.items) }
-    ensures actors { IfOk result (λ both. All (HasActors (node_count both.0)) both.1.items) }
-    ensures fails { IfErr result (IsPartsFailure line_of HasFault text.now) }
+fn parts_of<L: ReadsLine>(alloc: Global, text: &[u8]) -> Result<(Config, Vec<L>), Failure>
+    ensures says { IfOk result
+        (λ both. HasParts L.said_by L.has_fault text.now both.0 both.1.items) }
+    ensures actors { IfOk result (λ both. All (L.has_actors (node_count both.0)) both.1.items) }
+    ensures fails { IfErr result (IsPartsFailure L.said_by L.has_fault text.now) }
 {
     let Some((config, script)) = split_input(text) else {
         return Err(Failure::Input(InputFault::NoScript));
     };
     let config = read_config(alloc, config)?;
-    let script = read_script(alloc, &config, script)?;
+    let script = read_lines(alloc, &config, script)?;
     Ok((config, script))
+}
+
+/// Reads and checks a whole input with a script of such lines: the input as such, its configuration and then its script.
+/// The first of these that has a fault is answered; `NoMemory` only where memory is refused before a fault is met.
+pub fn prepare_lines<L: ReadsLine, R: Read>(
+    alloc: Global,
+    source: &mut Source<'_, R>,
+) -> Result<(Config, Vec<L>), Failure>
+    ensures says { IfOk result
+        (λ both. IfSome source.old.left
+        (λ bytes. SaysAll L.said_by L.has_fault bytes both.0 both.1.items)) }
+    ensures actors { IfOk result (λ both. All (L.has_actors (node_count both.0)) both.1.items) }
+    ensures fails { IfErr result
+        (λ why. IfSome source.old.left (λ bytes. IsInputFailure L.said_by L.has_fault bytes why)) }
+    ensures reads { IsReadBy result source.new }
+    // However it ends, no more was read than the bound and one byte.
+    ensures bound { IsReadWithinBound source.old.left source.new.left }
+    ensures same_reader { source.new.reader ≡ source.old.reader }
+{
+    let text = read_input(alloc, source)?;
+    let both = parts_of(alloc, &text)?;
+    Ok(both)
 }
 
 /// Reads and checks a whole input: the input as such, its configuration and then its script. The first of these
@@ -47,7 +69,5 @@ pub fn prepare<R: Read>(
     ensures bound { IsReadWithinBound source.old.left source.new.left }
     ensures same_reader { source.new.reader ≡ source.old.reader }
 {
-    let text = read_input(alloc, source)?;
-    let both = parts_of(alloc, &text)?;
-    Ok(both)
+    prepare_lines(alloc, source)
 }

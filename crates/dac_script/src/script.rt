@@ -1,44 +1,37 @@
-//! The script: what is to happen, line by line.
+//! A script of `distac sim`: what is to happen, line by line.
 
-ghost use Rattle.std.specs.Prelude.{◌≡◌, IfOk, IfErr, All};
+ghost use Rattle.std.specs.Prelude.{IfOk, IfErr, All};
 ghost use Rattle.dac_config.specs.Table.{node_count};
 ghost use Rattle.dac_script.specs.Line.{line_of, HasActors};
 ghost use Rattle.dac_script.specs.LineFaults.{HasFault};
-ghost use Rattle.dac_script.specs.Script.{lines_of, is_said, line_in, ReadsAs, IsScriptFailure, IsLineFailure};
+ghost use Rattle.dac_script.specs.Script.{lines_of, ReadsAs, IsScriptFailure};
 
 use crate::failure::Failure;
-use crate::fault::ScriptFault;
+use crate::fault::ScriptFaultKind;
 use crate::line::{ScriptLine, line_of};
-use crate::words::words_of;
+use crate::lines::{ReadsLine, read_lines};
+use dac_base::NoMemory;
 use dac_config::Config;
 use std::alloc::Global;
 
-/// Whether the line says something: empty lines and lines that begin with `%` don't.
-pub fn is_said(line: &[u8]) -> bool
-    ensures { result ≡ is_said line.now }
-{
-    match line {
-        [] => false,
-        [first, ..] => *first != b'%',
-    }
-}
+impl ReadsLine for ScriptLine {
+    ghost use Rattle.dac_script.specs.laws.Judged.{judged};
 
-/// What the line of this number says.
-fn read_line(
-    alloc: Global,
-    config: &Config,
-    number: usize,
-    line: &[u8],
-) -> Result<ScriptLine, Failure>
-    ensures ok { IfOk result (λ said. line_in line_of config.now line.now ≡ Ok said) }
-    ensures actors { IfOk result (HasActors (node_count config.now)) }
-    ensures fault { IfErr result (IsLineFailure line_of config.now number line.now) }
-{
-    let words = words_of(alloc, line)?;
-    match line_of(alloc, config, &words)? {
-        Ok(said) => Ok(said),
-        Err(kind) => Err(Failure::Script(ScriptFault { line: number, kind })),
+    ghost said_by = { line_of };
+
+    ghost has_fault = { HasFault };
+
+    ghost has_actors = { HasActors };
+
+    fn read_words(
+        alloc: Global,
+        config: &Config,
+        words: &[&[u8]],
+    ) -> Result<Result<ScriptLine, ScriptFaultKind>, NoMemory> {
+        line_of(alloc, config, words)
     }
+
+    ghost is_judged = { judged };
 }
 
 /// Reads a script. Its lines end at a line feed or at the end of the text, and are counted from 1. Empty lines and
@@ -52,11 +45,5 @@ pub fn read_script(alloc: Global, config: &Config, text: &[u8]) -> Result<Vec<Sc
     ensures actors { IfOk result (λ script. All (HasActors (node_count config.now)) script.items) }
     ensures fault { IfErr result (IsScriptFailure line_of HasFault config.now (lines_of text.now)) }
 {
-    let mut script = Vec::new(alloc);
-    for (place, line) in text.split(|byte| *byte == b'\n').enumerate() {
-        if is_said(line) {
-            script.push(read_line(alloc, config, place + 1, line)?)?;
-        }
-    }
-    Ok(script)
+    read_lines(alloc, config, text)
 }

@@ -2,7 +2,7 @@ use Rattle.std.proofs.Common.{◌≡◌, IfOk, Err, map, rules}
 use Rattle.std.proofs.lemmas.Result.{IfOk-weaker}
 use Rattle.dac_script.specs.declared.fault.ScriptFaultKind.TheVariants.{BadWord}
 use Rattle.dac_live_script.specs.LiveLines.{live_line_of}
-use Rattle.dac_live_script.proofs.LiveFaults.{faultless_of, least_of}
+use Rattle.dac_live_script.specs.laws.LiveJudged.{faultless_of, least_of}
 use Rattle.dac_live_script.proofs.line.live_line_of.Goals as goal
 
 pub returns-then-eq-2-clause-faultless : goal.returns-then-eq-2-clause-faultless
