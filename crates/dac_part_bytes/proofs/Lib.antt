@@ -15,3 +15,4 @@ pub mod PartCodecs
 pub mod ReadFacts
 pub mod ReadLoops
 pub mod VoteLists
+pub mod Writing
