@@ -5,15 +5,15 @@ use Rattle.dac_part_bytes.specs.Spelling.{key_bytes, keyed_votes_bytes}
 use Rattle.dac_wishes.specs.PermitsByKey.{permits_by_key}
 use Rattle.dac_bytes.specs.Numbers.{u32_bytes}
 use Rattle.dac_part_bytes.specs.Spelling.{votes_bytes}
-use Rattle.dac_part_bytes.proofs.Writing.{all_written, one_fewer, one_written}
+use Rattle.dac_part_bytes.proofs.OneByOne.{all_written, one_fewer, one_written}
 use Rattle.dac_part_bytes.proofs.writing.write_permissions.Goals as goal
 
 pub loop-key-preserved : goal.loop-key-preserved
 loop-key-preserved c =
     let text = (keyed_votes_bytes (key_bytes c.args.version) c.args.version Up) in
     let e = c.in-Some.field-0.now in
-    one_written text c.loop-key.left c.next.new.self e c.loop-key.written c.in_ok-write_permits.field-0 (c.in_ok-written.written ++ flat_map text c.entries-left.result) c.in-Some.ensures c.loop-key.invariant
-    (c.in_ok-write_permits.ensures ∙ ap (λ es. c.loop-key.written ++ keyed_votes_bytes (key_bytes c.args.version) c.args.version Up (e.0, es)) c.entries.ensures)
+    one_written text c.loop-key.left c.next.new.self e c.loop-key.written _ (c.in_ok-written.written ++ flat_map text c.entries-left.result) c.in-Some.ensures c.loop-key.invariant
+    (c.in_ok-written-2.ensures ∙ ap (λ es. c.loop-key.written ++ keyed_votes_bytes (key_bytes c.args.version) c.args.version Up (e.0, es)) c.entries.ensures)
 
 pub loop-key-smaller : goal.loop-key-smaller
 loop-key-smaller c = one_fewer c.loop-key.left c.next.new.self c.in-Some.field-0.now c.in-Some.ensures

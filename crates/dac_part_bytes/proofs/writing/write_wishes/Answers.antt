@@ -7,15 +7,15 @@ use Rattle.dac_part_bytes.specs.Spelling.{keyed_dots_bytes}
 use Rattle.dac_wishes.specs.StartsByKey.{starts_by_key}
 use Rattle.dac_bytes.specs.Numbers.{u32_bytes}
 use Rattle.dac_part_bytes.specs.Spelling.{starts_bytes}
-use Rattle.dac_part_bytes.proofs.Writing.{all_written, one_fewer, one_written}
+use Rattle.dac_part_bytes.proofs.OneByOne.{all_written, one_fewer, one_written}
 use Rattle.dac_part_bytes.proofs.writing.write_wishes.Goals as goal
 
 pub loop-key-preserved : goal.loop-key-preserved
 loop-key-preserved c =
     let text = (λ (e : Key × Dots). keyed_dots_bytes c.args.version (e.0, in_order e.1)) in
     let e = c.in-Some.field-0.now in
-    one_written text c.loop-key.left c.next.new.self e c.loop-key.written c.in_ok-write_dots.field-0 (c.in_ok-written.written ++ flat_map text c.entries-left.result) c.in-Some.ensures c.loop-key.invariant
-    (c.in_ok-write_dots.ensures ∙ ap (λ es. c.loop-key.written ++ keyed_dots_bytes c.args.version (e.0, es)) c.dots.ensures)
+    one_written text c.loop-key.left c.next.new.self e c.loop-key.written _ (c.in_ok-written.written ++ flat_map text c.entries-left.result) c.in-Some.ensures c.loop-key.invariant
+    (c.in_ok-written-2.ensures ∙ ap (λ es. c.loop-key.written ++ keyed_dots_bytes c.args.version (e.0, es)) c.dots.ensures)
 
 pub loop-key-smaller : goal.loop-key-smaller
 loop-key-smaller c = one_fewer c.loop-key.left c.next.new.self c.in-Some.field-0.now c.in-Some.ensures

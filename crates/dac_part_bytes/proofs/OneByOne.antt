@@ -20,7 +20,7 @@ module _ {E : Type 0} where
 
     -- all are
     pub all_written : (count : ℕ → List ℕ) (writer head written : List ℕ) (n : ℕ) (entries left es : List E) → entries ≡ es → n ≡ length es → head ≡ writer ++ count n → left ≡ [] → written ++ flat_map text left ≡ head ++ flat_map text entries
-        → written ≡ writer ++ count (length es) ++ flat_map text es
+        → written ≡ writer ++ (count (length es) ++ flat_map text es)
     all_written count writer head written n entries left es same long begun none so_far =
         sym (append-nil written)
         ∙ ap (λ (l : List E). written ++ flat_map text l) (sym none)
