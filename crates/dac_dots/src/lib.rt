@@ -11,6 +11,7 @@
 
 pub use context::Context;
 pub use dac_origins::{Dot, MapKey, NoMemory, Origin, keys};
+pub use filter::DotFilter;
 pub use filtered::FilteredContext;
 pub use row::Further;
 pub use shared::SharedContext;
