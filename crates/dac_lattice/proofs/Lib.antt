@@ -1,3 +1,4 @@
+mod BelowLemmas
 mod JoinLemmas
 pub mod MergeLemmas
 pub mod SearchLemmas
