@@ -1,5 +1,5 @@
 -- What holds of a context that keeps no rows.
-use Rattle.std.proofs.Common.{◌≡◌, Bool, true, false, ◌||◌, [], Option, None, Some, refl, sym, ap, ◌∙◌}
+use Rattle.std.proofs.Common.{◌≡◌, false, ◌||◌, [], Option, None, Some, refl, sym, ap, ◌∙◌}
 use Rattle.std.specs.FinSet as set
 use Rattle.std.specs.declared.sync.Arc.{Arc}
 use Rattle.std.proofs.lemmas.Bool.{false≢true}

@@ -117,16 +117,13 @@ impl Context {
         ensures { IfOk result (λ both. both ≡ set.union self.now other.now) }
     {
         let Some(mine) = &self.kept else {
-            let copied = other.copy()?;
-            return Ok(copied);
+            return other.copy();
         };
         let Some(theirs) = &other.kept else {
-            let copied = self.copy()?;
-            return Ok(copied);
+            return self.copy();
         };
         let both = mine.union(theirs)?;
-        let context = Context::of(self.alloc, both)?;
-        Ok(context)
+        Context::of(self.alloc, both)
     }
 
     /// Whether the other set has each dot of this one.

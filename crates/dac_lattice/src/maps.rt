@@ -43,8 +43,7 @@ impl<K: MapKey, L: Lattice> MapOf<K, L> {
         value.tells_invariant();
         let mut entries = Vec::new(alloc);
         entries.push((key, value))?;
-        let map = MapOf::of(alloc, entries)?;
-        Ok(map)
+        MapOf::of(alloc, entries)
     }
 
     /// The map of these entries, which copies will share. [`NoMemory`] is the only error.
