@@ -1,4 +1,3 @@
-mod BelowLemmas
 mod JoinLemmas
 pub mod MergeLemmas
 pub mod SearchLemmas

@@ -12,11 +12,11 @@ use Rattle.dac_lattice.specs.Entries.{Combine, keep, merge_entries}
 use Rattle.dac_lattice.specs.Merges.{lowest_of, keep_lowest}
 
 -- the element at a place, before those after it, if there is one
-abbrev pub IsNext : {E : Type 0} → List E → ℕ → Option E → Type 0
+abbrev IsNext : {E : Type 0} → List E → ℕ → Option E → Type 0
 IsNext xs i None = length xs ≤ i
 IsNext xs i (Some e) = (i < length xs) × (drop i xs ≡ e ∷ drop (i + 1) xs)
 
-pub next_from : {E : Type 0} (xs : List E) (i : ℕ) (r : Option (Bor E)) → IsItemAt xs i r → IsNext xs i (option_copied r)
+next_from : {E : Type 0} (xs : List E) (i : ℕ) (r : Option (Bor E)) → IsItemAt xs i r → IsNext xs i (option_copied r)
 next_from xs i None at = at.3
 next_from xs i (Some e) at =
     let here = at.3 in
@@ -30,7 +30,7 @@ taken_copied : {E : Type 0} (r : Option (Bor E)) → from_bool (is_some r) ≡ t
 taken_copied None = refl
 taken_copied (Some e) = refl
 
-pub stays : {E : Type 0} (xs : List E) (i : ℕ) → drop i xs ≡ drop (i + 0) xs
+stays : {E : Type 0} (xs : List E) (i : ℕ) → drop i xs ≡ drop (i + 0) xs
 stays xs i = ap (λ n. drop n xs) (same i)
   where
     same : (i : ℕ) → i ≡ i + 0

@@ -11,12 +11,6 @@ lowest_of R None y = (None, y)
 lowest_of R (Some x) None = (Some x, None)
 lowest_of R (Some x) (Some y) = by_order (R x.0 y.0) (Some x, None) (Some x, Some y) (None, Some y)
 
--- of the entries at one key the first has a value below that of the second, or there is no first
-abbrev pub IsLowestBelow : {K X : Type 0} → (X → X → Type 0) → Option (K × X) → Option (K × X) → Type 0
-IsLowestBelow below None y = Unit {0}
-IsLowestBelow below (Some x) None = ⊥
-IsLowestBelow below (Some x) (Some y) = below x.1 y.1
-
 -- what is kept of the entries at one key, before others
 abbrev pub keep_lowest : {K X : Type 0} → Combine K X → Option (K × X) → Option (K × X) → List (K × X) → List (K × X)
 keep_lowest f None None es = es

@@ -1,12 +1,11 @@
 //! Maps whose values are a lattice.
-ghost use Rattle.std.specs.Prelude.{◌≡◌, ◌↔◌, [], ◌∷◌, IsTrue, IfOk};
+ghost use Rattle.std.specs.Prelude.{◌≡◌, ◌↔◌, [], ◌∷◌, IsTrue, IfOk, Some};
 ghost use Rattle.std.specs.Option.{option_copied};
 ghost use Rattle.std.specs.FinMap.{find};
-ghost use Rattle.dac_lattice.specs.Maps.{IsMap, IsMapBelow};
-ghost use Rattle.dac_lattice.specs.Merges.{IsLowestBelow};
-ghost use Rattle.dac_lattice.specs.Search.{IsInOrder};
+ghost use Rattle.dac_lattice.specs.Lattices.{IsOptionBelow};
+ghost use Rattle.dac_lattice.specs.Maps.{IsMap};
 
-use crate::merging::{Combine, lowest, merge, value_at};
+use crate::merging::{Combine, merge, value_at};
 use crate::{Bottom, Lattice};
 use dac_origins::{MapKey, NoMemory};
 use std::alloc::Global;
@@ -77,35 +76,14 @@ impl<K: MapKey, L: Lattice> MapOf<K, L> {
     }
 }
 
-/// Whether of the entries at the lowest key of two maps the first is below the second, or there is no first.
-fn is_lowest_below<K: MapKey, L: Lattice>(mine: Option<&(K, L)>, theirs: Option<&(K, L)>) -> bool
-    ensures { IsTrue result
-        ↔ IsLowestBelow L.below (option_copied mine.entry) (option_copied theirs.entry) }
+/// Whether a value is below what is at a key.
+fn is_within<L: Lattice>(mine: &L, theirs: Option<&L>) -> bool
+    ensures { IsTrue result ↔ IsOptionBelow L.below (Some mine.now) (option_copied theirs.entry) }
 {
-    match (mine, theirs) {
-        (Some((_, mine)), Some((_, theirs))) => mine.leq(theirs),
-        (Some(_), None) => false,
-        (None, _) => true,
+    match theirs {
+        Some(theirs) => mine.leq(theirs),
+        None => false,
     }
-}
-
-/// Whether each value of one map is below that at its key in the other, in one pass.
-fn are_below<K: MapKey, L: Lattice>(mine: &[(K, L)], theirs: &[(K, L)]) -> bool
-    requires mine { IsInOrder K.cmp mine.now }
-    requires theirs { IsInOrder K.cmp theirs.now }
-    ensures { IsTrue result ↔ IsMapBelow K.cmp L.below mine.now theirs.now }
-{
-    let mut i = 0;
-    let mut j = 0;
-    'each: while i < mine.len() {
-        let (first, second) = lowest(mine.get(i), theirs.get(j));
-        if !is_lowest_below(first, second) {
-            return false;
-        }
-        i += usize::from(first.is_some());
-        j += usize::from(second.is_some());
-    }
-    true
 }
 
 /// Keeps the value of a key that one of two maps has, and joins the two of a key that both have.
@@ -162,8 +140,12 @@ impl<K: MapKey, L: Lattice> Lattice for MapOf<K, L> {
 
     fn leq(&self, other: &Self) -> bool {
         self.tells_invariant();
-        other.tells_invariant();
-        are_below(self.entries(), other.entries())
+        for (key, value) in self.entries() {
+            if !is_within(value, other.get(*key)) {
+                return false;
+            }
+        }
+        true
     }
 
     fn equal(&self, other: &Self) -> bool {

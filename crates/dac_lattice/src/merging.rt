@@ -47,7 +47,7 @@ fn push_kept<K: MapKey, X: Drop>(
 }
 
 /// Of the next entries of two maps those at the lowest key: one of them, or both where the keys are equal.
-pub(crate) fn lowest<'a, K: MapKey, X>(
+fn lowest<'a, K: MapKey, X>(
     mine: Option<&'a (K, X)>,
     theirs: Option<&'a (K, X)>,
 ) -> (Option<&'a (K, X)>, Option<&'a (K, X)>)

@@ -44,7 +44,7 @@ module _ {K X : Type 0} {R : K → K → Ordering} (o : IsTotalOrder R) (exact :
       ap (λ r. cond (is_eq r) (Some x.1) (find R (get_or xs i d).0 xs)) (greater o x.0 (get_or xs i d).0 (above_at x.0 xs i d (first _ _ h) (omega arith)))
       ∙ find_at xs i d (second _ _ h) (omega arith)
 
-pub tied_from : (r : Ordering) → is_eq r ≡ true → r ≡ Equal
+tied_from : (r : Ordering) → is_eq r ≡ true → r ≡ Equal
 tied_from Less p = cc
 tied_from Equal p = refl
 tied_from Greater p = cc
