@@ -21,4 +21,5 @@ mod counters;
 mod filter;
 mod filtered;
 mod row;
+mod rows;
 mod shared;
