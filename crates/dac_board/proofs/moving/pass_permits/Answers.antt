@@ -1,4 +1,4 @@
-use Rattle.std.proofs.Common.{◌+◌, ◌∙◌, arith, length, sym}
+use Rattle.std.proofs.Common.{◌∙◌, arith, sym}
 use Rattle.dac_wishes.specs.laws.Keys.{exact_keys}
 use Rattle.dac_board.proofs.Walks.{both_passed, new_passed, old_passed, one_fewer, passed_one}
 use Rattle.dac_board.proofs.moving.pass_permits.Goals as goal
