@@ -1,5 +1,6 @@
 -- Two lists of entries that are walked through together: what is left of both decides what was passed.
-use Rattle.std.proofs.Common.{◌≡◌, ℕ, ◌<◌, true, false, cond, List, [], ◌∷◌, length, drop, Option, None, Some, MatchOption, is_none, refl, sym, ap, ◌∙◌, arith, add-one, true≢false}
+use Rattle.std.proofs.Common.{◌≡◌, ℕ, ◌<◌, true, false, cond, List, [], ◌∷◌, length, drop, Option, None, Some, MatchOption, refl, sym, ap, ◌∙◌, arith, add-one, true≢false}
+use Rattle.std.specs.Prelude.{is_some}
 use Rattle.std.specs.Borrow.{Bor}
 use Rattle.std.specs.Ordering.{eq_by_cmp}
 use Rattle.std.specs.FinMap.{find}
@@ -78,9 +79,9 @@ module _ {E : Type 0} where
   pub same_first : (old new next after : List E) (e f : E) → old ≡ e ∷ next → new ≡ f ∷ after → e ≡ f → next ≡ after → old ≡ new
   same_first old new next after e f is also same rest = is ∙ (λ i. same i ∷ rest i) ∙ sym also
 
-  pub none_left : (now : List E) (r : Option (Bor E)) → MatchOption r (now ≡ []) (λ e. now ≡ e.now ∷ drop 1 now) → is_none r ≡ true → now ≡ []
+  pub none_left : (now : List E) (r : Option (Bor E)) → MatchOption r (now ≡ []) (λ e. now ≡ e.now ∷ drop 1 now) → is_some r ≡ false → now ≡ []
   none_left now None first e = first
-  none_left now (Some b) first e = absurd (true≢false (sym e))
+  none_left now (Some b) first e = absurd (true≢false e)
 
 -- ---- what stands at a key, by the entries
 

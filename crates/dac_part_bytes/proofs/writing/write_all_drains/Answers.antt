@@ -1,4 +1,4 @@
-use Rattle.std.proofs.Common.{◌≡◌, ◌++◌, ◌∙◌, ap, length}
+use Rattle.std.proofs.Common.{◌++◌, ◌∙◌, ap}
 use Rattle.std.specs.List.{flat_map}
 use Rattle.dac_lattice.specs.declared.flags.Flag.TheVariants.{Down}
 use Rattle.dac_bytes.specs.Spelling.{origin_bytes}

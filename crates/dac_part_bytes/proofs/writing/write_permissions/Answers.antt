@@ -1,4 +1,4 @@
-use Rattle.std.proofs.Common.{◌≡◌, ◌++◌, ◌∙◌, ap, length}
+use Rattle.std.proofs.Common.{◌++◌, ◌∙◌, ap}
 use Rattle.std.specs.List.{flat_map}
 use Rattle.dac_lattice.specs.declared.flags.Flag.TheVariants.{Up}
 use Rattle.dac_part_bytes.specs.Spelling.{key_bytes, keyed_votes_bytes}

@@ -1,4 +1,4 @@
-use Rattle.std.proofs.Common.{◌≡◌, ◌++◌, ◌∙◌, ap, length}
+use Rattle.std.proofs.Common.{◌++◌, ◌∙◌, ap}
 use Rattle.std.specs.List.{flat_map}
 use Rattle.dac_origins.specs.Dots.{Dots}
 use Rattle.dac_origins.specs.InOrder.{in_order}
