@@ -28,7 +28,7 @@ use Rattle.dac_config.specs.Table.{Table}
 use Rattle.dac_part_bytes.specs.KeyedForm.{IsKey, IsKnownDot, IsKnownWrite, AreStartsInForm}
 use Rattle.dac_part_bytes.proofs.Entries.{sorted_of, rising_keys, all_has, has_all, found, all_found}
 use Rattle.dac_part_bytes.proofs.KeyedLists.{IsKeyedDots, AreStartsByKey}
-use Rattle.dac_part_bytes.proofs.InOrder.{no_dots, not_empty_set}
+use Rattle.dac_part_bytes.specs.laws.InOrder.{no_dots, not_empty_set}
 use Rattle.dac_bytes.specs.declared.version.Version.{Version}
 
 -- ---- sets and their dots in order

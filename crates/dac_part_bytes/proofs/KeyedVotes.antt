@@ -25,7 +25,7 @@ use Rattle.dac_config.specs.Table.{Table}
 use Rattle.dac_bytes.specs.declared.version.Version.{Version}
 use Rattle.dac_part_bytes.specs.KeyedForm.{IsKnownDot, IsKnownWrite, AreVotesInForm}
 use Rattle.dac_part_bytes.proofs.Entries.{sorted_of, rising_keys, found, found_key, all_found}
-use Rattle.dac_part_bytes.proofs.InOrder.{not_empty}
+use Rattle.dac_part_bytes.specs.laws.InOrder.{not_empty}
 use Rattle.dac_part_bytes.proofs.VoteLists.{IsKeyedVotes, AreVotesByKey}
 
 not_none : {X : Type 0} (xs : List X) → is_empty_list xs ≡ false → 1 ≤ length xs

@@ -4,7 +4,6 @@ pub mod ChainEntries
 pub mod ChainLaws
 pub mod ChainLives
 pub mod Entries
-pub mod InOrder
 pub mod Kept
 pub mod KeyFields
 pub mod KeyedLaws
@@ -12,6 +11,5 @@ pub mod KeyedLists
 pub mod KeyedStarts
 pub mod KeyedVotes
 pub mod PartCodecs
-pub mod ReadFacts
 pub mod ReadLoops
 pub mod VoteLists

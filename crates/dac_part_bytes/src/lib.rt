@@ -28,6 +28,7 @@ pub use writing::{
 pub mod laws;
 mod reading_chains;
 mod reading_fields;
+mod reading_items;
 mod reading_starts;
 mod reading_votes;
 mod writing;

@@ -1,15 +1,17 @@
 //! The reading side: lives and claims.
-ghost use Rattle.std.specs.Prelude.{◌≡◌, ◌<◌, None, Some, IfOk};
+ghost use Rattle.std.specs.Prelude.{◌≡◌, ◌<◌, IfOk};
 ghost use Rattle.std.specs.FinMap as map;
 ghost use Rattle.dac_config.specs.Table.{app_count, node_count};
-ghost use Rattle.dac_bytes.specs.Reading.{Gives, IsOfBytes, items_at};
+ghost use Rattle.dac_bytes.specs.Reading.{Gives, IsOfBytes};
 ghost use Rattle.dac_bytes.specs.Takes.{IsFoundAs, IsReadAgain};
 ghost use Rattle.dac_part_bytes.specs.ChainForm.{AreClaimsInForm, AreLivesInForm};
+ghost use Rattle.dac_part_bytes.specs.laws.ReadFacts.{claim_next, life_next};
 ghost use Rattle.dac_part_bytes.specs.Spelling.{claims_bytes, lives_bytes};
 ghost use Rattle.dac_part_bytes.specs.Reading.{all_claims_at, all_lives_at, claim_at, claim_fields_at, claimer_at, claims_in_order_at, life_at, listed_claim_at, lives_in_order_at, term_and_claimer_at};
 
 use crate::reading_fields::{is_listed, read_app, read_inc_and_flag, read_manner, read_node_above};
-use dac_base::{AppId, MAX_COUNTER, NodeId};
+use crate::reading_items::{ItemReader, read_items};
+use dac_base::{AppId, MAX_COUNTER, NoMemory, NodeId};
 use dac_bytes::{ByteReader, ReadFault, ReadFaultKind, Version};
 use dac_chains::{Claim, Claims, How, Life, Lives};
 use dac_config::Config;
@@ -17,44 +19,48 @@ use dac_lattice::{Bottom, Lattice};
 use dac_origins::Origin;
 use std::alloc::Global;
 
-/// The life of a node above the one before it.
-#[tactic(auto, unfolding(crate::specs::Reading::life_at))]
-fn read_life<'a>(
-    reader: ByteReader<'a>,
-    version: Version,
-    nodes: u8,
-    before: Option<NodeId>,
-) -> Result<((NodeId, Life), ByteReader<'a>), ReadFault>
-    ensures exact { result ≡ life_at version nodes before reader.entry }
-    ensures real { IsOfBytes result }
-{
-    let (node, rest) = read_node_above(reader, nodes, before)?;
-    let (life, rest) = read_inc_and_flag(rest, version)?;
-    Ok(((node, life), rest))
-}
-
-/// So many lives.
-fn read_counted_lives<'a>(
-    reader: ByteReader<'a>,
+/// Lives, in the order of their nodes.
+#[derive(Drop)]
+struct LifeReader {
     alloc: Global,
     version: Version,
     nodes: u8,
-    count: u8,
-) -> Result<(Lives, ByteReader<'a>), ReadFault>
-    ensures { Gives (λ x. (map.entries x.0, x.1)) result
-        (items_at (life_at version nodes) (λ e. Some e.0) count None reader.entry) }
-{
-    let mut lives = Lives::bottom(alloc);
-    let mut before = None;
-    let mut rest = reader;
-    for _ in 0..count {
-        let (entry, after) = read_life(rest, version, nodes, before)?;
-        let (node, life) = entry;
-        lives = lives.join(&Lives::one(alloc, node, life)?)?;
-        before = Some(node);
-        rest = after;
+}
+
+impl ItemReader for LifeReader {
+    type Item = (NodeId, Life);
+
+    type Key = NodeId;
+
+    type Kept = Lives;
+
+    ghost key = { λ e. e.0 };
+
+    ghost item_at = { λ s. life_at s.version s.nodes };
+
+    ghost items = { map.entries };
+
+    #[tactic(auto, unfolding(crate::specs::Reading::life_at))]
+    fn read<'a>(
+        &self,
+        reader: ByteReader<'a>,
+        before: Option<NodeId>,
+    ) -> Result<((NodeId, Life), ByteReader<'a>), ReadFault>
+        ensures { Gives (λ x. x) result
+            (life_at self.now.version self.now.nodes before reader.entry) }
+    {
+        let (node, rest) = read_node_above(reader, self.nodes, before)?;
+        let (life, rest) = read_inc_and_flag(rest, self.version)?;
+        Ok(((node, life), rest))
     }
-    Ok((lives, rest))
+
+    fn put(&self, kept: &mut Lives, item: (NodeId, Life)) -> Result<NodeId, NoMemory> {
+        let (node, life) = item;
+        *kept = kept.join(&Lives::one(self.alloc, node, life)?)?;
+        Ok(node)
+    }
+
+    ghost next = { λ s before r x read. (tt, life_next s.version s.nodes before r x read) };
 }
 
 /// The lives.
@@ -68,7 +74,13 @@ fn read_all_lives<'a>(
     ensures { Gives (λ x. x) result (all_lives_at version (node_count config.now) reader.entry) }
 {
     let (count, rest) = reader.read_u8()?;
-    let read = read_counted_lives(rest, alloc, version, config.nodes(), count)?;
+    let nodes = config.nodes();
+    let lives = LifeReader {
+        alloc,
+        version,
+        nodes,
+    };
+    let read = read_items(rest, &lives, Lives::bottom(alloc), u32::from(count))?;
     Ok(read)
 }
 
@@ -170,52 +182,56 @@ fn read_listed_claim<'a>(
     }
 }
 
-/// The claim of an application above the one before it.
-#[tactic(auto, unfolding(crate::specs::Reading::claim_at))]
-fn read_claim<'a>(
-    reader: ByteReader<'a>,
-    version: Version,
-    config: &Config,
-    before: Option<AppId>,
-) -> Result<((AppId, Claim), ByteReader<'a>), ReadFault>
-    ensures exact { result ≡ claim_at version config.now before reader.entry }
-    ensures real { IsOfBytes result }
-{
-    let at = reader.at();
-    let (entry, rest) = read_listed_claim(reader, version, config)?;
-    let (app, claim) = entry;
-    if before.is_none_or(|before| before < app) {
-        Ok(((app, claim), rest))
-    } else {
-        Err(ReadFault {
-            kind: ReadFaultKind::BadOrder,
-            at,
-        })
-    }
-}
-
-/// So many claims.
-fn read_counted_claims<'a>(
-    reader: ByteReader<'a>,
+/// Claims, in the order of their applications.
+#[derive(Drop)]
+struct ClaimReader<'c> {
     alloc: Global,
     version: Version,
-    config: &Config,
-    count: u16,
-) -> Result<(Claims, ByteReader<'a>), ReadFault>
-    ensures { Gives (λ x. (map.entries x.0, x.1)) result
-        (items_at (claim_at version config.now) (λ e. Some e.0) count None reader.entry) }
-{
-    let mut claims = Claims::bottom(alloc);
-    let mut before = None;
-    let mut rest = reader;
-    for _ in 0..count {
-        let (entry, after) = read_claim(rest, version, config, before)?;
+    config: &'c Config,
+}
+
+impl ItemReader for ClaimReader<'_> {
+    type Item = (AppId, Claim);
+
+    type Key = AppId;
+
+    type Kept = Claims;
+
+    ghost key = { λ e. e.0 };
+
+    ghost item_at = { λ s. claim_at s.version s.config.now };
+
+    ghost items = { map.entries };
+
+    #[tactic(auto, unfolding(crate::specs::Reading::claim_at))]
+    fn read<'a>(
+        &self,
+        reader: ByteReader<'a>,
+        before: Option<AppId>,
+    ) -> Result<((AppId, Claim), ByteReader<'a>), ReadFault>
+        ensures { Gives (λ x. x) result
+            (claim_at self.now.version self.now.config.now before reader.entry) }
+    {
+        let at = reader.at();
+        let (entry, rest) = read_listed_claim(reader, self.version, self.config)?;
         let (app, claim) = entry;
-        claims = claims.join(&Claims::one(alloc, app, claim)?)?;
-        before = Some(app);
-        rest = after;
+        if before.is_none_or(|before| before < app) {
+            Ok(((app, claim), rest))
+        } else {
+            Err(ReadFault {
+                kind: ReadFaultKind::BadOrder,
+                at,
+            })
+        }
     }
-    Ok((claims, rest))
+
+    fn put(&self, kept: &mut Claims, item: (AppId, Claim)) -> Result<AppId, NoMemory> {
+        let (app, claim) = item;
+        *kept = kept.join(&Claims::one(self.alloc, app, claim)?)?;
+        Ok(app)
+    }
+
+    ghost next = { λ s before r x read. (tt, claim_next s.version s.config.now before r x read) };
 }
 
 /// The claims.
@@ -229,7 +245,12 @@ fn read_all_claims<'a>(
     ensures { Gives (λ x. x) result (all_claims_at version config.now reader.entry) }
 {
     let (count, rest) = reader.read_u16()?;
-    let read = read_counted_claims(rest, alloc, version, config, count)?;
+    let claims = ClaimReader {
+        alloc,
+        version,
+        config,
+    };
+    let read = read_items(rest, &claims, Claims::bottom(alloc), u32::from(count))?;
     Ok(read)
 }
 

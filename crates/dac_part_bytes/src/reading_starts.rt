@@ -1,7 +1,8 @@
 //! The reading side: start wishes.
-ghost use Rattle.std.specs.Prelude.{◌≡◌, None, Some, IfOk};
-ghost use Rattle.dac_bytes.specs.Reading.{Gives, items_at};
+ghost use Rattle.std.specs.Prelude.{◌≡◌, IfOk};
+ghost use Rattle.dac_bytes.specs.Reading.{Gives};
 ghost use Rattle.dac_bytes.specs.Takes.{IsFoundAs, IsReadAgain};
+ghost use Rattle.dac_part_bytes.specs.laws.ReadFacts.{AreDotsKnown, IsKnown, keyed_dots_next, known_dot_next};
 ghost use Rattle.dac_part_bytes.specs.KeyedForm.{AreStartsInForm};
 ghost use Rattle.dac_part_bytes.specs.Spelling.{starts_bytes};
 ghost use Rattle.dac_origins.specs.InOrder.{in_order};
@@ -11,35 +12,57 @@ ghost use Rattle.std.specs.FinSet as set;
 ghost use Rattle.dac_part_bytes.specs.Reading.{all_starts_at, dots_of_key_at, keyed_dots_at, known_dot_at, starts_by_key_at};
 
 use crate::reading_fields::{read_key, read_known_dot, read_some};
+use crate::reading_items::{ItemReader, push_entry, read_items};
 use crate::reading_votes::beside;
+use dac_base::NoMemory;
 use dac_bytes::{ByteReader, ReadFault, Version};
 use dac_config::Config;
+use dac_origins::Dot;
 use dac_store::{Context, DotMap, DotSet, DotStore};
 use dac_wishes::{Key, Wishes};
 use std::alloc::Global;
 
-/// So many dots of a key.
-fn read_dots<'a>(
-    reader: ByteReader<'a>,
-    alloc: Global,
+/// Dots that are known, in their order.
+#[derive(Drop)]
+struct DotReader<'c> {
     version: Version,
     nodes: u8,
-    known: &Context,
-    count: u32,
-) -> Result<(DotSet, ByteReader<'a>), ReadFault>
-    ensures { Gives (λ x. (in_order x.0, x.1)) result
-        (items_at (known_dot_at version nodes known.now) Some count None reader.entry) }
-{
-    let mut dots = DotSet::empty(alloc);
-    let mut before = None;
-    let mut rest = reader;
-    for _ in 0..count {
-        let (dot, after) = read_known_dot(rest, version, nodes, known, before)?;
-        dots.push(dot)?;
-        before = Some(dot);
-        rest = after;
+    known: &'c Context,
+}
+
+impl ItemReader for DotReader<'_> {
+    type Item = Dot;
+
+    type Key = Dot;
+
+    type Kept = DotSet;
+
+    ghost key = { λ d. d };
+
+    ghost item_at = { λ s. known_dot_at s.version s.nodes s.known.now };
+
+    ghost fits = { λ s. IsKnown s.known.now };
+
+    ghost items = { in_order };
+
+    fn read<'a>(
+        &self,
+        reader: ByteReader<'a>,
+        before: Option<Dot>,
+    ) -> Result<(Dot, ByteReader<'a>), ReadFault>
+        ensures { Gives (λ x. x) result
+            (known_dot_at self.now.version self.now.nodes self.now.known.now before reader.entry) }
+    {
+        let read = read_known_dot(reader, self.version, self.nodes, self.known, before)?;
+        Ok(read)
     }
-    Ok((dots, rest))
+
+    fn put(&self, kept: &mut DotSet, item: Dot) -> Result<Dot, NoMemory> {
+        kept.push(item)?;
+        Ok(item)
+    }
+
+    ghost next = { λ s. known_dot_next s.version s.nodes s.known.now };
 }
 
 /// The dots of a key.
@@ -55,68 +78,74 @@ fn read_dots_of_key<'a>(
         (dots_of_key_at version nodes known.now reader.entry) }
 {
     let (count, rest) = read_some(reader)?;
-    let read = read_dots(rest, alloc, version, nodes, known, count)?;
+    let dots = DotReader {
+        version,
+        nodes,
+        known,
+    };
+    let read = read_items(rest, &dots, DotSet::empty(alloc), count)?;
     Ok(read)
 }
 
-/// A key above the one before it, with its dots.
-#[tactic(auto, unfolding(crate::specs::Reading::keyed_dots_at))]
-fn read_keyed_dots<'a>(
-    reader: ByteReader<'a>,
+/// Start wishes, in the order of their keys.
+#[derive(Drop)]
+struct StartReader<'c> {
     alloc: Global,
     version: Version,
-    config: &Config,
-    known: &Context,
-    before: Option<Key>,
-) -> Result<((Key, DotSet), ByteReader<'a>), ReadFault>
-    ensures { Gives (λ x. x) result
-        (keyed_dots_at version config.now known.now before reader.entry) }
-{
-    let (key, rest) = read_key(reader, version, config, before)?;
-    let (dots, rest) = read_dots_of_key(rest, alloc, version, config.nodes(), known)?;
-    Ok(((key, dots), rest))
+    config: &'c Config,
+    known: &'c Context,
 }
 
-/// So many keys with their dots.
-fn read_keys_of_dots<'a>(
-    reader: ByteReader<'a>,
-    alloc: Global,
-    version: Version,
-    config: &Config,
-    known: &Context,
-    count: u32,
-) -> Result<(DotMap<Key, DotSet>, ByteReader<'a>), ReadFault>
-    ensures { Gives (λ x. x) result (items_at (keyed_dots_at version config.now known.now)
-        (λ e. Some e.0) count None reader.entry) }
-{
-    let mut store = DotMap::empty(alloc);
-    let mut before = None;
-    let mut rest = reader;
-    for _ in 0..count {
-        let (entry, after) = read_keyed_dots(rest, alloc, version, config, known, before)?;
-        let (key, dots) = entry;
-        store.push(key, dots)?;
-        before = Some(key);
-        rest = after;
+impl ItemReader for StartReader<'_> {
+    type Item = (Key, DotSet);
+
+    type Key = Key;
+
+    type Kept = DotMap<Key, DotSet>;
+
+    ghost key = { λ e. e.0 };
+
+    ghost item_at = { λ s. keyed_dots_at s.version s.config.now s.known.now };
+
+    ghost fits = { λ s. AreDotsKnown s.known.now };
+
+    ghost items = { λ starts. starts };
+
+    #[tactic(auto, unfolding(crate::specs::Reading::keyed_dots_at))]
+    fn read<'a>(
+        &self,
+        reader: ByteReader<'a>,
+        before: Option<Key>,
+    ) -> Result<((Key, DotSet), ByteReader<'a>), ReadFault>
+        ensures { Gives (λ x. x) result
+            (keyed_dots_at self.now.version self.now.config.now self.now.known.now before reader.entry) }
+    {
+        let (key, rest) = read_key(reader, self.version, self.config, before)?;
+        let nodes = self.config.nodes();
+        let (dots, rest) = read_dots_of_key(rest, self.alloc, self.version, nodes, self.known)?;
+        Ok(((key, dots), rest))
     }
-    Ok((store, rest))
+
+    fn put(&self, kept: &mut DotMap<Key, DotSet>, item: (Key, DotSet)) -> Result<Key, NoMemory> {
+        push_entry(kept, item)
+    }
+
+    ghost next = { λ s. keyed_dots_next s.version s.config.now s.known.now };
 }
 
 /// The start wishes, by key.
 #[tactic(auto, unfolding(crate::specs::Reading::starts_by_key_at, dac_bytes::specs::Reading::counted_at))]
 fn read_starts_by_key<'a>(
     reader: ByteReader<'a>,
-    alloc: Global,
-    version: Version,
-    config: &Config,
-    known: &Context,
+    starts: &StartReader<'_>,
 ) -> Result<(DotMap<Key, DotSet>, ByteReader<'a>), ReadFault>
     ensures exact { Gives (λ x. x) result
-        (starts_by_key_at version config.now known.now reader.entry) }
-    ensures held { IfOk result (λ x. IsHeld (has_in set.contains x.0) known.now) }
+        (starts_by_key_at starts.now.version starts.now.config.now starts.now.known.now
+        reader.entry) }
+    ensures held { IfOk result (λ x. IsHeld (has_in set.contains x.0) starts.now.known.now) }
 {
     let (count, rest) = reader.read_u32()?;
-    let read = read_keys_of_dots(rest, alloc, version, config, known, count)?;
+    let read = read_items(rest, starts, DotMap::empty(starts.alloc), count)?;
     Ok(read)
 }
 
@@ -124,17 +153,14 @@ fn read_starts_by_key<'a>(
 #[tactic(auto, unfolding(crate::specs::Reading::all_starts_at))]
 fn read_all_starts<'a>(
     reader: ByteReader<'a>,
-    alloc: Global,
-    version: Version,
-    config: &Config,
-    known: &Context,
+    starts: &StartReader<'_>,
 ) -> Result<(Wishes, ByteReader<'a>), ReadFault>
     ensures exact { Gives (λ x. (x.0.standing, x.1)) result
-        (all_starts_at version config.now known.now reader.entry) }
-    ensures known { IfOk result (λ x. x.0.known ≡ known.now) }
+        (all_starts_at starts.now.version starts.now.config.now starts.now.known.now reader.entry) }
+    ensures known { IfOk result (λ x. x.0.known ≡ starts.now.known.now) }
 {
-    let (store, rest) = read_starts_by_key(reader, alloc, version, config, known)?;
-    let causal = beside(store, known.copy()?);
+    let (store, rest) = read_starts_by_key(reader, starts)?;
+    let causal = beside(store, starts.known.copy()?);
     Ok((Wishes::new(causal), rest))
 }
 
@@ -162,5 +188,11 @@ pub fn read_wishes<'a>(
     // For the prover: nodes are numbered in one byte, and applications in two.
     let _nodes = config.nodes();
     let _apps = config.apps();
-    read_all_starts(reader, alloc, version, config, known)
+    let starts = StartReader {
+        alloc,
+        version,
+        config,
+        known,
+    };
+    read_all_starts(reader, &starts)
 }

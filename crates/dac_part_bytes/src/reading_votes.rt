@@ -1,12 +1,13 @@
 //! The reading side: permits and drains.
-ghost use Rattle.std.specs.Prelude.{◌≡◌, None, Some, IfOk};
-ghost use Rattle.dac_bytes.specs.Reading.{Gives, IsOfBytes, items_at, origin_above_at};
+ghost use Rattle.std.specs.Prelude.{◌≡◌, IfOk};
+ghost use Rattle.dac_bytes.specs.Reading.{Gives, origin_above_at};
 ghost use Rattle.dac_bytes.specs.Takes.{IsFoundAs, IsReadAgain};
 ghost use Rattle.dac_bytes.specs.declared.version.Version.TheVariants.{Two};
 ghost use Rattle.dac_config.specs.Table.{node_count};
 ghost use Rattle.dac_origins.specs.Dots.{origin_cmp};
+ghost use Rattle.dac_part_bytes.specs.laws.ReadFacts.{AreVotesKnown, IsKnown, drain_item, drains_next, permit_item, permits_next, vote_next};
 ghost use Rattle.dac_part_bytes.specs.KeyedForm.{AreDrainsInForm, ArePermitsInForm};
-ghost use Rattle.dac_part_bytes.specs.Reading.{all_drains_at, all_permits_at, all_votes_at, drains_of_key_at, key_above_at, keyed_votes_at, permits_of_key_at, said_flag, vote_at, votes_by_key_at, votes_of_key_at};
+ghost use Rattle.dac_part_bytes.specs.Reading.{all_drains_at, all_permits_at, all_votes_at, drains_of_key_at, key_above_at, permits_of_key_at, said_flag, vote_at, votes_by_key_at, votes_of_key_at};
 ghost use Rattle.dac_part_bytes.specs.Spelling.{drains_bytes, permits_bytes};
 ghost use Rattle.dac_store.specs.DotFuns.{has_dot};
 ghost use Rattle.dac_store.specs.DotMaps.{has_in};
@@ -14,6 +15,8 @@ ghost use Rattle.dac_store.specs.Stores.{IsHeld};
 
 use crate::laws::parts_have_one_spelling;
 use crate::reading_fields::{read_key, read_known_dot, read_some};
+use crate::reading_items::{ItemReader, push_entry, read_items};
+use dac_base::NoMemory;
 use dac_bytes::{ByteReader, ReadFault, Version};
 use dac_config::Config;
 use dac_lattice::Flag;
@@ -38,48 +41,51 @@ fn said_flag(truth: Flag, code: u8) -> Flag
     }
 }
 
-/// A vote with a dot above the one before it.
-#[tactic(auto, unfolding(crate::specs::Reading::vote_at))]
-fn read_vote<'a>(
-    reader: ByteReader<'a>,
+/// Votes, in the order of their dots.
+#[derive(Drop)]
+struct VoteReader<'c> {
     version: Version,
     nodes: u8,
-    known: &Context,
+    known: &'c Context,
     truth: Flag,
-    before: Option<Dot>,
-) -> Result<((Dot, Flag), ByteReader<'a>), ReadFault>
-    ensures exact { result ≡ vote_at version nodes known.now truth before reader.entry }
-    ensures real { IsOfBytes result }
-{
-    let (dot, rest) = read_known_dot(reader, version, nodes, known, before)?;
-    let (value, rest) = rest.read_u8_in(0, 1)?;
-    Ok(((dot, said_flag(truth, value)), rest))
 }
 
-/// So many votes of a key.
-fn read_votes<'a>(
-    reader: ByteReader<'a>,
-    alloc: Global,
-    version: Version,
-    nodes: u8,
-    known: &Context,
-    truth: Flag,
-    count: u32,
-) -> Result<(DotFun<Flag>, ByteReader<'a>), ReadFault>
-    ensures { Gives (λ x. x) result
-        (items_at (vote_at version nodes known.now truth) (λ p. Some p.0) count None reader.entry) }
-{
-    let mut votes = DotFun::empty(alloc);
-    let mut before = None;
-    let mut rest = reader;
-    for _ in 0..count {
-        let (vote, after) = read_vote(rest, version, nodes, known, truth, before)?;
-        let (dot, flag) = vote;
-        votes.push(dot, flag)?;
-        before = Some(dot);
-        rest = after;
+impl ItemReader for VoteReader<'_> {
+    type Item = (Dot, Flag);
+
+    type Key = Dot;
+
+    type Kept = DotFun<Flag>;
+
+    ghost key = { λ p. p.0 };
+
+    ghost item_at = { λ s. vote_at s.version s.nodes s.known.now s.truth };
+
+    ghost fits = { λ s p. IsKnown s.known.now p.0 };
+
+    ghost items = { λ votes. votes };
+
+    #[tactic(auto, unfolding(crate::specs::Reading::vote_at))]
+    fn read<'a>(
+        &self,
+        reader: ByteReader<'a>,
+        before: Option<Dot>,
+    ) -> Result<((Dot, Flag), ByteReader<'a>), ReadFault>
+        ensures { Gives (λ x. x) result
+            (vote_at self.now.version self.now.nodes self.now.known.now self.now.truth before reader.entry) }
+    {
+        let (dot, rest) = read_known_dot(reader, self.version, self.nodes, self.known, before)?;
+        let (value, rest) = rest.read_u8_in(0, 1)?;
+        Ok(((dot, said_flag(self.truth, value)), rest))
     }
-    Ok((votes, rest))
+
+    fn put(&self, kept: &mut DotFun<Flag>, item: (Dot, Flag)) -> Result<Dot, NoMemory> {
+        let (dot, flag) = item;
+        kept.push(dot, flag)?;
+        Ok(dot)
+    }
+
+    ghost next = { λ s. vote_next s.version s.nodes s.known.now s.truth };
 }
 
 /// The votes of a key.
@@ -95,7 +101,13 @@ fn read_votes_of_key<'a>(
     ensures { Gives (λ x. x) result (votes_of_key_at version nodes known.now truth reader.entry) }
 {
     let (count, rest) = read_some(reader)?;
-    let read = read_votes(rest, alloc, version, nodes, known, truth, count)?;
+    let votes = VoteReader {
+        version,
+        nodes,
+        known,
+        truth,
+    };
+    let read = read_items(rest, &votes, DotFun::empty(alloc), count)?;
     Ok(read)
 }
 
@@ -107,66 +119,76 @@ pub(crate) fn beside<S: DotStore>(store: S, context: Context) -> Causal<S>
     Causal::new(store, context).unwrap()
 }
 
-/// A key above the one before it, with its permits.
-#[tactic(auto, unfolding(crate::specs::Reading::keyed_votes_at))]
-fn read_keyed_permits<'a>(
-    reader: ByteReader<'a>,
+/// Permits, in the order of their keys.
+#[derive(Drop)]
+struct PermitReader<'c> {
     alloc: Global,
     version: Version,
-    config: &Config,
-    known: &Context,
-    before: Option<Key>,
-) -> Result<((Key, DotFun<Flag>), ByteReader<'a>), ReadFault>
-    ensures { Gives (λ x. x) result (keyed_votes_at (key_above_at version config.now)
-        (permits_of_key_at version config.now known.now) before reader.entry) }
-{
-    let (key, rest) = read_key(reader, version, config, before)?;
-    let (permits, rest) = read_votes_of_key(rest, alloc, version, config.nodes(), known, Flag::Up)?;
-    Ok(((key, permits), rest))
+    config: &'c Config,
+    known: &'c Context,
 }
 
-/// So many keys with their permits.
-fn read_keys_of_permits<'a>(
-    reader: ByteReader<'a>,
-    alloc: Global,
-    version: Version,
-    config: &Config,
-    known: &Context,
-    count: u32,
-) -> Result<(DotMap<Key, DotFun<Flag>>, ByteReader<'a>), ReadFault>
-    ensures { Gives (λ x. x) result (items_at
-        (keyed_votes_at (key_above_at version config.now)
-        (permits_of_key_at version config.now known.now)) (λ e. Some e.0) count None
-        reader.entry) }
-{
-    let mut store = DotMap::empty(alloc);
-    let mut before = None;
-    let mut rest = reader;
-    for _ in 0..count {
-        let (entry, after) = read_keyed_permits(rest, alloc, version, config, known, before)?;
-        let (key, permits) = entry;
-        store.push(key, permits)?;
-        before = Some(key);
-        rest = after;
+impl ItemReader for PermitReader<'_> {
+    type Item = (Key, DotFun<Flag>);
+
+    type Key = Key;
+
+    type Kept = DotMap<Key, DotFun<Flag>>;
+
+    ghost key = { λ e. e.0 };
+
+    ghost item_at = { λ s. permit_item s.version s.config.now s.known.now };
+
+    ghost fits = { λ s. AreVotesKnown s.known.now };
+
+    ghost items = { λ permits. permits };
+
+    #[tactic(auto, unfolding(crate::specs::Reading::keyed_votes_at))]
+    fn read<'a>(
+        &self,
+        reader: ByteReader<'a>,
+        before: Option<Key>,
+    ) -> Result<((Key, DotFun<Flag>), ByteReader<'a>), ReadFault>
+        ensures { Gives (λ x. x) result
+            (permit_item self.now.version self.now.config.now self.now.known.now before reader.entry) }
+    {
+        let (key, rest) = read_key(reader, self.version, self.config, before)?;
+        let (permits, rest) = read_votes_of_key(
+            rest,
+            self.alloc,
+            self.version,
+            self.config.nodes(),
+            self.known,
+            Flag::Up,
+        )?;
+        Ok(((key, permits), rest))
     }
-    Ok((store, rest))
+
+    fn put(
+        &self,
+        kept: &mut DotMap<Key, DotFun<Flag>>,
+        item: (Key, DotFun<Flag>),
+    ) -> Result<Key, NoMemory> {
+        push_entry(kept, item)
+    }
+
+    ghost next = { λ s. permits_next s.version s.config.now s.known.now };
 }
 
 /// The permits, by key.
 #[tactic(auto, unfolding(crate::specs::Reading::votes_by_key_at, dac_bytes::specs::Reading::counted_at))]
 fn read_permits_by_key<'a>(
     reader: ByteReader<'a>,
-    alloc: Global,
-    version: Version,
-    config: &Config,
-    known: &Context,
+    permits: &PermitReader<'_>,
 ) -> Result<(DotMap<Key, DotFun<Flag>>, ByteReader<'a>), ReadFault>
-    ensures exact { Gives (λ x. x) result (votes_by_key_at (key_above_at version config.now)
-        (permits_of_key_at version config.now known.now) reader.entry) }
-    ensures held { IfOk result (λ x. IsHeld (has_in has_dot x.0) known.now) }
+    ensures exact { Gives (λ x. x) result
+        (votes_by_key_at (key_above_at permits.now.version permits.now.config.now)
+        (permits_of_key_at permits.now.version permits.now.config.now permits.now.known.now)
+        reader.entry) }
+    ensures held { IfOk result (λ x. IsHeld (has_in has_dot x.0) permits.now.known.now) }
 {
     let (count, rest) = reader.read_u32()?;
-    let read = read_keys_of_permits(rest, alloc, version, config, known, count)?;
+    let read = read_items(rest, permits, DotMap::empty(permits.alloc), count)?;
     Ok(read)
 }
 
@@ -174,17 +196,15 @@ fn read_permits_by_key<'a>(
 #[tactic(auto, unfolding(crate::specs::Reading::all_votes_at))]
 fn read_all_permits<'a>(
     reader: ByteReader<'a>,
-    alloc: Global,
-    version: Version,
-    config: &Config,
-    known: &Context,
+    permits: &PermitReader<'_>,
 ) -> Result<(Permissions, ByteReader<'a>), ReadFault>
     ensures exact { Gives (λ x. (x.0.standing, x.1)) result
-        (all_permits_at version config.now known.now reader.entry) }
-    ensures known { IfOk result (λ x. x.0.known ≡ known.now) }
+        (all_permits_at permits.now.version permits.now.config.now permits.now.known.now
+        reader.entry) }
+    ensures known { IfOk result (λ x. x.0.known ≡ permits.now.known.now) }
 {
-    let (store, rest) = read_permits_by_key(reader, alloc, version, config, known)?;
-    let causal = beside(store, known.copy()?);
+    let (store, rest) = read_permits_by_key(reader, permits)?;
+    let causal = beside(store, permits.known.copy()?);
     Ok((Permissions::new(causal), rest))
 }
 
@@ -215,73 +235,83 @@ pub fn read_permissions<'a>(
         (ArePermitsInForm version config.now known.now) reader.entry result }
 {
     parts_have_one_spelling(config);
-    read_all_permits(reader, alloc, version, config, known)
-}
-
-/// An incarnation of a node above the one before it, with its drains.
-#[tactic(auto, unfolding(crate::specs::Reading::keyed_votes_at))]
-fn read_keyed_drains<'a>(
-    reader: ByteReader<'a>,
-    alloc: Global,
-    config: &Config,
-    known: &Context,
-    before: Option<Origin>,
-) -> Result<((Origin, DotFun<Flag>), ByteReader<'a>), ReadFault>
-    ensures { Gives (λ x. x) result (keyed_votes_at (origin_above_at Two (node_count config.now))
-        (drains_of_key_at config.now known.now) before reader.entry) }
-{
-    let (at, rest) = reader.read_origin_above(Version::Two, config.nodes(), before)?;
-    let (drains, rest) = read_votes_of_key(
-        rest,
+    let permits = PermitReader {
         alloc,
-        Version::Two,
-        config.nodes(),
+        version,
+        config,
         known,
-        Flag::Down,
-    )?;
-    Ok(((at, drains), rest))
+    };
+    read_all_permits(reader, &permits)
 }
 
-/// So many incarnations of nodes with their drains.
-fn read_keys_of_drains<'a>(
-    reader: ByteReader<'a>,
+/// Drains, in the order of their incarnations.
+#[derive(Drop)]
+struct DrainReader<'c> {
     alloc: Global,
-    config: &Config,
-    known: &Context,
-    count: u32,
-) -> Result<(DotMap<Origin, DotFun<Flag>>, ByteReader<'a>), ReadFault>
-    ensures { Gives (λ x. x) result (items_at
-        (keyed_votes_at (origin_above_at Two (node_count config.now))
-        (drains_of_key_at config.now known.now)) (λ e. Some e.0) count None reader.entry) }
-{
-    let mut store = DotMap::empty(alloc);
-    let mut before = None;
-    let mut rest = reader;
-    for _ in 0..count {
-        let (entry, after) = read_keyed_drains(rest, alloc, config, known, before)?;
-        let (at, drains) = entry;
-        store.push(at, drains)?;
-        before = Some(at);
-        rest = after;
+    config: &'c Config,
+    known: &'c Context,
+}
+
+impl ItemReader for DrainReader<'_> {
+    type Item = (Origin, DotFun<Flag>);
+
+    type Key = Origin;
+
+    type Kept = DotMap<Origin, DotFun<Flag>>;
+
+    ghost key = { λ e. e.0 };
+
+    ghost item_at = { λ s. drain_item s.config.now s.known.now };
+
+    ghost fits = { λ s. AreVotesKnown s.known.now };
+
+    ghost items = { λ drains. drains };
+
+    #[tactic(auto, unfolding(crate::specs::Reading::keyed_votes_at))]
+    fn read<'a>(
+        &self,
+        reader: ByteReader<'a>,
+        before: Option<Origin>,
+    ) -> Result<((Origin, DotFun<Flag>), ByteReader<'a>), ReadFault>
+        ensures { Gives (λ x. x) result
+            (drain_item self.now.config.now self.now.known.now before reader.entry) }
+    {
+        let (at, rest) = reader.read_origin_above(Version::Two, self.config.nodes(), before)?;
+        let (drains, rest) = read_votes_of_key(
+            rest,
+            self.alloc,
+            Version::Two,
+            self.config.nodes(),
+            self.known,
+            Flag::Down,
+        )?;
+        Ok(((at, drains), rest))
     }
-    Ok((store, rest))
+
+    fn put(
+        &self,
+        kept: &mut DotMap<Origin, DotFun<Flag>>,
+        item: (Origin, DotFun<Flag>),
+    ) -> Result<Origin, NoMemory> {
+        push_entry(kept, item)
+    }
+
+    ghost next = { λ s. drains_next s.config.now s.known.now };
 }
 
 /// The drains, by incarnation.
 #[tactic(auto, unfolding(crate::specs::Reading::votes_by_key_at, dac_bytes::specs::Reading::counted_at))]
 fn read_drains_by_key<'a>(
     reader: ByteReader<'a>,
-    alloc: Global,
-    config: &Config,
-    known: &Context,
+    drains: &DrainReader<'_>,
 ) -> Result<(DotMap<Origin, DotFun<Flag>>, ByteReader<'a>), ReadFault>
     ensures exact { Gives (λ x. x) result
-        (votes_by_key_at (origin_above_at Two (node_count config.now))
-        (drains_of_key_at config.now known.now) reader.entry) }
-    ensures held { IfOk result (λ x. IsHeld (has_in has_dot x.0) known.now) }
+        (votes_by_key_at (origin_above_at Two (node_count drains.now.config.now))
+        (drains_of_key_at drains.now.config.now drains.now.known.now) reader.entry) }
+    ensures held { IfOk result (λ x. IsHeld (has_in has_dot x.0) drains.now.known.now) }
 {
     let (count, rest) = reader.read_u32()?;
-    let read = read_keys_of_drains(rest, alloc, config, known, count)?;
+    let read = read_items(rest, drains, DotMap::empty(drains.alloc), count)?;
     Ok(read)
 }
 
@@ -289,17 +319,15 @@ fn read_drains_by_key<'a>(
 #[tactic(auto, unfolding(crate::specs::Reading::all_votes_at))]
 fn read_all_drains<'a>(
     reader: ByteReader<'a>,
-    alloc: Global,
-    config: &Config,
-    known: &Context,
+    drains: &DrainReader<'_>,
 ) -> Result<(Drains, ByteReader<'a>), ReadFault>
     ensures exact { Gives (λ x. (x.0.standing, x.1)) result
-        (all_votes_at origin_cmp (origin_above_at Two (node_count config.now))
-        (drains_of_key_at config.now known.now) reader.entry) }
-    ensures known { IfOk result (λ x. x.0.known ≡ known.now) }
+        (all_votes_at origin_cmp (origin_above_at Two (node_count drains.now.config.now))
+        (drains_of_key_at drains.now.config.now drains.now.known.now) reader.entry) }
+    ensures known { IfOk result (λ x. x.0.known ≡ drains.now.known.now) }
 {
-    let (store, rest) = read_drains_by_key(reader, alloc, config, known)?;
-    let causal = beside(store, known.copy()?);
+    let (store, rest) = read_drains_by_key(reader, drains)?;
+    let causal = beside(store, drains.known.copy()?);
     Ok((Drains::new(causal), rest))
 }
 
@@ -318,7 +346,12 @@ fn read_drains_in<'a>(
     match version {
         Version::One => Ok((Drains::none(alloc, known.copy()?), reader)),
         Version::Two => {
-            let read = read_all_drains(reader, alloc, config, known)?;
+            let drains = DrainReader {
+                alloc,
+                config,
+                known,
+            };
+            let read = read_all_drains(reader, &drains)?;
             Ok(read)
         }
     }

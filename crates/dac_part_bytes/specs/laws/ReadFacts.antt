@@ -36,7 +36,7 @@ use Rattle.dac_bytes.specs.Reading.{Rest, Field, fault, ◌>>=◌, number_at, ra
 use Rattle.dac_bytes.specs.laws.Takes.{bind_ok, guard_ok, wanted_ok, ok_is}
 use Rattle.dac_part_bytes.specs.Reading.{known_dot_at, said_flag, vote_at, some_at, votes_of_key_at, key_above_at, listed_key_at, keyed_votes_at, permits_of_key_at, drains_of_key_at, dots_of_key_at, keyed_dots_at, node_above_at, inc_and_flag_at, life_at, claim_at, listed_claim_at}
 use Rattle.dac_bytes.specs.laws.Ascending.{IsNext, counted_chain, items_chain, chain_each}
-use Rattle.dac_part_bytes.proofs.InOrder.{not_empty, not_empty_set}
+use Rattle.dac_part_bytes.specs.laws.InOrder.{not_empty, not_empty_set}
 use Rattle.dac_bytes.specs.declared.version.Version.{Version}
 use Rattle.dac_bytes.specs.declared.version.Version.TheVariants.{Two}
 
