@@ -1,10 +1,11 @@
 -- Two lists of entries that are walked through together: what is left of both decides what was passed.
-use Rattle.std.proofs.Common.{◌≡◌, ℕ, ◌+◌, ◌<◌, true, false, cond, List, [], ◌∷◌, length, drop, get_or, Some, refl, sym, ap, ◌∙◌}
+use Rattle.std.proofs.Common.{◌≡◌, ℕ, ◌<◌, true, false, cond, List, [], ◌∷◌, length, drop, Option, None, Some, MatchOption, refl, sym, ap, ◌∙◌, arith, add-one, true≢false}
+use Rattle.std.specs.Prelude.{is_some}
+use Rattle.std.specs.Borrow.{Bor}
 use Rattle.std.specs.Ordering.{eq_by_cmp}
 use Rattle.std.specs.FinMap.{find}
 use Rattle.std.specs.Cmp.{Equal-is}
 use Rattle.std.proofs.lemmas.Bool.{false_from_ne_true}
-use Rattle.std.proofs.lemmas.List.{drop_more}
 use Rattle.dac_wishes.specs.declared.key.Key.{Key}
 use Rattle.dac_wishes.specs.Keys.{key_cmp}
 use Rattle.dac_wishes.specs.laws.Keys.{exact_keys}
@@ -20,10 +21,8 @@ use Rattle.dac_wishes.specs.laws.VotesByKey.{are_votes, votes_stored, votes_by_k
 use Rattle.dac_wishes.specs.Writes.{Writes, dots_at}
 use Rattle.dac_wishes.specs.StartsByKey.{starts_by_key}
 use Rattle.dac_wishes.specs.laws.StartsByKey.{are_starts, dots_stored, writes_again}
-use Rattle.dac_board.specs.Alike.{IsSameOf}
-
-pub left_from : {X : Type 0} (xs : List X) (i : ℕ) (x : X) → x ≡ get_or xs i x → i < length xs → drop i xs ≡ x ∷ drop (i + 1) xs
-left_from xs i x here within = drop_more xs i x within ∙ ap (λ y. y ∷ drop (i + 1) xs) (sym here)
+use Rattle.dac_lattice.specs.Search.{AtEachKey}
+use Rattle.dac_board.specs.Alike.{IsAbsent, IsSameOf}
 
 same_key_is : (a b : Key) → eq_by_cmp key_cmp a b ≡ true → a ≡ b
 same_key_is a b e = exact_keys a b ((Equal-is (key_cmp a b)).0 e)
@@ -32,11 +31,18 @@ module _ {X : Type 0} (k : ℕ) where
   passes : (q : Key) (e : Key × X) (es : List (Key × X)) → q.app.0 ≡ k → (e.0.app.0 ≡ k → ⊥) → find key_cmp q (e ∷ es) ≡ find key_cmp q es
   passes q e es at other = ap (λ b. cond b (Some e.1) (find key_cmp q es)) (false_from_ne_true (eq_by_cmp key_cmp q e.0) (λ t. other (ap (λ (x : Key). x.app.0) (sym (same_key_is q e.0 t)) ∙ at)))
 
-  pub old_passed : (old new : List (Key × X)) (i : ℕ) (e : Key × X) → e ≡ get_or old i e → i < length old → (e.0.app.0 ≡ k → ⊥) → IsSameOf k (drop (i + 1) old) new → IsSameOf k (drop i old) new
-  old_passed old new i e is within other same = λ q at. ap (find key_cmp q) (left_from old i e is within) ∙ passes q e (drop (i + 1) old) at other ∙ same q at
+  pub old_passed : (old new next : List (Key × X)) (e : Key × X) → old ≡ e ∷ drop 1 old → next ≡ drop 1 old → (e.0.app.0 ≡ k → ⊥) → IsSameOf k next new → IsSameOf k old new
+  old_passed old new next e is passed other same = λ q at. ap (find key_cmp q) is ∙ passes q e (drop 1 old) at other ∙ ap (find key_cmp q) (sym passed) ∙ same q at
 
-  pub new_passed : (old new : List (Key × X)) (i : ℕ) (e : Key × X) → e ≡ get_or new i e → i < length new → (e.0.app.0 ≡ k → ⊥) → IsSameOf k old (drop (i + 1) new) → IsSameOf k old (drop i new)
-  new_passed old new i e is within other same = λ q at. same q at ∙ sym (ap (find key_cmp q) (left_from new i e is within) ∙ passes q e (drop (i + 1) new) at other)
+  pub new_passed : (old new next : List (Key × X)) (e : Key × X) → new ≡ e ∷ drop 1 new → next ≡ drop 1 new → (e.0.app.0 ≡ k → ⊥) → IsSameOf k old next → IsSameOf k old new
+  new_passed old new next e is passed other same = λ q at. same q at ∙ ap (find key_cmp q) passed ∙ sym (ap (find key_cmp q) is ∙ passes q e (drop 1 new) at other)
+
+  -- nothing of the application is at an entry that is passed
+  pub absent_passed : (now next : List (Key × X)) (e : Key × X) → now ≡ e ∷ next → (e.0.app.0 ≡ k → ⊥) → AtEachKey key_cmp (IsAbsent k) next → AtEachKey key_cmp (IsAbsent k) now
+  absent_passed now next e is other none = λ q at. ap (find key_cmp q) is ∙ passes q e next at other ∙ none q at
+
+  pub none_absent : (now : List (Key × X)) → now ≡ [] → AtEachKey key_cmp (IsAbsent k) now
+  none_absent now none = λ q at. ap (find key_cmp q) none
 
   by_key : (q : Key) (e f : Key × X) (es fs : List (Key × X)) → q.app.0 ≡ k → e.0 ≡ f.0 → (e.0.app.0 ≡ k → e.1 ≡ f.1) → find key_cmp q es ≡ find key_cmp q fs → find key_cmp q (e ∷ es) ≡ find key_cmp q (f ∷ fs)
   by_key q e f es fs at keys values rest =
@@ -48,10 +54,34 @@ module _ {X : Type 0} (k : ℕ) where
         | false ↦ λ t. rest ∙ sym (ap (λ b. cond b (Some f.1) (find key_cmp q fs)) (there ∙ t))
       ] refl
 
-  pub both_passed : (old new : List (Key × X)) (i j : ℕ) (e f : Key × X) → e ≡ get_or old i e → i < length old → f ≡ get_or new j f → j < length new → e.0 ≡ f.0 → (e.0.app.0 ≡ k → e.1 ≡ f.1)
-      → IsSameOf k (drop (i + 1) old) (drop (j + 1) new) → IsSameOf k (drop i old) (drop j new)
-  both_passed old new i j e f is within also beside keys values same = λ q at.
-      ap (find key_cmp q) (left_from old i e is within) ∙ by_key q e f (drop (i + 1) old) (drop (j + 1) new) at keys values (same q at) ∙ sym (ap (find key_cmp q) (left_from new j f also beside))
+  pub both_passed : (old new next after : List (Key × X)) (e f : Key × X) → old ≡ e ∷ drop 1 old → new ≡ f ∷ drop 1 new → next ≡ drop 1 old → after ≡ drop 1 new → e.0 ≡ f.0 → (e.0.app.0 ≡ k → e.1 ≡ f.1)
+      → IsSameOf k next after → IsSameOf k old new
+  both_passed old new next after e f is also passed gone keys values same = λ q at.
+      ap (find key_cmp q) is
+      ∙ by_key q e f (drop 1 old) (drop 1 new) at keys values (ap (find key_cmp q) (sym passed) ∙ same q at ∙ ap (find key_cmp q) gone)
+      ∙ sym (ap (find key_cmp q) also)
+
+  -- nothing of the application is left on either side
+  pub same_absent : (old new : List (Key × X)) → AtEachKey key_cmp (IsAbsent k) old → AtEachKey key_cmp (IsAbsent k) new → IsSameOf k old new
+  same_absent old new none also = λ q at. none q at ∙ sym (also q at)
+
+module _ {E : Type 0} where
+  -- one fewer is left
+  pub one_fewer : (now next : List E) (e : E) → now ≡ e ∷ next → length next < length now
+  one_fewer now next e is =
+      let long = ap length is ∙ sym (add-one (length next)) in
+      omega (arith, long)
+
+  pub passed_one : (now next : List E) (e : E) → now ≡ e ∷ drop 1 now → next ≡ drop 1 now → now ≡ e ∷ next
+  passed_one now next e is passed = is ∙ ap (λ l. e ∷ l) (sym passed)
+
+  -- two lists whose first elements are equal
+  pub same_first : (old new next after : List E) (e f : E) → old ≡ e ∷ next → new ≡ f ∷ after → e ≡ f → next ≡ after → old ≡ new
+  same_first old new next after e f is also same rest = is ∙ (λ i. same i ∷ rest i) ∙ sym also
+
+  pub none_left : (now : List E) (r : Option (Bor E)) → MatchOption r (now ≡ []) (λ e. now ≡ e.now ∷ drop 1 now) → is_some r ≡ false → now ≡ []
+  none_left now None first e = first
+  none_left now (Some b) first e = absurd (true≢false e)
 
 -- ---- what stands at a key, by the entries
 

@@ -1,5 +1,5 @@
 //! Which applications a change may move.
-ghost use Rattle.std.specs.Prelude.{◌≡◌, ◌<◌, ◌≤◌, ◌+◌, ℕ, get_or, drop, true, false, length};
+ghost use Rattle.std.specs.Prelude.{◌≡◌, ◌<◌, ◌+◌, ℕ, get_or, true, false, length};
 ghost use Rattle.dac_base.specs.declared.AppId.{AppId as App};
 ghost use Rattle.dac_base.specs.declared.limits.TheConstants.{MAX_APPS as MOST_APPS};
 ghost use Rattle.dac_lattice.specs.Search.{AtEachKey};
@@ -11,7 +11,7 @@ use dac_base::{AppId, MAX_APPS};
 use dac_lattice::{Flag, Lattice};
 use dac_origins::Origin;
 use dac_state::{Key, State};
-use dac_store::{DotFun, DotSet};
+use dac_store::{DotFun, DotSet, Entries};
 use std::cmp::Ordering;
 
 /// That a state was joined with another.
@@ -57,23 +57,23 @@ fn moves_all(old: &State, new: &State) -> bool
 }
 
 /// Whether the same drains stand in both lists.
-fn same_drains(old: &[(Origin, DotFun<Flag>)], new: &[(Origin, DotFun<Flag>)]) -> bool
-    ensures { result ≡ true → old.now ≡ new.now }
+fn same_drains(
+    old: Entries<'_, Origin, DotFun<Flag>>,
+    new: Entries<'_, Origin, DotFun<Flag>>,
+) -> bool
+    ensures { result ≡ true → old.entry ≡ new.entry }
 {
-    if old.len() != new.len() {
-        return false;
-    }
-    for place in 0..old.len() {
-        let one = &old[place];
-        let other = &new[place];
-        if !one.0.cmp(&other.0).is_eq() {
+    let mut before = old;
+    let mut after = new;
+    while let Some(one) = before.next() {
+        let Some(other) = after.next() else {
             return false;
-        }
-        if !same_votes(&one.1, &other.1) {
+        };
+        if !one.0.cmp(&other.0).is_eq() || !same_votes(&one.1, &other.1) {
             return false;
         }
     }
-    true
+    after.first().is_none()
 }
 
 /// Whether these are the same permits or drains.
@@ -111,149 +111,132 @@ fn count_moved_unless(moved: &mut [bool; MAX_APPS], app: AppId, same: bool)
     }
 }
 
-/// How far a walk through two lists has come.
-#[derive(Clone, Copy)]
-struct Walk {
-    old: usize,
-    new: usize,
-}
-
 /// Counts each application as moved at a key of which the permits of two states differ.
 fn mark_permits(
     moved: &mut [bool; MAX_APPS],
-    old: &[(Key, DotFun<Flag>)],
-    new: &[(Key, DotFun<Flag>)],
+    old: Entries<'_, Key, DotFun<Flag>>,
+    new: Entries<'_, Key, DotFun<Flag>>,
 )
     ensures before { (k : ℕ) → get_or moved.new k true ≡ false → get_or moved.old k true ≡ false }
-    ensures same { (k : ℕ) → get_or moved.new k true ≡ false → IsSameOf k old.now new.now }
+    ensures same { (k : ℕ) → get_or moved.new k true ≡ false → IsSameOf k old.entry new.entry }
 {
-    let mut walk = Walk { old: 0, new: 0 };
-    while walk.old < old.len() && walk.new < new.len() {
-        walk = pass_permits(moved, old, new, walk);
-    }
-    rest_of_permits(moved, &old[walk.old..]);
-    rest_of_permits(moved, &new[walk.new..]);
+    let mut before = old;
+    let mut after = new;
+    'walk: while pass_permits(moved, &mut before, &mut after) {}
+    rest_of_permits(moved, before);
+    rest_of_permits(moved, after);
 }
 
-/// Passes the entry of the lesser key, or one of each list where both are of one key.
+/// Passes the entry of the lesser key, or one of each list where both are of one key. Says whether both had one.
 fn pass_permits(
     moved: &mut [bool; MAX_APPS],
-    old: &[(Key, DotFun<Flag>)],
-    new: &[(Key, DotFun<Flag>)],
-    walk: Walk,
-) -> Walk
-    requires old { walk.old < length old.now }
-    requires new { walk.new < length new.now }
+    old: &mut Entries<'_, Key, DotFun<Flag>>,
+    new: &mut Entries<'_, Key, DotFun<Flag>>,
+) -> bool
     ensures before { (k : ℕ) → get_or moved.new k true ≡ false → get_or moved.old k true ≡ false }
-    ensures old { result.old ≤ length old.now }
-    ensures new { result.new ≤ length new.now }
-    ensures rises { walk.old + walk.new < result.old + result.new }
+    ensures less { result ≡ true → length old.new + length new.new < length old.old + length new.old }
     ensures same { (k : ℕ) → get_or moved.new k true ≡ false
-        → IsSameOf k (drop result.old old.now) (drop result.new new.now)
-        → IsSameOf k (drop walk.old old.now) (drop walk.new new.now) }
+        → IsSameOf k old.new new.new → IsSameOf k old.old new.old }
 {
-    let one = &old[walk.old];
-    let other = &new[walk.new];
+    let Some(one) = old.first() else {
+        return false;
+    };
+    let Some(other) = new.first() else {
+        return false;
+    };
     match one.0.cmp(&other.0) {
         Ordering::Less => {
             count_moved(moved, one.0.app);
-            Walk {
-                old: walk.old + 1,
-                new: walk.new,
-            }
+            old.pass();
+            true
         }
         Ordering::Greater => {
             count_moved(moved, other.0.app);
-            Walk {
-                old: walk.old,
-                new: walk.new + 1,
-            }
+            new.pass();
+            true
         }
         Ordering::Equal => {
             count_moved_unless(moved, one.0.app, same_votes(&one.1, &other.1));
-            Walk {
-                old: walk.old + 1,
-                new: walk.new + 1,
-            }
+            old.pass();
+            new.pass();
+            true
         }
     }
 }
 
 /// Counts each application as moved of which permits stand.
-fn rest_of_permits(moved: &mut [bool; MAX_APPS], entries: &[(Key, DotFun<Flag>)])
+fn rest_of_permits(moved: &mut [bool; MAX_APPS], entries: Entries<'_, Key, DotFun<Flag>>)
     ensures before { (k : ℕ) → get_or moved.new k true ≡ false → get_or moved.old k true ≡ false }
     ensures gone { (k : ℕ) → get_or moved.new k true ≡ false
-        → AtEachKey key_cmp (IsAbsent k) entries.now }
+        → AtEachKey key_cmp (IsAbsent k) entries.entry }
 {
-    for (key, _votes) in entries {
+    let mut left = entries;
+    while let Some((key, _)) = left.next() {
         count_moved(moved, key.app);
     }
 }
 
 /// Counts each application as moved at a key of which the starts of two states differ.
-fn mark_starts(moved: &mut [bool; MAX_APPS], old: &[(Key, DotSet)], new: &[(Key, DotSet)])
+fn mark_starts(
+    moved: &mut [bool; MAX_APPS],
+    old: Entries<'_, Key, DotSet>,
+    new: Entries<'_, Key, DotSet>,
+)
     ensures before { (k : ℕ) → get_or moved.new k true ≡ false → get_or moved.old k true ≡ false }
-    ensures same { (k : ℕ) → get_or moved.new k true ≡ false → IsSameOf k old.now new.now }
+    ensures same { (k : ℕ) → get_or moved.new k true ≡ false → IsSameOf k old.entry new.entry }
 {
-    let mut walk = Walk { old: 0, new: 0 };
-    while walk.old < old.len() && walk.new < new.len() {
-        walk = pass_starts(moved, old, new, walk);
-    }
-    rest_of_starts(moved, &old[walk.old..]);
-    rest_of_starts(moved, &new[walk.new..]);
+    let mut before = old;
+    let mut after = new;
+    'walk: while pass_starts(moved, &mut before, &mut after) {}
+    rest_of_starts(moved, before);
+    rest_of_starts(moved, after);
 }
 
-/// Passes the entry of the lesser key, or one of each list where both are of one key.
+/// Passes the entry of the lesser key, or one of each list where both are of one key. Says whether both had one.
 fn pass_starts(
     moved: &mut [bool; MAX_APPS],
-    old: &[(Key, DotSet)],
-    new: &[(Key, DotSet)],
-    walk: Walk,
-) -> Walk
-    requires old { walk.old < length old.now }
-    requires new { walk.new < length new.now }
+    old: &mut Entries<'_, Key, DotSet>,
+    new: &mut Entries<'_, Key, DotSet>,
+) -> bool
     ensures before { (k : ℕ) → get_or moved.new k true ≡ false → get_or moved.old k true ≡ false }
-    ensures old { result.old ≤ length old.now }
-    ensures new { result.new ≤ length new.now }
-    ensures rises { walk.old + walk.new < result.old + result.new }
+    ensures less { result ≡ true → length old.new + length new.new < length old.old + length new.old }
     ensures same { (k : ℕ) → get_or moved.new k true ≡ false
-        → IsSameOf k (drop result.old old.now) (drop result.new new.now)
-        → IsSameOf k (drop walk.old old.now) (drop walk.new new.now) }
+        → IsSameOf k old.new new.new → IsSameOf k old.old new.old }
 {
-    let one = &old[walk.old];
-    let other = &new[walk.new];
+    let Some(one) = old.first() else {
+        return false;
+    };
+    let Some(other) = new.first() else {
+        return false;
+    };
     match one.0.cmp(&other.0) {
         Ordering::Less => {
             count_moved(moved, one.0.app);
-            Walk {
-                old: walk.old + 1,
-                new: walk.new,
-            }
+            old.pass();
+            true
         }
         Ordering::Greater => {
             count_moved(moved, other.0.app);
-            Walk {
-                old: walk.old,
-                new: walk.new + 1,
-            }
+            new.pass();
+            true
         }
         Ordering::Equal => {
             count_moved_unless(moved, one.0.app, same_starts(&one.1, &other.1));
-            Walk {
-                old: walk.old + 1,
-                new: walk.new + 1,
-            }
+            old.pass();
+            new.pass();
+            true
         }
     }
 }
 
 /// Counts each application as moved of which starts stand.
-fn rest_of_starts(moved: &mut [bool; MAX_APPS], entries: &[(Key, DotSet)])
+fn rest_of_starts(moved: &mut [bool; MAX_APPS], entries: Entries<'_, Key, DotSet>)
     ensures before { (k : ℕ) → get_or moved.new k true ≡ false → get_or moved.old k true ≡ false }
     ensures gone { (k : ℕ) → get_or moved.new k true ≡ false
-        → AtEachKey key_cmp (IsAbsent k) entries.now }
+        → AtEachKey key_cmp (IsAbsent k) entries.entry }
 {
-    for (key, _starts) in entries {
+    let mut left = entries;
+    while let Some((key, _)) = left.next() {
         count_moved(moved, key.app);
     }
 }

@@ -82,7 +82,7 @@ union_more s t both more i r p is so_far one q =
     turn false false true = refl
     turn false false false = refl
 
-or_none : (b : Bool) → b ≡ (b || false)
+pub or_none : (b : Bool) → b ≡ (b || false)
 or_none true = refl
 or_none false = refl
 

@@ -1,47 +1,54 @@
 //! Causal contexts: sets of dots.
-ghost use Rattle.std.specs.Prelude.{◌≡◌, ◌↔◌, ◌≤◌, ◌<◌, ◌^◌, ◌∷◌, ◌++◌, ◌||◌, [], length, slice_get, Some, false, true, if◌then◌else◌, IsTrue, IfOk, OnOk, OnErr, MatchOption};
+ghost use Rattle.std.specs.Prelude.{◌≡◌, ◌↔◌, ◌≤◌, ◌<◌, ◌^◌, ◌∷◌, ◌++◌, [], length, slice_get, Some, false, if◌then◌else◌, IsTrue, IfOk, OnOk, OnErr, MatchOption};
 ghost use Rattle.std.specs.FinSet as set;
-ghost use Rattle.dac_origins.specs.Dots.{Dots, dot_cmp, IsNext, IsSubset, IsUsedUp, IsVector};
+ghost use Rattle.std.specs.Arc.{arc_value};
+ghost use Rattle.dac_origins.specs.Dots.{dot_cmp, IsNext, IsSubset, IsUsedUp, IsVector};
 ghost use Rattle.dac_origins.specs.InOrder.{in_order};
 ghost use Rattle.dac_origins.specs.Keys.{IsRising};
 ghost use Rattle.dac_dots.specs.DotFilters.{MayHaveAll};
-ghost use Rattle.dac_dots.specs.Rows.{AreRowsOf, CanFollow, HasSome, EndBefore, IsKept, IsRowIn, row_has, rows_of};
-ghost use Rattle.dac_origins.specs.declared.dot.Dot.{Dot};
+ghost use Rattle.dac_dots.specs.Rows.{AreRowsOf, CanFollow, rows_of};
 
 use crate::filter::DotFilter;
-use crate::row::{Further, OriginRow, has_no_dots, place_of, rises_from};
-use dac_base::{MAX_COUNTER, NoMemory};
+use crate::row::Further;
+use crate::rows::OriginRows;
+use dac_base::NoMemory;
 use dac_origins::{Dot, Origin};
 use std::alloc::Global;
 use std::marker::Model;
+use std::sync::Arc;
 
 /// A causal context: the set of the dots that a replica has heard of. Contracts see it as a finite set.
 ///
 /// Dots may come in any order, so a context need not be a version vector. It may have the fourth dot of an origin and
 /// lack the third.
+///
+/// Copies share their rows, so a copy costs as much as a pointer. Rows that no other context has change where they
+/// stand. Of rows that others have too, a change makes a copy first.
 pub struct Context {
-    rows: Vec<OriginRow>,
+    alloc: Global,
+    kept: Option<Arc<OriginRows, Global>>,
 }
 
 /// Written out: a drop is one call for a proof, wherever it stands.
 impl Drop for Context {
     fn drop(self) {
-        let Context { rows: _rows } = self;
+        let Context {
+            alloc: _alloc,
+            kept: _kept,
+        } = self;
     }
 }
 
 impl Model for Context {
     ghost use Rattle.std.specs.FinSet as set;
     ghost use Rattle.dac_origins.specs.Dots.{dot_cmp, coded_dot};
-    ghost use Rattle.dac_dots.specs.Rows.{AreKept, dots_in};
+    ghost use Rattle.dac_dots.specs.Sharing.{dots_kept};
 
     ghost Value = { set.FinSet dot_cmp };
 
     ghost coded = { set.code coded_dot };
 
-    ghost view = { λ a. dots_in a.rows.items };
-
-    ghost invariant = { λ a. AreKept a.rows.items };
+    ghost view = { λ a. dots_kept a.kept };
 }
 
 impl Context {
@@ -49,35 +56,42 @@ impl Context {
     pub fn empty(alloc: Global) -> Self
         ensures { result ≡ set.empty }
     {
-        Context {
-            rows: Vec::new(alloc),
-        }
+        Context { alloc, kept: None }
     }
 
-    /// Where its memory comes from.
-    pub(crate) fn allocator(&self) -> Global {
-        *self.rows.allocator()
+    /// The set of the dots of these rows, which copies will share.
+    fn of(alloc: Global, rows: OriginRows) -> Result<Self, NoMemory>
+        ensures { IfOk result (λ context. context ≡ rows) }
+    {
+        let kept = Arc::new(alloc, rows)?;
+        Ok(Context {
+            alloc,
+            kept: Some(kept),
+        })
     }
 
-    /// An equal set, with memory of its own. [`NoMemory`] is the only error.
+    /// An equal set. It shares memory with this one, which never changes while both are there. [`NoMemory`] is the
+    /// only error.
     pub fn copy(&self) -> Result<Self, NoMemory>
         ensures { IfOk result (λ copied. copied ≡ self.now) }
     {
-        let alloc = *self.rows.allocator();
-        let mut rows = Vec::with_capacity(alloc, self.rows.len())?;
-        for row in &self.rows {
-            rows.push(row.copy(alloc)?)?;
-        }
-        Ok(Context { rows })
+        let kept = match &self.kept {
+            Some(rows) => Some(Arc::try_clone(rows)?),
+            None => None,
+        };
+        Ok(Context {
+            alloc: self.alloc,
+            kept,
+        })
     }
 
     /// Whether the set has this dot.
     pub fn contains(&self, dot: Dot) -> bool
         ensures { result ≡ set.contains self.now dot }
     {
-        match place_of(&self.rows, dot.origin) {
-            Ok(place) => self.rows[place].holds(dot.n),
-            Err(_) => false,
+        match &self.kept {
+            Some(rows) => rows.contains(dot),
+            None => false,
         }
     }
 
@@ -88,36 +102,12 @@ impl Context {
         ensures err { OnErr result (self.new ≡ self.old) }
         ensures first { OnErr result (set.contains self.old dot ≡ false) }
     {
-        match place_of(&self.rows, dot.origin) {
-            Ok(place) => {
-                let row = &mut self.rows[place];
-                row.insert(dot.n)?;
-            }
-            Err(place) => {
-                let row = OriginRow::one(*self.rows.allocator(), dot)?;
-                self.rows.insert(place, row)?;
-            }
+        if self.contains(dot) {
+            return Ok(());
         }
-        Ok(())
-    }
-
-    /// Puts the dots of a row into the set.
-    fn unite_row(&mut self, row: &OriginRow) -> Result<(), NoMemory>
-        requires kept { IsKept row.now }
-        requires some { HasSome row.now }
-        ensures { OnOk result
-            ((q : Dot) → set.contains self.new q ≡ (row_has q row.now || set.contains self.old q)) }
-    {
-        let alloc = *self.rows.allocator();
-        match place_of(&self.rows, row.origin) {
-            Ok(place) => {
-                let own = &mut self.rows[place];
-                own.absorb(alloc, row)?;
-            }
-            Err(place) => {
-                let copied = row.copy(alloc)?;
-                self.rows.insert(place, copied)?;
-            }
+        match &mut self.kept {
+            Some(rows) => Arc::make_mut(rows)?.insert(dot)?,
+            None => self.kept = Some(first_row(self.alloc, dot)?),
         }
         Ok(())
     }
@@ -126,33 +116,34 @@ impl Context {
     pub fn union(&self, other: &Self) -> Result<Self, NoMemory>
         ensures { IfOk result (λ both. both ≡ set.union self.now other.now) }
     {
-        let mut both = self.copy()?;
-        for row in &other.rows {
-            both.unite_row(row)?;
-        }
-        Ok(both)
-    }
-
-    /// Whether the set has each dot of a row.
-    fn has_row(&self, row: &OriginRow) -> bool
-        ensures { IsTrue result ↔ IsRowIn row.now self.now }
-    {
-        match place_of(&self.rows, row.origin) {
-            Ok(place) => row.is_within(&self.rows[place]),
-            Err(_) => row.is_empty(),
-        }
+        let Some(mine) = &self.kept else {
+            return other.copy();
+        };
+        let Some(theirs) = &other.kept else {
+            return self.copy();
+        };
+        let both = mine.union(theirs)?;
+        Context::of(self.alloc, both)
     }
 
     /// Whether the other set has each dot of this one.
     pub fn is_subset(&self, other: &Self) -> bool
         ensures { IsTrue result ↔ IsSubset self.now other.now }
     {
-        for row in &self.rows {
-            if !other.has_row(row) {
-                return false;
-            }
+        match &self.kept {
+            Some(rows) => other.has_rows(rows),
+            None => true,
         }
-        true
+    }
+
+    /// Whether the set has each dot of these rows.
+    fn has_rows(&self, rows: &OriginRows) -> bool
+        ensures { IsTrue result ↔ IsSubset rows.now self.now }
+    {
+        match &self.kept {
+            Some(own) => rows.is_subset(own),
+            None => rows.is_subset(&OriginRows::empty(self.alloc)),
+        }
     }
 
     /// The dot for the next operation of an origin: one above its greatest counter here, and 1 where there
@@ -160,17 +151,9 @@ impl Context {
     pub fn next(&self, origin: Origin) -> Option<Dot>
         ensures { MatchOption result (IsUsedUp self.now origin) (IsNext self.now origin) }
     {
-        let last = match place_of(&self.rows, origin) {
-            Ok(place) => self.rows[place].last(),
-            Err(_) => 0,
-        };
-        if last < MAX_COUNTER {
-            Some(Dot {
-                origin,
-                n: last + 1,
-            })
-        } else {
-            None
+        match &self.kept {
+            Some(rows) => rows.next(origin),
+            None => OriginRows::empty(self.alloc).next(origin),
         }
     }
 
@@ -178,49 +161,39 @@ impl Context {
     pub fn is_vector(&self) -> bool
         ensures { IsTrue result ↔ IsVector self.now }
     {
-        for row in &self.rows {
-            if row.has_gap() {
-                return false;
-            }
+        match &self.kept {
+            Some(rows) => rows.is_vector(),
+            None => OriginRows::empty(self.alloc).is_vector(),
         }
-        true
     }
 
     /// How many dots the set has.
     pub fn len(&self) -> u128
         ensures { result ≡ set.len self.now }
     {
-        let mut len = 0;
-        for row in &self.rows {
-            len += row.len();
+        match &self.kept {
+            Some(rows) => rows.len(),
+            None => 0,
         }
-        len
     }
 
     /// Whether the set has at most so many dots. It looks at no more origins than that.
     pub fn has_at_most(&self, most: usize) -> bool
         ensures { IsTrue result ↔ (set.len self.now ≤ most) }
     {
-        // Each origin that is kept has a dot.
-        if self.rows.len() > most {
-            return false;
+        match &self.kept {
+            Some(rows) => rows.has_at_most(most),
+            None => true,
         }
-        let mut len = 0;
-        for row in &self.rows {
-            len += row.len();
-            if len > most as u128 {
-                return false;
-            }
-        }
-        true
     }
 
     /// Sets the slot of each dot.
     pub(crate) fn fill(&self, filter: &mut DotFilter)
         ensures { MayHaveAll filter.new.slots self.now }
     {
-        for row in &self.rows {
-            row.fill(filter);
+        match &self.kept {
+            Some(rows) => rows.fill(filter),
+            None => {}
         }
     }
 
@@ -230,19 +203,20 @@ impl Context {
         ensures rising { IfOk result (λ dots. IsRising dot_cmp dots.items) }
         ensures same { IfOk result (λ dots. set.from_list dots.items ≡ self.now) }
     {
-        let alloc = *self.rows.allocator();
-        let mut dots = Vec::new(alloc);
-        for row in &self.rows {
-            row.put_dots(alloc, &mut dots)?;
+        match &self.kept {
+            Some(rows) => rows.dots(),
+            None => OriginRows::empty(self.alloc).dots(),
         }
-        Ok(dots)
     }
 
     /// How many origins have dots.
     pub fn rows(&self) -> usize
         ensures { result ≡ length (rows_of self.now) }
     {
-        self.rows.len()
+        match &self.kept {
+            Some(rows) => rows.rows(),
+            None => OriginRows::empty(self.alloc).rows(),
+        }
     }
 
     /// The row of the `i`-th origin that has dots, by the order of origins. It is the origin, how far its counters go
@@ -256,33 +230,10 @@ impl Context {
         // What these rows are.
         ensures rows { AreRowsOf self.now (rows_of self.now) }
     {
-        let row = self.rows.get(i)?;
-        Some((row.origin, row.upto(), row.further()))
-    }
-
-    /// Whether the origin is above all that have dots.
-    fn is_below(&self, origin: Origin) -> bool
-        ensures { IsTrue result ↔ EndBefore (rows_of self.now) origin }
-    {
-        match self.rows.last() {
-            Some(row) => row.origin.cmp(&origin).is_lt(),
-            None => true,
+        match &self.kept {
+            Some(rows) => rows.row(i),
+            None => None,
         }
-    }
-
-    /// Whether these dots of an origin can be appended.
-    fn can_follow(&self, origin: Origin, upto: u64, further: &[u64]) -> bool
-        ensures { IsTrue result
-            ↔ CanFollow (rows_of self.now)
-            (record { origin = origin; upto = upto; further = further.now }) }
-    {
-        if has_no_dots(upto, further) {
-            return false;
-        }
-        if !self.is_below(origin) {
-            return false;
-        }
-        rises_from(upto, further)
     }
 
     /// Appends the dots of an origin above all that have dots: the counters 1 to `upto`, and further ones,
@@ -305,9 +256,36 @@ impl Context {
         if !self.can_follow(origin, upto, further) {
             return Ok(false);
         }
-        let alloc = *self.rows.allocator();
-        let row = OriginRow::of(alloc, origin, upto, further)?;
-        self.rows.push(row)?;
-        Ok(true)
+        match &mut self.kept {
+            Some(rows) => Arc::make_mut(rows)?.push_row(origin, upto, further),
+            None => {
+                let mut rows = OriginRows::empty(self.alloc);
+                let pushed = rows.push_row(origin, upto, further)?;
+                self.kept = Some(Arc::new(self.alloc, rows)?);
+                Ok(pushed)
+            }
+        }
     }
+
+    /// Whether these dots of an origin can be appended.
+    fn can_follow(&self, origin: Origin, upto: u64, further: &[u64]) -> bool
+        ensures { IsTrue result
+            ↔ CanFollow (rows_of self.now)
+            (record { origin = origin; upto = upto; further = further.now }) }
+    {
+        match &self.kept {
+            Some(rows) => rows.can_follow(origin, upto, further),
+            None => OriginRows::empty(self.alloc).can_follow(origin, upto, further),
+        }
+    }
+}
+
+/// Rows of one dot.
+fn first_row(alloc: Global, dot: Dot) -> Result<Arc<OriginRows, Global>, NoMemory>
+    ensures { IfOk result (λ rows. arc_value rows ≡ set.insert set.empty dot) }
+{
+    let mut rows = OriginRows::empty(alloc);
+    rows.insert(dot)?;
+    let shared = Arc::new(alloc, rows)?;
+    Ok(shared)
 }

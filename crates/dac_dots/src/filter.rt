@@ -1,34 +1,32 @@
 //! A filter that tells of most dots at once that they aren't among some.
-ghost use Rattle.std.specs.Prelude.{◌≡◌, ◌<◌, true};
+ghost use Rattle.std.specs.Prelude.{◌≡◌, ◌<◌, false, true};
 ghost use Rattle.dac_origins.specs.declared.dot.Dot.{Dot};
-ghost use Rattle.dac_dots.specs.DotFilters.{may_have, slot_of};
+ghost use Rattle.dac_dots.specs.DotFilters.{AreApart, may_have, slot_of};
 
 use dac_origins::Dot;
 
-/// How many slots there are: 32 by counter for each of 8 nodes.
-const SLOTS: usize = 256;
+/// How many words of slots there are.
+const WORDS: usize = 16;
 
-/// A filter of dots, as a Bloom filter with one hash. Many dots have one slot: one that is set tells nothing of a dot,
-/// and one that isn't tells that none of its dots was put.
+/// A filter of dots, as a Bloom filter with one hash and 1,024 slots: 128 by counter for each of 8 nodes. Many dots have
+/// one slot: one that is set tells nothing of a dot, and one that isn't tells that none of its dots was put.
 #[derive(Clone, Copy, Debug)]
-pub(crate) struct DotFilter {
-    pub(crate) slots: [bool; SLOTS],
+pub struct DotFilter {
+    pub(crate) slots: [u64; WORDS],
 }
 
 /// Which slot a dot has.
-fn slot_of(dot: Dot) -> usize
+fn slot_of(dot: Dot) -> u64
     ensures value { result ≡ slot_of dot }
-    ensures bound { result < 256 }
+    ensures bound { result < 1024 }
 {
-    (dot.n % 32) as usize * 8 + usize::from(dot.origin.node.0 % 8)
+    dot.n % 128 * 8 + u64::from(dot.origin.node.0 % 8)
 }
 
 impl DotFilter {
     /// No slot is set.
-    pub(crate) fn none() -> Self {
-        DotFilter {
-            slots: [false; SLOTS],
-        }
+    pub fn none() -> Self {
+        DotFilter { slots: [0; WORDS] }
     }
 
     /// Each slot is set.
@@ -36,23 +34,39 @@ impl DotFilter {
         ensures { (q : Dot) → may_have result.slots q ≡ true }
     {
         DotFilter {
-            slots: [true; SLOTS],
+            slots: [u64::MAX; WORDS],
         }
     }
 
     /// Sets the slot of a dot.
-    pub(crate) fn put(&mut self, dot: Dot)
+    pub fn put(&mut self, dot: Dot)
         ensures own { may_have self.new.slots dot ≡ true }
         ensures more { (q : Dot) → may_have self.old.slots q ≡ true
             → may_have self.new.slots q ≡ true }
     {
-        self.slots[slot_of(dot)] = true;
+        let slot = slot_of(dot);
+        let word = (slot / 64) as usize;
+        self.slots[word] |= 1 << (slot % 64);
     }
 
     /// Whether the slot of a dot is set.
-    pub(crate) fn has(&self, dot: Dot) -> bool
+    pub fn has(&self, dot: Dot) -> bool
         ensures { result ≡ may_have self.now.slots dot }
     {
-        self.slots[slot_of(dot)]
+        let slot = slot_of(dot);
+        let word = (slot / 64) as usize;
+        self.slots[word] >> (slot % 64) & 1 == 1
+    }
+
+    /// Whether some slot is set in both.
+    pub fn meets(&self, other: &Self) -> bool
+        ensures { result ≡ false → AreApart self.now.slots other.now.slots }
+    {
+        for word in 0..WORDS {
+            if self.slots[word] & other.slots[word] != 0 {
+                return true;
+            }
+        }
+        false
     }
 }

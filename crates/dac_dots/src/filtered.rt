@@ -9,7 +9,7 @@ use dac_origins::Dot;
 use std::marker::Model;
 
 /// The most dots that are put one by one. Of more dots most slots would be set.
-const MOST_FILTERED: usize = 64;
+const MOST_FILTERED: usize = 128;
 
 /// How many dots a context is asked about at least, where its own are put one by one.
 const LEAST_ASKED: usize = 8;
@@ -51,6 +51,13 @@ impl<'a> FilteredContext<'a> {
         ensures { result.now ≡ self.now }
     {
         self.context
+    }
+
+    /// A filter that has all dots of the context, and maybe others.
+    pub fn filter(&self) -> &DotFilter
+        ensures { MayHaveAll result.now.slots self.now }
+    {
+        &self.filter
     }
 
     /// Whether the set has this dot.

@@ -11,6 +11,7 @@
 
 pub use context::Context;
 pub use dac_origins::{Dot, MapKey, NoMemory, Origin, keys};
+pub use filter::DotFilter;
 pub use filtered::FilteredContext;
 pub use row::Further;
 pub use shared::SharedContext;
@@ -20,4 +21,5 @@ mod counters;
 mod filter;
 mod filtered;
 mod row;
+mod rows;
 mod shared;

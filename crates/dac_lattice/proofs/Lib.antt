@@ -1,2 +1,3 @@
-pub mod SearchLemmas
+mod JoinLemmas
 pub mod MergeLemmas
+pub mod SearchLemmas

@@ -1,5 +1,8 @@
 -- Maps whose values are a lattice, as the list of their entries in the order of the keys.
-use Rattle.std.specs.Prelude.{T, List}
+use Rattle.std.specs.Prelude.{T, List, [], Option, None, Some}
+use Rattle.std.specs.Arc.{arc_value}
+use Rattle.std.specs.declared.sync.Arc.{Arc}
+use Rattle.std.specs.declared.vec.Vec.{Vec}
 use Rattle.std.specs.declared.cmp.Ordering.{Ordering}
 use Rattle.std.specs.FinMap.{find, is_sorted}
 use Rattle.dac_lattice.specs.Lattices.{IsOptionOf, IsOptionBelow, join_options}
@@ -17,3 +20,8 @@ IsMapBelow {K} R below xs ys = (k : K) → IsOptionBelow below (find R k xs) (fi
 -- at each key of either, what is there, joined
 abbrev pub join_maps : {K X : Type 0} → (K → K → Ordering) → (X → X → X) → List (K × X) → List (K × X) → List (K × X)
 join_maps R join = merge_entries R (λ _. join_options join)
+
+-- the entries that maps may share: none where there is no list of them
+abbrev pub entries_kept : {X A Z : Type 0} → Option (Arc (Vec X A) Z) → List X
+entries_kept None = []
+entries_kept (Some entries) = (arc_value entries).items

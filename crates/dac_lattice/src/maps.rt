@@ -3,30 +3,35 @@ ghost use Rattle.std.specs.Prelude.{◌≡◌, ◌↔◌, [], ◌∷◌, IsTrue,
 ghost use Rattle.std.specs.Option.{option_copied};
 ghost use Rattle.std.specs.FinMap.{find};
 ghost use Rattle.dac_lattice.specs.Lattices.{IsOptionBelow};
+ghost use Rattle.dac_lattice.specs.Maps.{IsMap};
 
 use crate::merging::{Combine, merge, value_at};
 use crate::{Bottom, Lattice};
 use dac_origins::{MapKey, NoMemory};
 use std::alloc::Global;
 use std::marker::Model;
+use std::sync::Arc;
 
 /// A map from keys to values of a lattice. Its order and its join are those of the values at each key,
 /// where no value is below every value. Contracts see it as the list of its entries in the order of the
 /// keys.
+///
+/// Entries never change, so copies share them, and so does a join where one side has none.
 #[derive(Drop)]
 pub struct MapOf<K: MapKey, L: Lattice> {
-    entries: Vec<(K, L)>,
+    alloc: Global,
+    kept: Option<Arc<Vec<(K, L)>, Global>>,
 }
 
 impl<K: MapKey, L: Lattice> Model for MapOf<K, L> {
     ghost use Rattle.std.specs.Prelude.{List};
-    ghost use Rattle.dac_lattice.specs.Maps.{IsMap};
+    ghost use Rattle.dac_lattice.specs.Maps.{IsMap, entries_kept};
 
     ghost Value = { List (K × L) };
 
-    ghost view = { λ m. m.entries.items };
+    ghost view = { λ m. entries_kept m.kept };
 
-    ghost invariant = { λ m. IsMap K.cmp L.is_value m.entries.items };
+    ghost invariant = { λ m. IsMap K.cmp L.is_value (entries_kept m.kept) };
 }
 
 impl<K: MapKey, L: Lattice> MapOf<K, L> {
@@ -37,21 +42,37 @@ impl<K: MapKey, L: Lattice> MapOf<K, L> {
         value.tells_invariant();
         let mut entries = Vec::new(alloc);
         entries.push((key, value))?;
-        Ok(MapOf { entries })
+        MapOf::of(alloc, entries)
+    }
+
+    /// The map of these entries, which copies will share. [`NoMemory`] is the only error.
+    fn of(alloc: Global, entries: Vec<(K, L)>) -> Result<Self, NoMemory>
+        requires { IsMap K.cmp L.is_value entries.items }
+        ensures { IfOk result (λ map. map ≡ entries.items) }
+    {
+        let kept = Arc::new(alloc, entries)?;
+        Ok(MapOf {
+            alloc,
+            kept: Some(kept),
+        })
     }
 
     /// The value at a key, if there is one.
     pub fn get(&self, key: K) -> Option<&L>
         ensures { option_copied result ≡ find K.cmp key self.now }
     {
-        value_at(&self.entries, key)
+        self.tells_invariant();
+        value_at(self.entries(), key)
     }
 
     /// The entries in the order of the keys.
     pub fn entries(&self) -> &[(K, L)]
         ensures { result.now ≡ self.now }
     {
-        self.entries.as_slice()
+        match &self.kept {
+            Some(entries) => entries.as_slice(),
+            None => &[],
+        }
     }
 }
 
@@ -99,21 +120,27 @@ impl<K: MapKey, L: Lattice> Lattice for MapOf<K, L> {
     ghost laws = { map_laws K.total K.exact L.laws };
 
     fn tells_invariant(&self) {
-        let _entries = &self.entries;
+        let _kept = &self.kept;
     }
 
     fn join(&self, other: &Self) -> Result<Self, NoMemory> {
-        let entries = merge(
-            *self.entries.allocator(),
-            &JoinValues,
-            &self.entries,
-            &other.entries,
-        )?;
-        Ok(MapOf { entries })
+        self.tells_invariant();
+        other.tells_invariant();
+        let mine = self.entries();
+        let theirs = other.entries();
+        if mine.is_empty() {
+            return other.copy();
+        }
+        if theirs.is_empty() {
+            return self.copy();
+        }
+        let entries = merge(self.alloc, &JoinValues, mine, theirs)?;
+        MapOf::of(self.alloc, entries)
     }
 
     fn leq(&self, other: &Self) -> bool {
-        for (key, value) in &self.entries {
+        self.tells_invariant();
+        for (key, value) in self.entries() {
             if !is_within(value, other.get(*key)) {
                 return false;
             }
@@ -122,12 +149,14 @@ impl<K: MapKey, L: Lattice> Lattice for MapOf<K, L> {
     }
 
     fn equal(&self, other: &Self) -> bool {
-        if self.entries.len() != other.entries.len() {
+        let mine = self.entries();
+        let theirs = other.entries();
+        if mine.len() != theirs.len() {
             return false;
         }
-        for i in 0..self.entries.len() {
-            let (x, a) = &self.entries[i];
-            let (y, b) = &other.entries[i];
+        for i in 0..mine.len() {
+            let (x, a) = &mine[i];
+            let (y, b) = &theirs[i];
             if x != y || !a.equal(b) {
                 return false;
             }
@@ -136,11 +165,14 @@ impl<K: MapKey, L: Lattice> Lattice for MapOf<K, L> {
     }
 
     fn copy(&self) -> Result<Self, NoMemory> {
-        let mut entries = Vec::with_capacity(*self.entries.allocator(), self.entries.len())?;
-        for (key, value) in &self.entries {
-            entries.push((*key, value.copy()?))?;
-        }
-        Ok(MapOf { entries })
+        let kept = match &self.kept {
+            Some(entries) => Some(Arc::try_clone(entries)?),
+            None => None,
+        };
+        Ok(MapOf {
+            alloc: self.alloc,
+            kept,
+        })
     }
 }
 
@@ -152,8 +184,6 @@ impl<K: MapKey, L: Lattice> Bottom for MapOf<K, L> {
     ghost bottom_value = { record { in_order = tt; values = λ k. tt } };
 
     fn bottom(alloc: Global) -> Self {
-        MapOf {
-            entries: Vec::new(alloc),
-        }
+        MapOf { alloc, kept: None }
     }
 }

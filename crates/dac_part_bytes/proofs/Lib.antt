@@ -11,6 +11,7 @@ pub mod KeyedLaws
 pub mod KeyedLists
 pub mod KeyedStarts
 pub mod KeyedVotes
+pub mod OneByOne
 pub mod PartCodecs
 pub mod ReadFacts
 pub mod ReadLoops

@@ -107,9 +107,9 @@ pub fn write_permissions(
     ensures { IfOk result
         (λ written. written ≡ writer ++ permits_bytes version permissions.now.standing) }
 {
-    let entries = permissions.entries();
-    let mut written = writer.write_count_u32(entries.len())?;
-    for (key, permits) in entries {
+    let mut written = writer.write_count_u32(permissions.len())?;
+    let mut left = permissions.entries();
+    while let Some((key, permits)) = left.next() {
         written = write_permits(written, version, *key, permits.entries())?;
     }
     Ok(written)
@@ -136,9 +136,9 @@ fn write_all_drains(writer: ByteWriter, drains: &Drains) -> Result<ByteWriter, N
     ensures { IfOk result (λ written. written
         ≡ writer ++ votes_bytes origin_cmp (origin_bytes Two) Two Down drains.now.standing) }
 {
-    let entries = drains.entries();
-    let mut written = writer.write_count_u32(entries.len())?;
-    for (at, votes) in entries {
+    let mut written = writer.write_count_u32(drains.len())?;
+    let mut left = drains.entries();
+    while let Some((at, votes)) = left.next() {
         written = write_drains_of(written, *at, votes.entries())?;
     }
     Ok(written)
@@ -194,9 +194,9 @@ pub fn write_wishes(
     ensures { IfOk result
         (λ written. written ≡ writer ++ starts_bytes version wishes.now.standing) }
 {
-    let entries = wishes.entries();
-    let mut written = writer.write_count_u32(entries.len())?;
-    for (key, dots) in entries {
+    let mut written = writer.write_count_u32(wishes.len())?;
+    let mut left = wishes.entries();
+    while let Some((key, dots)) = left.next() {
         written = write_dots(written, version, *key, dots.dots())?;
     }
     Ok(written)

@@ -1,1 +1,4 @@
 pub mod Passing
+mod PartLemmas
+mod EntryLemmas
+mod JoinLemmas

@@ -1,5 +1,5 @@
 -- The dots of a store with their values, wherever it keeps them.
-use Rattle.std.specs.Prelude.{List, [], ◌∷◌}
+use Rattle.std.specs.Prelude.{List, []}
 use Rattle.dac_origins.specs.declared.dot.Dot.{Dot}
 use Rattle.dac_store.specs.declared.few_entries.FewEntries.{FewEntries}
 use Rattle.dac_store.specs.declared.few_entries.FewEntries.TheVariants.{Empty, One, Sorted}

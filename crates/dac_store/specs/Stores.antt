@@ -1,6 +1,6 @@
 -- What a store of dots is: values that hold dots, ordered and joined beside what each side has heard of.
 -- (Dot stores are after delta-state replicated data types.)
-use Rattle.std.specs.Prelude.{◌≡◌, Bool, true, false, ◌||◌, refl}
+use Rattle.std.specs.Prelude.{◌≡◌, Bool, true, false, ◌||◌}
 use Rattle.std.specs.FinSet as set
 use Rattle.dac_origins.specs.Dots.{Dots, IsSubset}
 use Rattle.dac_origins.specs.declared.dot.Dot.{Dot}

@@ -10,7 +10,7 @@ ghost use Rattle.dac_store.specs.AtDot.{StandsBelow};
 use crate::DotStore;
 use crate::appending::ends_below;
 use crate::few_entries::{FewEntries, merge_few};
-use dac_dots::{Context, FilteredContext};
+use dac_dots::{Context, DotFilter, FilteredContext};
 use dac_lattice::Lattice;
 use dac_lattice::merging::{Combine, value_at};
 use dac_origins::{Dot, NoMemory};
@@ -215,6 +215,12 @@ impl<V: Lattice> DotStore for DotFun<V> {
             }
         }
         true
+    }
+
+    fn fill(&self, filter: &mut DotFilter) {
+        for (dot, _) in self.few.as_slice() {
+            filter.put(*dot);
+        }
     }
 
     fn is_empty(&self) -> bool {

@@ -1,41 +1,42 @@
 //! Stores at keys.
-ghost use Rattle.std.specs.Prelude.{◌≡◌, ◌↔◌, ◌&&◌, [], ◌∷◌, ◌++◌, not, true, IsTrue, IfOk, OnErr, if◌then◌else◌};
+ghost use Rattle.std.specs.Prelude.{◌≡◌, ◌↔◌, ◌&&◌, [], ◌∷◌, ◌++◌, length, not, true, IsTrue, IfOk, OnErr, if◌then◌else◌};
 ghost use Rattle.std.specs.Option.{option_copied};
 ghost use Rattle.std.specs.FinMap.{find};
+ghost use Rattle.dac_lattice.specs.Search.{AtEachEntry};
 ghost use Rattle.dac_store.specs.Appending.{is_above_entries};
-ghost use Rattle.dac_store.specs.DotMaps.{unless_empty, store_at};
+ghost use Rattle.dac_store.specs.DotMaps.{IsKeyed, store_at};
+ghost use Rattle.dac_store.specs.Parts.{IsBelowAt};
 
 use crate::DotStore;
-use crate::appending::ends_below;
-use dac_dots::{Context, FilteredContext};
-use dac_lattice::merging::{Combine, merge, value_at};
+use crate::block::Block;
+use crate::entries::Entries;
+use crate::joining::{JoinStores, join_parts};
+use crate::part::{are_unheard, are_within, entries_have, fill_each};
+use crate::parts::Parts;
+use dac_dots::{Context, DotFilter, FilteredContext};
 use dac_origins::{Dot, MapKey, NoMemory};
 use std::alloc::Global;
 use std::marker::Model;
 
 /// A store at each of some keys. A key without dots isn't kept, so equal maps are equal values. Contracts
 /// see it as the list of the keys with their stores, in the order of the keys.
+///
+/// The entries stand in blocks, which never change. A join shares each block that it surely leaves as it is.
 #[derive(Drop)]
 pub struct DotMap<K: MapKey, S: DotStore> {
-    entries: Vec<(K, S)>,
+    count: usize,
+    parts: Parts<K, S>,
 }
 
 impl<K: MapKey, S: DotStore> Model for DotMap<K, S> {
     ghost use Rattle.std.specs.Prelude.{List};
-    ghost use Rattle.dac_store.specs.DotMaps.{IsKeyed};
+    ghost use Rattle.dac_store.specs.Parts.{IsCounted};
 
     ghost Value = { List (K × S) };
 
-    ghost view = { λ a. a.entries.items };
+    ghost view = { λ a. a.parts };
 
-    ghost invariant = { λ a. IsKeyed K.cmp S.is_store S.is_empty a.entries.items };
-}
-
-/// The store, unless it holds no dots.
-fn unless_empty<S: DotStore>(store: S) -> Option<S>
-    ensures { result ≡ unless_empty S.is_empty store }
-{
-    if store.is_empty() { None } else { Some(store) }
+    ghost invariant = { λ a. IsCounted K.cmp S.is_store S.is_empty a.parts a.count };
 }
 
 impl<K: MapKey, S: DotStore> DotMap<K, S> {
@@ -62,25 +63,47 @@ impl<K: MapKey, S: DotStore> DotMap<K, S> {
             ((is_above_entries K.cmp self.old key && not (S.is_empty store)) ≡ true) }
     {
         store.tells_invariant();
-        if !ends_below(&self.entries, key) || store.is_empty() {
+        if !self.parts.end_below(key) || store.is_empty() {
             return Ok(false);
         }
-        self.entries.push((key, store))?;
+        let Some(count) = self.count.checked_add(1) else {
+            return Err(NoMemory);
+        };
+        self.parts.push(key, store)?;
+        self.count = count;
         Ok(true)
+    }
+
+    /// The map of these entries, which are counted. [`NoMemory`] is the only error, where their number doesn't fit.
+    fn of(parts: Parts<K, S>) -> Result<Self, NoMemory>
+        requires { IsKeyed K.cmp S.is_store S.is_empty parts }
+        ensures { IfOk result (λ map. map ≡ parts) }
+    {
+        let Some(count) = parts.count() else {
+            return Err(NoMemory);
+        };
+        Ok(DotMap { count, parts })
     }
 
     /// The store at a key, if it holds dots. It takes no memory.
     pub fn get(&self, key: K) -> Option<&S>
         ensures { option_copied result ≡ find K.cmp key self.now }
     {
-        value_at(&self.entries, key)
+        self.parts.get(key)
     }
 
-    /// The keys with their stores, in the order of the keys. It takes no memory.
-    pub fn entries(&self) -> &[(K, S)]
-        ensures { result.now ≡ self.now }
+    /// The keys with their stores, in the order of the keys, for a reader. It takes no memory.
+    pub fn entries(&self) -> Entries<'_, K, S>
+        ensures { result ≡ self.now }
     {
-        self.entries.as_slice()
+        self.parts.entries()
+    }
+
+    /// How many keys there are.
+    pub fn len(&self) -> usize
+        ensures { result ≡ length self.now }
+    {
+        self.count
     }
 
     /// Whether what is at a key is below a store of the other side.
@@ -96,51 +119,37 @@ impl<K: MapKey, S: DotStore> DotMap<K, S> {
         let heard = heard.context();
         match self.get(key) {
             Some(mine) => mine.leq_in(heard, theirs, other_heard),
-            None => S::empty(*self.entries.allocator()).leq_in(heard, theirs, other_heard),
+            None => S::empty(self.parts.allocator()).leq_in(heard, theirs, other_heard),
         }
     }
-}
 
-/// Joins the two stores of each key beside what each side has heard of, and drops a key without dots.
-#[derive(Clone, Copy)]
-struct JoinStores<'a> {
-    alloc: Global,
-    mine: &'a FilteredContext<'a>,
-    theirs: &'a FilteredContext<'a>,
-}
-
-impl<K: MapKey, S: DotStore> Combine<K, S> for JoinStores<'_> {
-    ghost use Rattle.dac_store.specs.DotMaps.{unless_empty, store_at};
-
-    ghost combined = { λ h _ v w. unless_empty S.is_empty
-        (S.join (store_at S.nothing v) h.mine.now (store_at S.nothing w) h.theirs.now) };
-
-    fn left(&self, _key: K, mine: &S) -> Result<Option<S>, NoMemory> {
-        if mine.is_unheard(self.theirs) {
-            mine.tells_invariant();
-            return Ok(unless_empty(mine.copy()?));
+    /// Whether what is at each key of some entries is below their stores.
+    fn leq_part(&self, heard: &FilteredContext<'_>, part: &[(K, S)], other_heard: &Context) -> bool
+        ensures { IsTrue result ↔ AtEachEntry
+            (IsBelowAt K.cmp S.nothing S.below self.now heard.now other_heard.now) part.now }
+    {
+        for (key, theirs) in part {
+            if !self.leq_at(heard, *key, theirs, other_heard) {
+                return false;
+            }
         }
-        Ok(unless_empty(mine.join_in(
-            self.mine.context(),
-            &S::empty(self.alloc),
-            self.theirs.context(),
-        )?))
+        true
     }
 
-    fn right(&self, _key: K, theirs: &S) -> Result<Option<S>, NoMemory> {
-        if theirs.is_unheard(self.mine) {
-            theirs.tells_invariant();
-            return Ok(unless_empty(theirs.copy()?));
+    /// The same of a block, which is passed over where surely none of its dots has been heard of.
+    fn leq_block(
+        &self,
+        heard: &FilteredContext<'_>,
+        block: &Block<K, S>,
+        other_heard: &Context,
+    ) -> bool
+        ensures { IsTrue result ↔ AtEachEntry
+            (IsBelowAt K.cmp S.nothing S.below self.now heard.now other_heard.now) block.now }
+    {
+        if block.is_apart(heard) {
+            return true;
         }
-        Ok(unless_empty(S::empty(self.alloc).join_in(
-            self.mine.context(),
-            theirs,
-            self.theirs.context(),
-        )?))
-    }
-
-    fn both(&self, _key: K, mine: &S, theirs: &S) -> Result<Option<S>, NoMemory> {
-        Ok(unless_empty(mine.join_in(self.mine.context(), theirs, self.theirs.context())?))
+        self.leq_part(heard, block.entries(), other_heard)
     }
 }
 
@@ -165,25 +174,26 @@ impl<K: MapKey, S: DotStore> DotStore for DotMap<K, S> {
     ghost laws = { keyed_laws K.total K.exact S.laws };
 
     fn tells_invariant(&self) {
-        let _entries = &self.entries;
+        let _parts = &self.parts;
     }
 
     fn empty(alloc: Global) -> Self {
         DotMap {
-            entries: Vec::new(alloc),
+            count: 0,
+            parts: Parts::empty(alloc),
         }
     }
 
     fn allocator(&self) -> Global {
-        *self.entries.allocator()
+        self.parts.allocator()
     }
 
     fn copy(&self) -> Result<Self, NoMemory> {
-        let mut entries = Vec::with_capacity(*self.entries.allocator(), self.entries.len())?;
-        for (key, store) in &self.entries {
-            entries.push((*key, store.copy()?))?;
-        }
-        Ok(DotMap { entries })
+        let parts = self.parts.copy()?;
+        Ok(DotMap {
+            count: self.count,
+            parts,
+        })
     }
 
     fn join_in(
@@ -192,57 +202,69 @@ impl<K: MapKey, S: DotStore> DotStore for DotMap<K, S> {
         other: &Self,
         other_heard: &Context,
     ) -> Result<Self, NoMemory> {
-        let alloc = *self.entries.allocator();
-        let mine = FilteredContext::of(heard, other.entries.len());
-        let theirs = FilteredContext::of(other_heard, self.entries.len());
+        let mine = FilteredContext::of(heard, other.count);
+        let theirs = FilteredContext::of(other_heard, self.count);
         let how = JoinStores {
-            alloc,
+            alloc: self.parts.allocator(),
             mine: &mine,
             theirs: &theirs,
         };
-        let entries = merge(alloc, &how, &self.entries, &other.entries)?;
-        Ok(DotMap { entries })
+        let parts = join_parts(&how, &self.parts, &other.parts)?;
+        let joined = Self::of(parts)?;
+        Ok(joined)
     }
 
     fn leq_in(&self, heard: &Context, other: &Self, other_heard: &Context) -> bool {
         self.tells_invariant();
-        let filtered = FilteredContext::of(heard, other.entries.len());
-        for (key, theirs) in &other.entries {
-            if !self.leq_at(&filtered, *key, theirs, other_heard) {
+        let filtered = FilteredContext::of(heard, other.count);
+        let (blocks, last) = other.parts.pieces();
+        for block in blocks {
+            if !self.leq_block(&filtered, block, other_heard) {
                 return false;
             }
         }
-        true
+        self.leq_part(&filtered, last, other_heard)
     }
 
     fn has(&self, dot: Dot) -> bool {
-        for (_, store) in &self.entries {
-            if store.has(dot) {
+        let (blocks, last) = self.parts.pieces();
+        for block in blocks {
+            if block.has(dot) {
                 return true;
             }
         }
-        false
+        entries_have(last, dot)
     }
 
     fn within(&self, context: &Context) -> bool {
-        for (_, store) in &self.entries {
-            if !store.within(context) {
+        let (blocks, last) = self.parts.pieces();
+        for block in blocks {
+            if !are_within(block.entries(), context) {
                 return false;
             }
         }
-        true
+        are_within(last, context)
     }
 
     fn is_unheard(&self, heard: &FilteredContext<'_>) -> bool {
-        for (_, store) in &self.entries {
-            if !store.is_unheard(heard) {
+        let (blocks, last) = self.parts.pieces();
+        for block in blocks {
+            if !block.is_unheard(heard) {
                 return false;
             }
         }
-        true
+        are_unheard(last, heard)
+    }
+
+    fn fill(&self, filter: &mut DotFilter) {
+        let (blocks, last) = self.parts.pieces();
+        for block in blocks {
+            fill_each(block.entries(), filter);
+        }
+        fill_each(last, filter);
     }
 
     fn is_empty(&self) -> bool {
-        self.entries.is_empty()
+        self.count == 0
     }
 }

@@ -7,7 +7,7 @@ ghost use Rattle.dac_store.specs.DotSets.{join_sets, may_stay};
 
 use crate::DotStore;
 use crate::few::FewDots;
-use dac_dots::{Context, FilteredContext};
+use dac_dots::{Context, DotFilter, FilteredContext};
 use dac_origins::keys::holds_key;
 use dac_origins::{Dot, NoMemory};
 use std::alloc::Global;
@@ -277,6 +277,12 @@ impl DotStore for DotSet {
             }
         }
         true
+    }
+
+    fn fill(&self, filter: &mut DotFilter) {
+        for dot in self.dots() {
+            filter.put(*dot);
+        }
     }
 
     fn is_empty(&self) -> bool {

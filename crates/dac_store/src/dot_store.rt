@@ -1,10 +1,11 @@
 //! What a store of dots is.
-ghost use Rattle.std.specs.Prelude.{◌≡◌, ◌↔◌, Bool, IsTrue, IfOk};
+ghost use Rattle.std.specs.Prelude.{◌≡◌, ◌↔◌, Bool, true, IsTrue, IfOk};
 ghost use Rattle.dac_origins.specs.Dots.{Dots};
 ghost use Rattle.dac_origins.specs.declared.Dot.{Dot};
+ghost use Rattle.dac_dots.specs.DotFilters.{may_have};
 ghost use Rattle.dac_store.specs.Stores.{IsDotStore, IsHeld, IsUnheard};
 
-use dac_dots::{Context, FilteredContext};
+use dac_dots::{Context, DotFilter, FilteredContext};
 use dac_origins::{Dot, NoMemory};
 use std::alloc::Global;
 
@@ -75,6 +76,12 @@ pub trait DotStore: Drop {
     /// Whether the store holds none of the dots that have been heard of.
     fn is_unheard(&self, heard: &FilteredContext<'_>) -> bool
         ensures { IsTrue result ↔ IsUnheard (has self.now) heard.now };
+
+    /// Puts each dot of the store into a filter, which keeps those that it has.
+    fn fill(&self, filter: &mut DotFilter)
+        ensures own { (x : Dot) → has self.now x ≡ true → may_have filter.new.slots x ≡ true }
+        ensures more { (x : Dot) → may_have filter.old.slots x ≡ true
+            → may_have filter.new.slots x ≡ true };
 
     /// Whether the store holds no dot.
     fn is_empty(&self) -> bool

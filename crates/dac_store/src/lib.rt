@@ -12,18 +12,24 @@
 #![tactic(auto)]
 
 pub use causal::Causal;
-pub use dac_dots::{Context, FilteredContext, SharedContext};
+pub use dac_dots::{Context, DotFilter, FilteredContext, SharedContext};
 pub use dot_fun::DotFun;
 pub use dot_map::DotMap;
 pub use dot_set::DotSet;
 pub use dot_store::DotStore;
+pub use entries::Entries;
 
 mod appending;
+mod block;
 mod causal;
 mod dot_fun;
 mod dot_map;
 mod dot_set;
 mod dot_store;
+mod entries;
 mod few;
 mod few_entries;
+mod joining;
 mod kept;
+mod part;
+mod parts;

@@ -34,7 +34,7 @@ use Rattle.dac_wishes.specs.laws.KeyedWrites.{same_dot_is, same_dot_itself, tied
 use Rattle.dac_wishes.specs.Keys.{key_cmp}
 use Rattle.dac_wishes.specs.laws.Keys.{keys_total, exact_keys}
 use Rattle.dac_wishes.specs.Writes.{Write, write}
-use Rattle.dac_wishes.specs.Votes.{Votes, VotesValue, AreVotesBelow}
+use Rattle.dac_wishes.specs.Votes.{VotesValue, AreVotesBelow}
 use Rattle.dac_wishes.specs.StoredVotes.{DotFlags}
 use Rattle.dac_wishes.specs.VotesByKey.{votes_by_key}
 use Rattle.dac_wishes.specs.laws.VotesByKey.{get-votes_of, are_votes, votes_by_key_again}

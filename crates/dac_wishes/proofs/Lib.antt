@@ -4,3 +4,4 @@ pub mod WishStoring
 pub mod VoteStoring
 pub mod DeltaStoring
 pub mod Covered
+pub mod Walks

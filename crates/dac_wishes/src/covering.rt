@@ -19,7 +19,7 @@ use crate::permit_act::flag_of as permit_flag;
 use crate::wishes::Wishes;
 use dac_lattice::Flag;
 use dac_origins::{Dot, MapKey, Origin};
-use dac_store::{Context, DotFun, DotSet};
+use dac_store::{Context, DotFun, DotSet, Entries};
 
 impl Permissions {
     ghost use Rattle.dac_wishes.specs.PermissionsValue.{IsPermissionsBelow};
@@ -118,11 +118,17 @@ fn let_stand<K: MapKey>(
     dot: Dot,
     vote: Option<(K, Flag)>,
     over: &[Dot],
-    entries: &[(K, DotFun<Flag>)],
+    entries: Entries<'_, K, DotFun<Flag>>,
 ) -> bool
-    ensures { result ≡ let_stand K.cmp dot vote over.now entries.now }
+    ensures { result ≡ let_stand K.cmp dot vote over.now entries.entry }
 {
-    entries.iter().all(|entry| let_stand_at(dot, vote, over, entry.0, entry.1.entries()))
+    let mut left = entries;
+    while let Some((key, votes)) = left.next() {
+        if !let_stand_at(dot, vote, over, *key, votes.entries()) {
+            return false;
+        }
+    }
+    true
 }
 
 /// Whether each vote at a key may stand.
@@ -184,10 +190,16 @@ fn is_said_below(said: Option<Flag>, stands: Flag) -> bool
 }
 
 /// Whether each wish at each key may stand beside what the operation says.
-fn let_wishes(dot: Dot, start: Option<Key>, over: &[Dot], entries: &[(Key, DotSet)]) -> bool
-    ensures { result ≡ let_wishes dot start over.now entries.now }
+fn let_wishes(dot: Dot, start: Option<Key>, over: &[Dot], entries: Entries<'_, Key, DotSet>) -> bool
+    ensures { result ≡ let_wishes dot start over.now entries.entry }
 {
-    entries.iter().all(|entry| let_wishes_at(dot, start, over, entry.0, entry.1.dots()))
+    let mut left = entries;
+    while let Some((key, wishes)) = left.next() {
+        if !let_wishes_at(dot, start, over, *key, wishes.dots()) {
+            return false;
+        }
+    }
+    true
 }
 
 /// Whether each wish at a key may stand.

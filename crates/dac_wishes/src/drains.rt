@@ -1,5 +1,5 @@
 //! Drains.
-ghost use Rattle.std.specs.Prelude.{◌≡◌, ◌↔◌, IsTrue, IfOk};
+ghost use Rattle.std.specs.Prelude.{◌≡◌, ◌↔◌, length, IsTrue, IfOk};
 ghost use Rattle.std.specs.FinSet as set;
 ghost use Rattle.dac_origins.specs.Dots.{IsSubset};
 ghost use Rattle.std.specs.List.{list_any};
@@ -14,7 +14,7 @@ use crate::votes::{kept_at, kept_beside};
 use dac_base::{NoMemory, NodeId};
 use dac_lattice::{Bottom, Flag, Lattice, Piece};
 use dac_origins::{Dot, Origin};
-use dac_store::{Causal, Context, DotFun, DotMap, DotStore, SharedContext};
+use dac_store::{Causal, Context, DotFun, DotMap, DotStore, Entries, SharedContext};
 use std::alloc::Global;
 use std::marker::Model;
 
@@ -69,10 +69,17 @@ impl Drains {
 
     /// The origins that have a drain that stands, in ascending order, each with the dots of its drains and
     /// their values. It takes no memory.
-    pub fn entries(&self) -> &[(Origin, DotFun<Flag>)]
-        ensures { result.now ≡ drains_by_origin self.now.standing }
+    pub fn entries(&self) -> Entries<'_, Origin, DotFun<Flag>>
+        ensures { result ≡ drains_by_origin self.now.standing }
     {
         self.causal.store().entries()
+    }
+
+    /// How many origins have a drain that stands.
+    pub fn len(&self) -> usize
+        ensures { result ≡ length (drains_by_origin self.now.standing) }
+    {
+        self.causal.store().len()
     }
 
     /// Whether an incarnation of a node is drained: some drain of it stands that says true. It takes no memory.

@@ -1,5 +1,5 @@
 //! Permissions.
-ghost use Rattle.std.specs.Prelude.{◌≡◌, ◌↔◌, IsTrue, IfOk};
+ghost use Rattle.std.specs.Prelude.{◌≡◌, ◌↔◌, length, IsTrue, IfOk};
 ghost use Rattle.std.specs.FinSet as set;
 ghost use Rattle.dac_origins.specs.Dots.{IsSubset};
 ghost use Rattle.std.specs.List.{list_all};
@@ -15,7 +15,7 @@ use crate::votes::{kept_at, kept_beside};
 use dac_base::NoMemory;
 use dac_lattice::{Bottom, Flag, Lattice, Piece};
 use dac_origins::Dot;
-use dac_store::{Causal, Context, DotFun, DotMap, SharedContext};
+use dac_store::{Causal, Context, DotFun, DotMap, Entries, SharedContext};
 use std::alloc::Global;
 use std::marker::Model;
 
@@ -61,10 +61,17 @@ impl Permissions {
 
     /// The keys that have a permit that stands, in ascending order, each with the dots of its permits and
     /// their values. It takes no memory.
-    pub fn entries(&self) -> &[(Key, DotFun<Flag>)]
-        ensures { result.now ≡ permits_by_key self.now.standing }
+    pub fn entries(&self) -> Entries<'_, Key, DotFun<Flag>>
+        ensures { result ≡ permits_by_key self.now.standing }
     {
         self.causal.store().entries()
+    }
+
+    /// How many keys have a permit that stands.
+    pub fn len(&self) -> usize
+        ensures { result ≡ length (permits_by_key self.now.standing) }
+    {
+        self.causal.store().len()
     }
 
     /// Whether the key is permitted: no permit of it stands and the default is true, or some stand and all

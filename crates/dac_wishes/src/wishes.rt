@@ -1,5 +1,5 @@
 //! Start wishes.
-ghost use Rattle.std.specs.Prelude.{◌≡◌, ◌↔◌, IsTrue, IfOk};
+ghost use Rattle.std.specs.Prelude.{◌≡◌, ◌↔◌, length, IsTrue, IfOk};
 ghost use Rattle.std.specs.FinSet as set;
 ghost use Rattle.dac_origins.specs.Dots.{IsSubset};
 ghost use Rattle.dac_origins.specs.InOrder.{in_order};
@@ -14,7 +14,7 @@ use crate::wish_act::WishAct;
 use dac_base::NoMemory;
 use dac_lattice::{Bottom, Lattice, Piece};
 use dac_origins::Dot;
-use dac_store::{Causal, Context, DotMap, DotSet, DotStore, SharedContext};
+use dac_store::{Causal, Context, DotMap, DotSet, DotStore, Entries, SharedContext};
 use std::alloc::Global;
 use std::marker::Model;
 
@@ -58,10 +58,17 @@ impl Wishes {
 
     /// The keys that have a start that stands, in ascending order, each with the dots of its starts. It
     /// takes no memory.
-    pub fn entries(&self) -> &[(Key, DotSet)]
-        ensures { result.now ≡ starts_by_key self.now.standing }
+    pub fn entries(&self) -> Entries<'_, Key, DotSet>
+        ensures { result ≡ starts_by_key self.now.standing }
     {
         self.causal.store().entries()
+    }
+
+    /// How many keys have a start that stands.
+    pub fn len(&self) -> usize
+        ensures { result ≡ length (starts_by_key self.now.standing) }
+    {
+        self.causal.store().len()
     }
 
     /// Whether some start of the key stands. It takes no memory.

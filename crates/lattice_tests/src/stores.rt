@@ -118,7 +118,7 @@ fn a_dot_is_appended(alloc: Global) -> Result<bool, NoMemory> {
 fn a_key_is_appended(alloc: Global) -> Result<bool, NoMemory> {
     let mut map = denied_at(alloc, 7)?;
     let pushed = map.push(9, first_denied(alloc)?)?;
-    Ok(pushed && map.get(9).is_some() && map.entries().len() == 2)
+    Ok(pushed && map.get(9).is_some() && map.len() == 2)
 }
 
 #[test]

@@ -116,13 +116,13 @@ fn kept_permit(alloc: Global) -> Option<Permissions> {
 /// Whether a start that is kept is one that was wished.
 fn is_start(alloc: Global) -> Option<bool> {
     let kept = kept_start(alloc)?;
-    Some(kept.entries().len() == 1 && kept.equal(&start_of(alloc, dot(0, 2)).ok()?))
+    Some(kept.len() == 1 && kept.equal(&start_of(alloc, dot(0, 2)).ok()?))
 }
 
 /// Whether a permit that is kept is one that was given.
 fn is_permit(alloc: Global) -> Option<bool> {
     let kept = kept_permit(alloc)?;
-    Some(kept.entries().len() == 1 && kept.equal(&permit_of(alloc, dot(0, 2), true).ok()?))
+    Some(kept.len() == 1 && kept.equal(&permit_of(alloc, dot(0, 2), true).ok()?))
 }
 
 #[test]

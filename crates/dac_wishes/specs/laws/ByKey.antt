@@ -8,7 +8,6 @@ use Rattle.std.specs.FinMap.Entries.{below_all}
 use Rattle.std.proofs.lemmas.Bool.{and_parts}
 use Rattle.std.proofs.lemmas.Map.Lookups.{CmpEqualImpliesEq}
 use Rattle.dac_origins.specs.Keys.{IsRising, is_below_all, has_key}
-use Rattle.dac_origins.specs.InOrder.{in_order}
 use Rattle.dac_store.specs.DotMaps.{store_at, unless_empty, IsKept, IsKeyed}
 use Rattle.dac_wishes.specs.laws.KeyedWrites.{tied_is}
 use Rattle.dac_wishes.specs.ByKey.{by_key, keys_in}

@@ -8,7 +8,6 @@ use Rattle.dac_wishes.specs.laws.Keys.{keys_total, exact_keys}
 use Rattle.dac_wishes.specs.Writes.{Write}
 use Rattle.dac_wishes.specs.PermissionsValue.{ArePermissions, join_permissions, no_permissions}
 use Rattle.dac_wishes.specs.Replacing.{SparesItself}
-use Rattle.dac_wishes.specs.VoteMeaning as votes
 use Rattle.dac_wishes.specs.laws.VoteMeaning as votes_laws
 use Rattle.dac_wishes.specs.PermitMeaning.{IsMeaning, over_of, permit_delta, permit_in, vote_of}
 

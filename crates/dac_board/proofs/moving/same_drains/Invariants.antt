@@ -1,5 +1,8 @@
-use Rattle.std.proofs.Common.{◌≡◌, take}
+use Rattle.std.proofs.Common.{◌≡◌, length}
 use Rattle.dac_board.proofs.moving.same_drains.Given as goal
 
-abbrev pub invariant-loop-place : goal.invariant-loop-place
-invariant-loop-place l = take l.place l.old ≡ take l.place l.new
+abbrev pub invariant-loop-one : goal.invariant-loop-one
+invariant-loop-one l = l.before ≡ l.after → l.fn.old ≡ l.fn.new
+
+abbrev pub decreases-loop-one : goal.decreases-loop-one
+decreases-loop-one l = length l.before

@@ -1,8 +1,12 @@
-use Rattle.std.proofs.Common.{◌≡◌, ◌++◌, take}
+use Rattle.std.proofs.Common.{◌≡◌, ◌++◌, length}
 use Rattle.std.specs.List.{flat_map}
 use Rattle.dac_lattice.specs.declared.flags.Flag.TheVariants.{Up}
 use Rattle.dac_part_bytes.specs.Spelling.{key_bytes, keyed_votes_bytes}
 use Rattle.dac_part_bytes.proofs.writing.write_permissions.Given as goal
 
+-- what is written, before what is left, is all
 abbrev pub invariant-loop-key : goal.invariant-loop-key
-invariant-loop-key l = l.written ≡ l.initial.written ++ flat_map (keyed_votes_bytes (key_bytes l.version) l.version Up) (take l.key-index l.entries)
+invariant-loop-key l = l.written ++ flat_map (keyed_votes_bytes (key_bytes l.version) l.version Up) l.left ≡ l.initial.written ++ flat_map (keyed_votes_bytes (key_bytes l.version) l.version Up) l.initial.left
+
+abbrev pub decreases-loop-key : goal.decreases-loop-key
+decreases-loop-key l = length l.left

@@ -1,8 +1,12 @@
-use Rattle.std.proofs.Common.{◌≡◌, ◌++◌, take}
+use Rattle.std.proofs.Common.{◌≡◌, ◌++◌, length}
 use Rattle.std.specs.List.{flat_map}
 use Rattle.dac_origins.specs.InOrder.{in_order}
 use Rattle.dac_part_bytes.specs.Spelling.{keyed_dots_bytes}
 use Rattle.dac_part_bytes.proofs.writing.write_wishes.Given as goal
 
+-- what is written, before what is left, is all
 abbrev pub invariant-loop-key : goal.invariant-loop-key
-invariant-loop-key l = l.written ≡ l.initial.written ++ flat_map (λ e. keyed_dots_bytes l.version (e.0, in_order e.1)) (take l.key-index l.entries)
+invariant-loop-key l = l.written ++ flat_map (λ e. keyed_dots_bytes l.version (e.0, in_order e.1)) l.left ≡ l.initial.written ++ flat_map (λ e. keyed_dots_bytes l.version (e.0, in_order e.1)) l.initial.left
+
+abbrev pub decreases-loop-key : goal.decreases-loop-key
+decreases-loop-key l = length l.left

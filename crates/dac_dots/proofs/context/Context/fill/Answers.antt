@@ -1,5 +1,7 @@
-use Rattle.dac_dots.proofs.FilterLemmas.{in_rows}
+use Rattle.std.proofs.Common.{sym, ◌∙◌}
+use Rattle.std.proofs.lemmas.Bool.{false≢true}
+use Rattle.dac_dots.proofs.NothingLemmas.{no_dots, lacks_each}
 use Rattle.dac_dots.proofs.context.Context.fill.Goals as goal
 
-pub returns : goal.returns
-returns c q e = c.loop-row.invariant q (in_rows c.self.inside.rows.items c.deref-row-items.result.now c.args.self.now c.self.view_is c.deref-row-items.ensures.value c.loop-row.row-index c.loop-row-test.false q e)
+pub returns-in-None : goal.returns-in-None
+returns-in-None c q e = absurd (false≢true (sym (lacks_each c.args.self.now (no_dots c.self.inside.kept c.args.self.now c.self.view_is c.in-None.is) q) ∙ e))

@@ -1,16 +1,6 @@
-use Rattle.std.proofs.Common.{◌∙◌, sym, refl, subst}
-use Rattle.std.proofs.lemmas.Bool.{false≢true}
-use Rattle.std.proofs.lemmas.List.Elements.{All-more}
-use Rattle.dac_dots.specs.Rows.{Row, IsRowIn}
-use Rattle.dac_dots.proofs.ContextLemmas.{subset_done, row_in}
+use Rattle.std.proofs.Common.{refl}
+use Rattle.dac_dots.proofs.NothingLemmas.{no_dots, is_within}
 use Rattle.dac_dots.proofs.context.Context.is_subset.Goals as goal
 
-pub loop-row-preserved : goal.loop-row-preserved
-loop-row-preserved c = let P = λ (row : Row). IsRowIn row c.args.other.now in All-more P c.deref-row-items.result.now c.loop-row.row-index c.row-item.result c.loop-row-test.true c.loop-row.invariant (subst P c.row-item.is (c.has_row.ensures.0 c.if-not-has_row.false))
-
-pub returns-then-not-has_row : goal.returns-then-not-has_row
-returns-then-not-has_row c =
-    (λ e. absurd (false≢true e), λ within. absurd (false≢true (sym c.if-not-has_row.true ∙ c.has_row.ensures.1 (λ n e. within _ (row_in c.self.inside.rows.items c.deref-row-items.result.now c.args.self.now c.self.view_is c.deref-row-items.ensures.value c.loop-row.row-index c.row-item.result c.loop-row-test.true c.row-item.is n e)))))
-
-pub returns : goal.returns
-returns c = (λ _. subset_done c.self.inside.rows.items c.deref-row-items.result.now c.args.self.now c.self.view_is c.deref-row-items.ensures.value c.args.other.now _ c.loop-row-test.false c.loop-row.invariant, λ _. refl)
+pub returns-in-None : goal.returns-in-None
+returns-in-None c = (λ _. is_within c.args.self.now (no_dots c.self.inside.kept c.args.self.now c.self.view_is c.in-None.is) c.args.other.now, λ _. refl)

@@ -1,5 +1,6 @@
-use Rattle.dac_dots.proofs.LenLemmas.{len_is}
+use Rattle.std.proofs.Common.{sym}
+use Rattle.dac_dots.proofs.NothingLemmas.{no_dots, counts_none}
 use Rattle.dac_dots.proofs.context.Context.len.Goals as goal
 
-pub returns : goal.returns
-returns c = len_is c.self.inside.rows.items c.deref-row-items.result.now c.args.self.now c.self.view_is c.self.invariant c.deref-row-items.ensures.value c.loop-row.row-index c.loop-row.len c.loop-row-test.false c.loop-row.invariant.so_far
+pub returns-in-None : goal.returns-in-None
+returns-in-None c = sym (counts_none c.args.self.now (no_dots c.self.inside.kept c.args.self.now c.self.view_is c.in-None.is))

@@ -1,8 +1,26 @@
+use Rattle.std.proofs.Common.{nat_eq, length, IfOk, ◌≡◌, sym, ap, subst, ◌∙◌}
+use Rattle.dac_lattice.specs.Maps.{join_maps}
 use Rattle.dac_lattice.specs.laws.Maps.{map_laws}
+use Rattle.dac_lattice.proofs.JoinLemmas.{nothing_first, nothing_second}
 use Rattle.dac_lattice.proofs.maps.MapOfLattice.join.Goals as goal
 
+pub returns-then-is_empty : goal.returns-then-is_empty
+returns-then-is_empty g c =
+    let none = ap (λ xs. nat_eq (length xs) 0) (sym c.entries-mine.ensures) ∙ sym c.is_empty.ensures ∙ c.if-is_empty.true in
+    subst (λ both. IfOk c.copy.result (λ copied. copied ≡ both)) (sym (nothing_first g.K.Ord.cmp g.L.Lattice.join c.args.self.now c.args.other.now none)) c.copy.ensures
+
+pub returns-then-is_empty-2 : goal.returns-then-is_empty-2
+returns-then-is_empty-2 g c =
+    let none = ap (λ xs. nat_eq (length xs) 0) (sym c.entries-theirs.ensures) ∙ sym c.is_empty-2.ensures ∙ c.if-is_empty-2.true in
+    subst (λ both. IfOk c.copy-then-is_empty-2.result (λ copied. copied ≡ both)) (sym (nothing_second g.K.Ord.cmp g.L.Lattice.join c.args.self.now c.args.other.now none)) c.copy-then-is_empty-2.ensures
+
 -- the merge is what the laws of maps say is closed
-pub invariant_of-result : goal.invariant_of-result
-invariant_of-result g c =
-    rw (c.in_ok-entries.ensures, c.deref.ensures.value, c.deref-2.ensures.value)
-    ((map_laws g.met.K.Ord.total g.met.K.MapKey.exact g.met.L.Lattice.laws).closed _ _ c.self.invariant c.other.invariant)
+pub of-requires : goal.of-requires
+of-requires g c =
+    rw (c.in_ok-entries.ensures, c.entries-mine.ensures, c.entries-theirs.ensures)
+    ((map_laws g.met.K.Ord.total g.met.K.MapKey.exact g.met.L.Lattice.laws).closed _ _ c.tells_invariant.ensures c.tells_invariant-2.ensures)
+
+pub returns : goal.returns
+returns g c =
+    subst (λ both. IfOk c.of.result (λ joined. joined ≡ both))
+    (c.in_ok-entries.ensures ∙ (λ k. join_maps g.K.Ord.cmp g.L.Lattice.join (c.entries-mine.ensures k) (c.entries-theirs.ensures k))) c.of.ensures

@@ -12,11 +12,11 @@ loop-key-preserved g c =
 
 pub returns-then-not-is_within : goal.returns-then-not-is_within
 returns-then-not-is_within g c =
-    let at = at_place g.met.K.Ord.total g.met.K.MapKey.exact (λ k v. IsOptionBelow g.L.Lattice.below v (find g.K.Ord.cmp k c.args.other.now)) c.deref-key-items.result.now _ _
-    (rw c.deref-key-items.ensures.value c.self.invariant.in_order) c.loop-key-test.true c.loop-key-item.is in (
+    let at = at_place g.met.K.Ord.total g.met.K.MapKey.exact (λ k v. IsOptionBelow g.L.Lattice.below v (find g.K.Ord.cmp k c.args.other.now)) c.entries-key-items.result.now _ _
+    (rw c.entries-key-items.ensures c.tells_invariant.ensures.in_order) c.loop-key-test.true c.loop-key-item.is in (
       λ e. absurd (false≢true e),
       λ below.
-          let here = at (rw (c.deref-key-items.ensures.value, c.self.view_is) below) in
+          let here = at (rw c.entries-key-items.ensures below) in
           absurd (false≢true (sym c.if-not-is_within.true ∙ c.is_within.ensures.1 (rw c.get.ensures here))),
     )
 
@@ -24,4 +24,4 @@ pub returns : goal.returns
 returns g c =
     let all = no_more g.met.K.Ord.total g.met.K.MapKey.exact (λ k v. IsOptionBelow g.L.Lattice.below v (find g.K.Ord.cmp k c.args.other.now)) (λ _. tt) _ _
     c.loop-key-test.false c.loop-key.invariant in
-    (λ _. rw (← c.self.view_is, ← c.deref-key-items.ensures.value) all, λ _. refl)
+    (λ _. rw (← c.entries-key-items.ensures) all, λ _. refl)

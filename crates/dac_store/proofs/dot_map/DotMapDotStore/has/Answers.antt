@@ -1,37 +1,26 @@
-use Rattle.std.proofs.Common.{◌≡◌, ◌||◌, ◌∙◌, true, false, refl, sym, ap, subst, get_or}
-use Rattle.std.proofs.lemmas.List.{take_all}
-use Rattle.std.proofs.lemmas.List.Folds.{list_any_more}
-use borrow.Author.Count.{falls}
+use Rattle.std.proofs.Common.{◌∙◌, sym, ap}
+use Rattle.std.specs.Arc.{arc_value}
 use Rattle.dac_store.specs.DotMaps.{has_in}
-use Rattle.dac_store.proofs.Passing.{has_at}
+use Rattle.dac_store.proofs.PartLemmas.{has_here, has_next, rest_last}
 use Rattle.dac_store.proofs.dot_map.DotMapDotStore.has.Goals as goal
 
-pub loop-store-init : goal.loop-store-init
-loop-store-init g c = refl
+pub loop-block-init : goal.loop-block-init
+loop-block-init g c = ap (λ m. has_in g.S.DotStore.has m c.args.dot) (sym c.pieces.ensures ∙ c.self.view_is)
+
+pub loop-block-preserved : goal.loop-block-preserved
+loop-block-preserved g c =
+    let has = g.S.DotStore.has in
+    has_next arc_value has c.args.dot c.pieces.result.0.now c.pieces.result.1.now c.loop-block.block-index c.block-item.result c.args.self.now c.loop-block-test.true c.block-item.is c.loop-block.invariant
+    (ap (λ m. has_in has m c.args.dot) (sym c.deref.ensures) ∙ sym c.has.ensures ∙ c.if-has.false)
 
 pub returns-then-has : goal.returns-then-has
 returns-then-has g c =
     let has = g.S.DotStore.has in
-    let dot = c.args.dot in
-    let items = c.deref-store-items.result.now in
-    let here = has_at has items c.loop-store.store-index c.loop-store-item.result dot c.loop-store-test.true (subst (λ e. has e.1 dot ≡ true) c.loop-store-item.is (sym c.has.ensures ∙ c.if-has.true)) in
-    sym (ap (λ m. has_in has m dot) (sym (c.deref-store-items.ensures.value ∙ c.self.view_is)) ∙ here)
-
-pub loop-store-smaller : goal.loop-store-smaller
-loop-store-smaller g c = falls _ _ c.loop-store-test.true
-
-pub loop-store-preserved : goal.loop-store-preserved
-loop-store-preserved g c =
-    let has = g.S.DotStore.has in
-    let dot = c.args.dot in
-    let items = c.deref-store-items.result.now in
-    let i = c.loop-store.store-index in
-    let e = c.loop-store-item.result in
-    list_any_more (λ e. has e.1 dot) items i e c.loop-store-test.true
-    ∙ ap (λ b. b || has (get_or items i e).1 dot) c.loop-store.invariant
-    ∙ subst (λ e. has e.1 dot ≡ false) c.loop-store-item.is (sym c.has.ensures ∙ c.if-has.false)
+    sym (has_here arc_value has c.args.dot c.pieces.result.0.now c.pieces.result.1.now c.loop-block.block-index c.block-item.result c.args.self.now c.loop-block-test.true c.block-item.is c.loop-block.invariant
+    (ap (λ m. has_in has m c.args.dot) (sym c.deref.ensures) ∙ sym c.has.ensures ∙ c.if-has.true))
 
 pub returns : goal.returns
 returns g c =
-    let all = take_all _ _ c.loop-store-test.false ∙ c.deref-store-items.ensures.value ∙ c.self.view_is in
-    sym (ap (λ m. has_in g.S.DotStore.has m c.args.dot) (sym all) ∙ c.loop-store.invariant)
+    c.entries_have.ensures
+    ∙ ap (λ m. has_in g.S.DotStore.has m c.args.dot) (sym (rest_last arc_value c.pieces.result.0.now c.pieces.result.1.now c.loop-block.block-index c.loop-block-test.false))
+    ∙ c.loop-block.invariant

@@ -1,24 +1,29 @@
-use Rattle.std.proofs.Common.{◌≡◌, ◌∙◌, true, sym, refl, subst}
+use Rattle.std.proofs.Common.{◌∙◌, List, sym, subst}
 use Rattle.std.proofs.lemmas.Bool.{false≢true}
-use Rattle.std.proofs.lemmas.List.Elements.{All-more}
+use Rattle.std.specs.Arc.{arc_value}
+use Rattle.dac_store.specs.DotMaps.{has_in}
 use Rattle.dac_store.specs.Stores.{IsUnheard}
-use Rattle.dac_store.proofs.Passing.{has_at, unheard_done}
+use Rattle.dac_store.proofs.PartLemmas.{unheard_splits, rest_of, walk_end, walk_here, walk_next, walk_start}
 use Rattle.dac_store.proofs.dot_map.DotMapDotStore.is_unheard.Goals as goal
 
-pub loop-store-preserved : goal.loop-store-preserved
-loop-store-preserved g c =
-    let has = g.S.DotStore.has in
-    All-more (λ e. IsUnheard (has e.1) c.args.heard.now) c.deref-store-items.result.now _ _ c.loop-store-test.true c.loop-store.invariant
-    (subst (λ e. IsUnheard (has e.1) c.args.heard.now) c.loop-store-item.is (c.is_unheard.ensures.0 c.if-not-is_unheard.false))
+pub loop-block-init : goal.loop-block-init
+loop-block-init g c = walk_start (λ m. IsUnheard (has_in g.S.DotStore.has m) c.args.heard.now) (rest_of arc_value c.pieces.result.0.now c.pieces.result.1.now 0) c.args.self.now (sym c.pieces.ensures ∙ c.self.view_is)
+
+pub loop-block-preserved : goal.loop-block-preserved
+loop-block-preserved g c =
+    let P = (λ (m : List (g.row.K.Denot × g.row.S.Denot)). IsUnheard (has_in g.S.DotStore.has m) c.args.heard.now) in
+    walk_next arc_value P (unheard_splits g.S.DotStore.has c.args.heard.now) c.pieces.result.0.now c.pieces.result.1.now c.loop-block.block-index c.block-item.result c.args.self.now c.loop-block-test.true c.block-item.is c.loop-block.invariant
+    (subst P c.deref.ensures (c.is_unheard.ensures.0 c.if-not-is_unheard.false))
 
 pub returns-then-not-is_unheard : goal.returns-then-not-is_unheard
 returns-then-not-is_unheard g c =
-    let has = g.S.DotStore.has in (
+    let P = (λ (m : List (g.row.K.Denot × g.row.S.Denot)). IsUnheard (has_in g.S.DotStore.has m) c.args.heard.now) in (
       λ e. absurd (false≢true e),
-      λ unheard. absurd (false≢true (sym c.if-not-is_unheard.true ∙ c.is_unheard.ensures.1 (λ x h.
-          unheard x (rw (← c.self.view_is, ← c.deref-store-items.ensures.value) (has_at has c.deref-store-items.result.now _ _ x c.loop-store-test.true (subst (λ e. has e.1 x ≡ true) c.loop-store-item.is h)))))),
+      λ all. absurd (false≢true (sym c.if-not-is_unheard.true ∙ c.is_unheard.ensures.1 (subst P (sym c.deref.ensures)
+          (walk_here arc_value P (unheard_splits g.S.DotStore.has c.args.heard.now) c.pieces.result.0.now c.pieces.result.1.now c.loop-block.block-index c.block-item.result c.args.self.now c.loop-block-test.true c.block-item.is c.loop-block.invariant all)))),
     )
 
 pub returns : goal.returns
 returns g c =
-    (λ _. rw (← c.self.view_is, ← c.deref-store-items.ensures.value) (unheard_done g.S.DotStore.has c.args.heard.now c.deref-store-items.result.now _ c.loop-store-test.false c.loop-store.invariant), λ _. refl)
+    let all = walk_end arc_value (λ m. IsUnheard (has_in g.S.DotStore.has m) c.args.heard.now) c.pieces.result.0.now c.pieces.result.1.now c.loop-block.block-index c.args.self.now c.loop-block-test.false c.loop-block.invariant in
+    (λ e. all.up (c.are_unheard.ensures.0 e), λ p. c.are_unheard.ensures.1 (all.down p))

@@ -1,7 +1,8 @@
-use Rattle.std.proofs.Common.{take}
-use Rattle.std.specs.List.{All}
+use Rattle.std.specs.Arc.{arc_value}
+use Rattle.dac_store.specs.DotMaps.{has_in}
 use Rattle.dac_store.specs.Stores.{IsUnheard}
+use Rattle.dac_store.proofs.PartLemmas.{IsLeft, rest_of}
 use Rattle.dac_store.proofs.dot_map.DotMapDotStore.is_unheard.Given as goal
 
-abbrev pub invariant-loop-store : goal.invariant-loop-store
-invariant-loop-store g l = All (λ e. IsUnheard (g.S.DotStore.has e.1) l.heard) (take l.store-index l.store-items)
+abbrev pub invariant-loop-block : goal.invariant-loop-block
+invariant-loop-block g l = IsLeft (λ m. IsUnheard (has_in g.S.DotStore.has m) l.heard) (rest_of arc_value l.blocks l.last l.block-index) l.self

@@ -1,0 +1,10 @@
+use Rattle.std.proofs.Common.{◌≡◌, ◌≤◌, take}
+use Rattle.std.specs.List.{sum_by}
+use Rattle.dac_dots.proofs.LenLemmas.{row_len}
+use Rattle.dac_dots.proofs.rows.OriginRows.has_at_most.Given as goal
+
+abbrev pub invariant-loop-row : goal.invariant-loop-row
+invariant-loop-row l = record {
+  so_far : l.len ≡ sum_by row_len (take l.row-index l.row-items);
+  few : l.len ≤ l.most;
+}

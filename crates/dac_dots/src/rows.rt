@@ -1,0 +1,324 @@
+//! The rows of a set of dots, one for each origin.
+ghost use Rattle.std.specs.Prelude.{◌≡◌, ◌↔◌, ◌≤◌, ◌<◌, ◌^◌, ◌∷◌, ◌++◌, ◌||◌, [], length, slice_get, Some, false, true, if◌then◌else◌, IsTrue, IfOk, OnOk, OnErr, MatchOption};
+ghost use Rattle.std.specs.FinSet as set;
+ghost use Rattle.dac_origins.specs.Dots.{Dots, dot_cmp, IsNext, IsSubset, IsUsedUp, IsVector};
+ghost use Rattle.dac_origins.specs.InOrder.{in_order};
+ghost use Rattle.dac_origins.specs.Keys.{IsRising};
+ghost use Rattle.dac_dots.specs.DotFilters.{MayHaveAll};
+ghost use Rattle.dac_dots.specs.Rows.{AreRowsOf, CanFollow, HasSome, EndBefore, IsKept, IsRowIn, row_has, rows_of};
+ghost use Rattle.dac_origins.specs.declared.dot.Dot.{Dot};
+
+use crate::filter::DotFilter;
+use crate::row::{Further, OriginRow, has_no_dots, place_of, rises_from};
+use dac_base::{MAX_COUNTER, NoMemory};
+use dac_origins::{Dot, Origin};
+use std::alloc::{AllocError, Global};
+use std::marker::Model;
+
+/// The rows of a set of dots, in the order of their origins. Contracts see it as the set.
+pub(crate) struct OriginRows {
+    rows: Vec<OriginRow>,
+}
+
+/// Written out: a drop is one call for a proof, wherever it stands.
+impl Drop for OriginRows {
+    fn drop(self) {
+        let OriginRows { rows: _rows } = self;
+    }
+}
+
+impl Model for OriginRows {
+    ghost use Rattle.std.specs.FinSet as set;
+    ghost use Rattle.dac_origins.specs.Dots.{dot_cmp, coded_dot};
+    ghost use Rattle.dac_dots.specs.Rows.{AreKept, dots_in};
+
+    ghost Value = { set.FinSet dot_cmp };
+
+    ghost coded = { set.code coded_dot };
+
+    ghost view = { λ a. dots_in a.rows.items };
+
+    ghost invariant = { λ a. AreKept a.rows.items };
+}
+
+/// A clone is a copy.
+impl Clone for OriginRows {
+    ghost use Rattle.std.specs.Prelude.{◌≡◌};
+
+    ghost is_clone = { λ rows copied. copied ≡ rows };
+
+    fn clone(&self) -> Result<Self, AllocError> {
+        match self.copy() {
+            Ok(copied) => Ok(copied),
+            Err(_refused) => Err(AllocError),
+        }
+    }
+}
+
+impl OriginRows {
+    /// The set of no dots. It takes no memory.
+    pub(crate) fn empty(alloc: Global) -> Self
+        ensures { result ≡ set.empty }
+    {
+        OriginRows {
+            rows: Vec::new(alloc),
+        }
+    }
+
+    /// Equal rows, with memory of their own. [`NoMemory`] is the only error.
+    pub(crate) fn copy(&self) -> Result<Self, NoMemory>
+        ensures { IfOk result (λ copied. copied ≡ self.now) }
+    {
+        let alloc = *self.rows.allocator();
+        let mut rows = Vec::with_capacity(alloc, self.rows.len())?;
+        for row in &self.rows {
+            rows.push(row.copy(alloc)?)?;
+        }
+        Ok(OriginRows { rows })
+    }
+
+    /// Whether the set has this dot.
+    pub(crate) fn contains(&self, dot: Dot) -> bool
+        ensures { result ≡ set.contains self.now dot }
+    {
+        match place_of(&self.rows, dot.origin) {
+            Ok(place) => self.rows[place].holds(dot.n),
+            Err(_) => false,
+        }
+    }
+
+    /// Puts a dot into the set. One that is there already changes nothing and takes no memory. After
+    /// [`NoMemory`], the only error, the set is as before.
+    pub(crate) fn insert(&mut self, dot: Dot) -> Result<(), NoMemory>
+        ensures ok { OnOk result (self.new ≡ set.insert self.old dot) }
+        ensures err { OnErr result (self.new ≡ self.old) }
+        ensures first { OnErr result (set.contains self.old dot ≡ false) }
+    {
+        match place_of(&self.rows, dot.origin) {
+            Ok(place) => {
+                let row = &mut self.rows[place];
+                row.insert(dot.n)?;
+            }
+            Err(place) => {
+                let row = OriginRow::one(*self.rows.allocator(), dot)?;
+                self.rows.insert(place, row)?;
+            }
+        }
+        Ok(())
+    }
+
+    /// Puts the dots of a row into the set.
+    fn unite_row(&mut self, row: &OriginRow) -> Result<(), NoMemory>
+        requires kept { IsKept row.now }
+        requires some { HasSome row.now }
+        ensures { OnOk result
+            ((q : Dot) → set.contains self.new q ≡ (row_has q row.now || set.contains self.old q)) }
+    {
+        let alloc = *self.rows.allocator();
+        match place_of(&self.rows, row.origin) {
+            Ok(place) => {
+                let own = &mut self.rows[place];
+                own.absorb(alloc, row)?;
+            }
+            Err(place) => {
+                let copied = row.copy(alloc)?;
+                self.rows.insert(place, copied)?;
+            }
+        }
+        Ok(())
+    }
+
+    /// The set of the dots that this set or the other has. [`NoMemory`] is the only error.
+    pub(crate) fn union(&self, other: &Self) -> Result<Self, NoMemory>
+        ensures { IfOk result (λ both. both ≡ set.union self.now other.now) }
+    {
+        let mut both = self.copy()?;
+        for row in &other.rows {
+            both.unite_row(row)?;
+        }
+        Ok(both)
+    }
+
+    /// Whether the set has each dot of a row.
+    fn has_row(&self, row: &OriginRow) -> bool
+        ensures { IsTrue result ↔ IsRowIn row.now self.now }
+    {
+        match place_of(&self.rows, row.origin) {
+            Ok(place) => row.is_within(&self.rows[place]),
+            Err(_) => row.is_empty(),
+        }
+    }
+
+    /// Whether the other set has each dot of this one.
+    pub(crate) fn is_subset(&self, other: &Self) -> bool
+        ensures { IsTrue result ↔ IsSubset self.now other.now }
+    {
+        for row in &self.rows {
+            if !other.has_row(row) {
+                return false;
+            }
+        }
+        true
+    }
+
+    /// The dot for the next operation of an origin: one above its greatest counter here, and 1 where there
+    /// is none. `None` where a counter has reached 2^62, the greatest that is issued.
+    pub(crate) fn next(&self, origin: Origin) -> Option<Dot>
+        ensures { MatchOption result (IsUsedUp self.now origin) (IsNext self.now origin) }
+    {
+        let last = match place_of(&self.rows, origin) {
+            Ok(place) => self.rows[place].last(),
+            Err(_) => 0,
+        };
+        if last < MAX_COUNTER {
+            Some(Dot {
+                origin,
+                n: last + 1,
+            })
+        } else {
+            None
+        }
+    }
+
+    /// Whether the set is a version vector: the counters of each origin are 1 to some number, with no gap.
+    pub(crate) fn is_vector(&self) -> bool
+        ensures { IsTrue result ↔ IsVector self.now }
+    {
+        for row in &self.rows {
+            if row.has_gap() {
+                return false;
+            }
+        }
+        true
+    }
+
+    /// How many dots the set has.
+    pub(crate) fn len(&self) -> u128
+        ensures { result ≡ set.len self.now }
+    {
+        let mut len = 0;
+        for row in &self.rows {
+            len += row.len();
+        }
+        len
+    }
+
+    /// Whether the set has at most so many dots. It looks at no more origins than that.
+    pub(crate) fn has_at_most(&self, most: usize) -> bool
+        ensures { IsTrue result ↔ (set.len self.now ≤ most) }
+    {
+        // Each origin that is kept has a dot.
+        if self.rows.len() > most {
+            return false;
+        }
+        let mut len = 0;
+        for row in &self.rows {
+            len += row.len();
+            if len > most as u128 {
+                return false;
+            }
+        }
+        true
+    }
+
+    /// Sets the slot of each dot.
+    pub(crate) fn fill(&self, filter: &mut DotFilter)
+        ensures { MayHaveAll filter.new.slots self.now }
+    {
+        for row in &self.rows {
+            row.fill(filter);
+        }
+    }
+
+    /// The dots in rising order, each once. [`NoMemory`] is the only error.
+    pub(crate) fn dots(&self) -> Result<Vec<Dot>, NoMemory>
+        ensures value { IfOk result (λ dots. dots.items ≡ in_order self.now) }
+        ensures rising { IfOk result (λ dots. IsRising dot_cmp dots.items) }
+        ensures same { IfOk result (λ dots. set.from_list dots.items ≡ self.now) }
+    {
+        let alloc = *self.rows.allocator();
+        let mut dots = Vec::new(alloc);
+        for row in &self.rows {
+            row.put_dots(alloc, &mut dots)?;
+        }
+        Ok(dots)
+    }
+
+    /// How many origins have dots.
+    pub(crate) fn rows(&self) -> usize
+        ensures { result ≡ length (rows_of self.now) }
+    {
+        self.rows.len()
+    }
+
+    /// The row of the `i`-th origin that has dots, by the order of origins. It is the origin, how far its counters go
+    /// 1, 2, 3, .. without a gap, and the further ones. It takes no memory.
+    pub(crate) fn row(&self, i: usize) -> Option<(Origin, u64, Further<'_>)>
+        ensures value { MatchOption result (length (rows_of self.now) ≤ i)
+            (λ row. slice_get (rows_of self.now) i
+            ≡ Some (record { origin = row.0; upto = row.1; further = row.2 })) }
+        // There are fewer than there are numbers of places.
+        ensures few { length (rows_of self.now) < 2 ^ 63 }
+        // What these rows are.
+        ensures rows { AreRowsOf self.now (rows_of self.now) }
+    {
+        let row = self.rows.get(i)?;
+        Some((row.origin, row.upto(), row.further()))
+    }
+
+    /// Whether the origin is above all that have dots.
+    fn is_below(&self, origin: Origin) -> bool
+        ensures { IsTrue result ↔ EndBefore (rows_of self.now) origin }
+    {
+        match self.rows.last() {
+            Some(row) => row.origin.cmp(&origin).is_lt(),
+            None => true,
+        }
+    }
+
+    /// Whether these dots of an origin can be appended.
+    pub(crate) fn can_follow(&self, origin: Origin, upto: u64, further: &[u64]) -> bool
+        ensures { IsTrue result
+            ↔ CanFollow (rows_of self.now)
+            (record { origin = origin; upto = upto; further = further.now }) }
+    {
+        if has_no_dots(upto, further) {
+            return false;
+        }
+        if !self.is_below(origin) {
+            return false;
+        }
+        rises_from(upto, further)
+    }
+
+    /// Appends the dots of an origin above all that have dots: the counters 1 to `upto`, and further ones,
+    /// which rise from above `upto + 1`. There has to be one at least. Where it isn't so the answer is false,
+    /// and nothing changes; nor does it after [`NoMemory`], the only error.
+    pub(crate) fn push_row(
+        &mut self,
+        origin: Origin,
+        upto: u64,
+        further: &[u64],
+    ) -> Result<bool, NoMemory>
+        ensures answer { IfOk result (λ pushed. IsTrue pushed
+            ↔ CanFollow (rows_of self.old)
+            (record { origin = origin; upto = upto; further = further.now })) }
+        ensures ok { IfOk result (λ pushed. rows_of self.new
+            ≡ (if pushed
+            then rows_of self.old
+            ++ record { origin = origin; upto = upto; further = further.now } ∷ []
+            else rows_of self.old)) }
+        ensures same { IfOk result (λ pushed. pushed ≡ false → self.new ≡ self.old) }
+        ensures err { OnErr result (self.new ≡ self.old) }
+        ensures last { OnErr result (CanFollow (rows_of self.old)
+            (record { origin = origin; upto = upto; further = further.now })) }
+    {
+        if !self.can_follow(origin, upto, further) {
+            return Ok(false);
+        }
+        let alloc = *self.rows.allocator();
+        let row = OriginRow::of(alloc, origin, upto, further)?;
+        self.rows.push(row)?;
+        Ok(true)
+    }
+}

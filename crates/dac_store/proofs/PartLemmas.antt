@@ -1,0 +1,363 @@
+-- Entries in parts: what holds of the parts holds of the whole, and the other way round.
+use Rattle.std.proofs.Common.{◌≡◌, ℕ, ◌+◌, ◌<◌, ◌≤◌, suc, Bool, true, false, cond, not, ◌&&◌, ◌||◌, ◌⊎◌, T, inl, inr, List, [], ◌∷◌, ◌++◌, Some, length, get_or, take, drop, refl, sym, ap, subst, ◌∙◌, arith, append_assoc, append-nil, length-append, take-append-drop}
+use Rattle.std.specs.declared.cmp.Ordering.{Ordering}
+use Rattle.std.specs.declared.cmp.Ordering.TheVariants.{Less, Equal, Greater}
+use Rattle.std.specs.Ordering.{is_lt, is_eq, eq_by_cmp, ordering_reverse}
+use Rattle.std.specs.Cmp.{IsTotalOrder}
+use Rattle.std.specs.List.{flat_map, All}
+use Rattle.std.specs.FinMap.{find}
+use Rattle.std.specs.FinMap.Entries.{below_all}
+use Rattle.std.specs.FinSet as set
+use Rattle.std.proofs.lemmas.Bool.{false≢true, or_cases, or_left, or_right, and_parts}
+use Rattle.std.proofs.lemmas.Grind.{flat_map-append}
+use Rattle.std.proofs.lemmas.List.{drop_all, drop_more, get_or_append_left, take_all, take_more}
+use Rattle.std.proofs.lemmas.List.Elements.{All-append}
+use Rattle.std.proofs.lemmas.List.Folds.{list_any-append, list_all-append}
+use Rattle.std.proofs.lemmas.Map.Lookups.{CmpEqualImpliesEq}
+use Rattle.dac_origins.specs.Dots.{Dots}
+use Rattle.dac_origins.specs.declared.dot.Dot.{Dot}
+use Rattle.dac_lattice.specs.Search.{AtEachEntry, IsInOrder}
+use Rattle.dac_lattice.specs.laws.Entries.{find_below}
+use Rattle.dac_lattice.specs.laws.EntryLaws.{first, second, less, greater, each_entry}
+use Rattle.dac_store.specs.Appending.{is_above_entries}
+use Rattle.dac_dots.specs.DotFilters.{AreApart, MayHaveAll, may_have}
+use Rattle.dac_store.specs.DotMaps.{IsKept, IsKeyed, has_in, store_at}
+use Rattle.dac_store.specs.Parts.{IsBelowAt, IsPartAt, MayHoldAll}
+use Rattle.dac_store.specs.Joining.{AreKept}
+use Rattle.dac_store.specs.Stores.{IsDotStore, IsHeld, IsUnheard}
+use Rattle.dac_store.proofs.Passing.{has_at}
+
+-- ---- blocks from a place on
+
+module _ {E B : Type 0} (value : B → List E) where
+  -- the entries of the blocks from a place on, and those after them
+  abbrev pub rest_of : List B → List E → ℕ → List E
+  rest_of blocks last i = flat_map value (drop i blocks) ++ last
+
+  next_block : (blocks : List B) (i : ℕ) (b : B) → i < length blocks → b ≡ get_or blocks i b → flat_map value (drop i blocks) ≡ value b ++ flat_map value (drop (i + 1) blocks)
+  next_block blocks i b p is = ap (flat_map value) (drop_more blocks i b p ∙ ap (λ (d : B). d ∷ drop (i + 1) blocks) (sym is))
+
+  -- the block at a place, before those after it
+  pub rest_step : (blocks : List B) (last : List E) (i : ℕ) (b : B) → i < length blocks → b ≡ get_or blocks i b → rest_of blocks last i ≡ value b ++ rest_of blocks last (i + 1)
+  rest_step blocks last i b p is =
+      ap (λ l. l ++ last) (next_block blocks i b p is)
+      ∙ append_assoc (value b) (flat_map value (drop (i + 1) blocks)) last
+
+  -- no block is left
+  pub rest_last : (blocks : List B) (last : List E) (i : ℕ) → length blocks ≤ i → rest_of blocks last i ≡ last
+  rest_last blocks last i p = ap (λ (l : List B). flat_map value l ++ last) (drop_all i blocks p)
+
+  -- none is counted but the last entries
+  pub none_counted : (blocks : List B) (last whole : List E) → whole ≡ flat_map value blocks ++ last → length last + length (flat_map value blocks) ≡ length whole
+  none_counted blocks last whole e =
+      let sum : length whole ≡ length (flat_map value blocks) + length last = ap length e ∙ length-append (flat_map value blocks) last in
+      omega (arith, sum)
+
+  -- one block more is counted
+  pub one_counted : (blocks : List B) (i n m : ℕ) (b : B) (whole : ℕ) → i < length blocks → b ≡ get_or blocks i b → n + length (flat_map value (drop i blocks)) ≡ whole → m ≡ n + length (value b)
+      → m + length (flat_map value (drop (i + 1) blocks)) ≡ whole
+  one_counted blocks i n m b whole p is so_far more =
+      let split : length (flat_map value (drop i blocks)) ≡ length (value b) + length (flat_map value (drop (i + 1) blocks)) = ap length (next_block blocks i b p is) ∙ length-append (value b) (flat_map value (drop (i + 1) blocks)) in
+      omega (arith, so_far, more, split)
+
+  -- all are
+  pub all_counted : (blocks : List B) (i n whole : ℕ) → length blocks ≤ i → n + length (flat_map value (drop i blocks)) ≡ whole → n ≡ whole
+  all_counted blocks i n whole p e =
+      let none : length (flat_map value (drop i blocks)) ≡ 0 = ap (λ (l : List B). length (flat_map value l)) (drop_all i blocks p) in
+      omega (arith, none, e)
+
+  -- one block more at the end
+  pub one_sealed : (blocks new : List B) (b : B) (es : List E) → new ≡ blocks ++ b ∷ [] → value b ≡ es → flat_map value new ≡ flat_map value blocks ++ es
+  one_sealed blocks new b es pushed is =
+      ap (flat_map value) pushed
+      ∙ flat_map-append value blocks (b ∷ [])
+      ∙ ap (λ l. flat_map value blocks ++ l) (append-nil (value b) ∙ is)
+
+  -- one block more is shared
+  pub one_shared : (blocks done new : List B) (i : ℕ) (b c : B) → i < length blocks → b ≡ get_or blocks i b → flat_map value done ≡ flat_map value (take i blocks) → value c ≡ value b → new ≡ done ++ c ∷ []
+      → flat_map value new ≡ flat_map value (take (i + 1) blocks)
+  one_shared blocks done new i b c p is so_far same pushed =
+      one_sealed done new c (value b) pushed same
+      ∙ ap (λ l. l ++ value b) so_far
+      ∙ sym (one_sealed (take i blocks) (take (i + 1) blocks) (get_or blocks i b) (value b) (take_more blocks i b p) (ap value (sym is)))
+
+  pub all_shared : (blocks done : List B) (i : ℕ) → length blocks ≤ i → flat_map value done ≡ flat_map value (take i blocks) → flat_map value done ≡ flat_map value blocks
+  all_shared blocks done i p so_far = so_far ∙ ap (flat_map value) (take_all i blocks p)
+
+  -- the first of the last entries are now in a block
+  pub same_sealed : (blocks new : List B) (last rest whole : List E) (n : ℕ) → flat_map value blocks ++ last ≡ whole → flat_map value new ≡ flat_map value blocks ++ take n last → rest ≡ drop n last → flat_map value new ++ rest ≡ whole
+  same_sealed blocks new last rest whole n is sealed left =
+      (λ k. sealed k ++ left k)
+      ∙ append_assoc (flat_map value blocks) (take n last) (drop n last)
+      ∙ ap (λ l. flat_map value blocks ++ l) (take-append-drop n last)
+      ∙ is
+
+  -- all entries are in blocks, and one block more comes
+  pub then_shared : (blocks sealed new : List B) (last rest whole es : List E) (b : B) (n : ℕ) → length last ≤ n → flat_map value blocks ++ last ≡ whole → flat_map value sealed ≡ flat_map value blocks ++ take n last → rest ≡ drop n last → new ≡ sealed ++ b ∷ [] → value b ≡ es
+      → flat_map value new ++ rest ≡ whole ++ es
+  then_shared blocks sealed new last rest whole es b n long is all none pushed same =
+      let empty : rest ≡ [] = none ∙ drop_all n last long in
+      let before : flat_map value sealed ≡ whole = all ∙ ap (λ l. flat_map value blocks ++ l) (take_all n last long) ∙ is in
+      (λ k. one_sealed sealed new b es pushed same k ++ empty k)
+      ∙ append-nil (flat_map value sealed ++ es)
+      ∙ ap (λ l. l ++ es) before
+
+-- ---- a walk through blocks: what it still has to show of what is left
+
+-- what holds of a list exactly if it holds of its two parts
+pub record Splits {E : Type 0} (P : List E → Type 0) : Type 0 where
+  pub both : (xs ys : List E) → P xs → P ys → P (xs ++ ys)
+  pub left : (xs ys : List E) → P (xs ++ ys) → P xs
+  pub right : (xs ys : List E) → P (xs ++ ys) → P ys
+
+-- it holds of the whole exactly if it holds of what is left
+pub record IsLeft {E : Type 0} (P : List E → Type 0) (now whole : List E) : Type 0 where
+  pub up : P now → P whole
+  pub down : P whole → P now
+
+pub walk_start : {E : Type 0} (P : List E → Type 0) (now whole : List E) → now ≡ whole → IsLeft P now whole
+walk_start P now whole e = record { up = subst P e; down = subst P (sym e) }
+
+module _ {E B : Type 0} (value : B → List E) (P : List E → Type 0) (splits : Splits P) (blocks : List B) (last : List E) (i : ℕ) (b : B) (whole : List E) (p : i < length blocks) (is : b ≡ get_or blocks i b) (before : IsLeft P (rest_of value blocks last i) whole) where
+  -- it holds of the next block
+  pub walk_next : P (value b) → IsLeft P (rest_of value blocks last (i + 1)) whole
+  walk_next here = record {
+    up = λ q. before.up (subst P (sym (rest_step value blocks last i b p is)) (splits.both (value b) (rest_of value blocks last (i + 1)) here q));
+    down = λ w. splits.right (value b) (rest_of value blocks last (i + 1)) (subst P (rest_step value blocks last i b p is) (before.down w));
+  }
+
+  -- where it holds of the whole, it does of the next block
+  pub walk_here : P whole → P (value b)
+  walk_here w = splits.left (value b) (rest_of value blocks last (i + 1)) (subst P (rest_step value blocks last i b p is) (before.down w))
+
+-- no block is left
+pub walk_end : {E B : Type 0} (value : B → List E) (P : List E → Type 0) (blocks : List B) (last : List E) (i : ℕ) (whole : List E) → length blocks ≤ i → IsLeft P (rest_of value blocks last i) whole → IsLeft P last whole
+walk_end value P blocks last i whole p before = subst (λ m. IsLeft P m whole) (rest_last value blocks last i p) before
+
+-- ---- which dots stores in parts hold
+
+module _ {K S : Type 0} (has : S → Dot → Bool) where
+  pub has_parts : (xs ys : List (K × S)) (x : Dot) → has_in has (xs ++ ys) x ≡ (has_in has xs x || has_in has ys x)
+  has_parts xs ys x = list_any-append (λ (e : K × S). has e.1 x) xs ys
+
+  has_left : (xs ys : List (K × S)) (x : Dot) → has_in has xs x ≡ true → has_in has (xs ++ ys) x ≡ true
+  has_left xs ys x e = has_parts xs ys x ∙ or_left (has_in has xs x) (has_in has ys x) e
+
+  has_right : (xs ys : List (K × S)) (x : Dot) → has_in has ys x ≡ true → has_in has (xs ++ ys) x ≡ true
+  has_right xs ys x e = has_parts xs ys x ∙ or_right (has_in has xs x) (has_in has ys x) e
+
+  has_either : (xs ys : List (K × S)) (x : Dot) → has_in has (xs ++ ys) x ≡ true → (has_in has xs x ≡ true) ⊎ (has_in has ys x ≡ true)
+  has_either xs ys x e = or_cases (has_in has xs x) (has_in has ys x) (sym (has_parts xs ys x) ∙ e)
+
+  module _ (c : Dots) where
+    pub held_splits : Splits (λ (m : List (K × S)). IsHeld (has_in has m) c)
+    held_splits = record {
+      both = λ xs ys g h x e. elim (has_either xs ys x e) [ inl a ↦ g x a | inr b ↦ h x b ];
+      left = λ xs ys h x e. h x (has_left xs ys x e);
+      right = λ xs ys h x e. h x (has_right xs ys x e);
+    }
+
+    pub unheard_splits : Splits (λ (m : List (K × S)). IsUnheard (has_in has m) c)
+    unheard_splits = record {
+      both = λ xs ys g h x e. elim (has_either xs ys x e) [ inl a ↦ g x a | inr b ↦ h x b ];
+      left = λ xs ys h x e. h x (has_left xs ys x e);
+      right = λ xs ys h x e. h x (has_right xs ys x e);
+    }
+
+-- what may still be found: a dot of the whole is one of what is left
+module _ {K S B : Type 0} (value : B → List (K × S)) (has : S → Dot → Bool) (x : Dot) (blocks : List B) (last : List (K × S)) (i : ℕ) (b : B) (whole : List (K × S)) (p : i < length blocks) (is : b ≡ get_or blocks i b) (same : has_in has (rest_of value blocks last i) x ≡ has_in has whole x) where
+  has_split : (has_in has (value b) x || has_in has (rest_of value blocks last (i + 1)) x) ≡ has_in has whole x
+  has_split =
+      sym (has_parts has (value b) (rest_of value blocks last (i + 1)) x)
+      ∙ ap (λ m. has_in has m x) (sym (rest_step value blocks last i b p is))
+      ∙ same
+
+  pub has_next : has_in has (value b) x ≡ false → has_in has (rest_of value blocks last (i + 1)) x ≡ has_in has whole x
+  has_next none = sym (ap (λ t. t || has_in has (rest_of value blocks last (i + 1)) x) none) ∙ has_split
+
+  pub has_here : has_in has (value b) x ≡ true → has_in has whole x ≡ true
+  has_here here = sym has_split ∙ or_left (has_in has (value b) x) (has_in has (rest_of value blocks last (i + 1)) x) here
+
+-- ---- what holds of each entry
+
+each_left : {E : Type 0} (P : E → Type 0) (xs ys : List E) → All P (xs ++ ys) → All P xs
+each_left P xs ys all i d p =
+    let long = length-append xs ys in
+    subst P (get_or_append_left xs ys d i p) (all i d (omega (arith, long, p)))
+
+each_right : {E : Type 0} (P : E → Type 0) (xs ys : List E) → All P (xs ++ ys) → All P ys
+each_right P [] ys all = all
+each_right P (x ∷ xs) ys all = each_right P xs ys (λ i d p. all (suc i) d (omega arith))
+
+pub each_splits : {E : Type 0} (P : E → Type 0) → Splits (All P)
+each_splits P = record { both = All-append P; left = each_left P; right = each_right P }
+
+-- ---- keys in order
+
+both : (a b : Bool) → T a → T b → T (a && b)
+both true b p q = q
+both false b p q = p
+
+module _ {K X : Type 0} (R : K → K → Ordering) where
+  below_left : (k : K) (xs ys : List (K × X)) → T (below_all R k (xs ++ ys)) → T (below_all R k xs)
+  below_left k [] ys h = tt
+  below_left k (x ∷ xs) ys h = both _ _ (first _ _ h) (below_left k xs ys (second _ _ h))
+
+  pub sorted_left : (xs ys : List (K × X)) → IsInOrder R (xs ++ ys) → IsInOrder R xs
+  sorted_left [] ys h = tt
+  sorted_left (x ∷ xs) ys h = both _ _ (below_left x.0 xs ys (first _ _ h)) (sorted_left xs ys (second _ _ h))
+
+  pub sorted_right : (xs ys : List (K × X)) → IsInOrder R (xs ++ ys) → IsInOrder R ys
+  sorted_right [] ys h = h
+  sorted_right (x ∷ xs) ys h = sorted_right xs ys (second _ _ h)
+
+  -- a key is above the entries of the whole exactly if it is above those of each part
+  above_parts : (k : K) (xs ys : List (K × X)) → is_above_entries R (xs ++ ys) k ≡ (is_above_entries R xs k && is_above_entries R ys k)
+  above_parts k xs ys = list_all-append (λ (e : K × X). is_lt (R e.0 k)) xs ys
+
+module _ {K : Type 0} {R : K → K → Ordering} (o : IsTotalOrder R) where
+  lower : (x k : K) → is_lt (R x k) ≡ true → eq_by_cmp R k x ≡ false
+  lower x k e = ap is_eq (greater o x k (less (R x k) (subst T (sym e) tt)))
+
+module _ {K X : Type 0} {R : K → K → Ordering} (o : IsTotalOrder R) (exact : CmpEqualImpliesEq R) where
+  -- past a part whose keys are all below the key
+  find_past : (k : K) (xs ys : List (K × X)) → is_above_entries R xs k ≡ true → find R k (xs ++ ys) ≡ find R k ys
+  find_past k [] ys h = refl
+  find_past k (x ∷ xs) ys h =
+      ap (λ t. cond t (Some x.1) (find R k (xs ++ ys))) (lower o x.0 k (and_parts _ _ h).0)
+      ∙ find_past k xs ys (and_parts _ _ h).1
+
+  below_from : (k x : K) (es : List (K × X)) → R k x ≡ Less → T (below_all R x es) → T (below_all R k es)
+  below_from k x [] p h = tt
+  below_from k x (e ∷ es) p h = both _ _ (subst (λ r. T (is_lt r)) (sym (o.trans k x e.0 p (less _ (first _ _ h)))) tt) (below_from k x es p (second _ _ h))
+
+  -- in the part that has a key which isn't below it
+  find_here : (k : K) (xs ys : List (K × X)) → IsInOrder R (xs ++ ys) → is_above_entries R xs k ≡ false → find R k (xs ++ ys) ≡ find R k xs
+  find_here k [] ys s h = absurd (false≢true (sym h))
+  find_here k (x ∷ xs) ys s h = elim (R x.0 k) as (λ r. R x.0 k ≡ r → find R k (x ∷ xs ++ ys) ≡ find R k (x ∷ xs)) [
+    | Less ↦ λ e. ap (λ f. cond (eq_by_cmp R k x.0) (Some x.1) f) (find_here k xs ys (second _ _ s) (sym (ap (λ r. is_lt r && is_above_entries R xs k) e) ∙ h))
+    | Equal ↦ λ e. ap (λ t. cond t (Some x.1) (find R k (xs ++ ys))) (tied e) ∙ sym (ap (λ t. cond t (Some x.1) (find R k xs)) (tied e))
+    | Greater ↦ λ e.
+        let under : T (below_all R k (xs ++ ys)) = below_from k x.0 (xs ++ ys) (o.antisymm k x.0 ∙ ap ordering_reverse e) (first _ _ s) in
+        ap (λ f. cond (eq_by_cmp R k x.0) (Some x.1) f) (find_below o exact k (xs ++ ys) under ∙ sym (find_below o exact k xs (below_left R k xs ys under)))
+  ] refl
+    where
+      tied : R x.0 k ≡ Equal → eq_by_cmp R k x.0 ≡ true
+      tied e = ap is_eq (o.antisymm k x.0 ∙ ap ordering_reverse e)
+
+  -- ---- the part among which a key would be
+
+  pub part_whole : (k : K) (whole now : List (K × X)) → IsInOrder R whole → whole ≡ now → IsPartAt R k whole now
+  part_whole k whole now s e = record {
+    in_order = subst (IsInOrder R) e s;
+    found = ap (find R k) (sym e);
+    above = ap (λ m. is_above_entries R m k) (sym e);
+  }
+
+  module _ {B : Type 0} (value : B → List (K × X)) (k : K) (blocks : List B) (last : List (K × X)) (i : ℕ) (b : B) (whole : List (K × X)) (p : i < length blocks) (is : b ≡ get_or blocks i b) (part : IsPartAt R k whole (rest_of value blocks last i)) where
+    part_sorted : IsInOrder R (value b ++ rest_of value blocks last (i + 1))
+    part_sorted = subst (IsInOrder R) (rest_step value blocks last i b p is) part.in_order
+
+    part_found : find R k (value b ++ rest_of value blocks last (i + 1)) ≡ find R k whole
+    part_found = ap (find R k) (sym (rest_step value blocks last i b p is)) ∙ part.found
+
+    part_above : (is_above_entries R (value b) k && is_above_entries R (rest_of value blocks last (i + 1)) k) ≡ is_above_entries R whole k
+    part_above =
+        sym (above_parts R k (value b) (rest_of value blocks last (i + 1)))
+        ∙ ap (λ m. is_above_entries R m k) (sym (rest_step value blocks last i b p is))
+        ∙ part.above
+
+    pub block_sorted : IsInOrder R (value b)
+    block_sorted = sorted_left R (value b) (rest_of value blocks last (i + 1)) part_sorted
+
+    -- past a block below the key
+    pub part_past : is_above_entries R (value b) k ≡ true → IsPartAt R k whole (rest_of value blocks last (i + 1))
+    part_past all = record {
+      in_order = sorted_right R (value b) (rest_of value blocks last (i + 1)) part_sorted;
+      found = sym (find_past k (value b) (rest_of value blocks last (i + 1)) all) ∙ part_found;
+      above = sym (ap (λ t. t && is_above_entries R (rest_of value blocks last (i + 1)) k) all) ∙ part_above;
+    }
+
+    -- at a block that isn't
+    pub part_here : is_above_entries R (value b) k ≡ false → IsPartAt R k whole (value b)
+    part_here not = record {
+      in_order = block_sorted;
+      found = sym (find_here k (value b) (rest_of value blocks last (i + 1)) part_sorted not) ∙ part_found;
+      above = not ∙ sym (ap (λ t. t && is_above_entries R (rest_of value blocks last (i + 1)) k) not) ∙ part_above;
+    }
+
+-- ---- stores with dots
+
+module _ {K S : Type 0} (is_store : S → Type 0) (is_empty : S → Bool) where
+  pub kept_left : (xs ys : List (K × S)) → AreKept is_store is_empty (xs ++ ys) → AreKept is_store is_empty xs
+  kept_left [] ys h = tt
+  kept_left (x ∷ xs) ys h = (h.0, kept_left xs ys h.1)
+
+  pub kept_right : (xs ys : List (K × S)) → AreKept is_store is_empty (xs ++ ys) → AreKept is_store is_empty ys
+  kept_right [] ys h = h
+  kept_right (x ∷ xs) ys h = kept_right xs ys h.1
+
+  kept_from : (m : List (K × S)) → All (λ e. IsKept is_store is_empty (Some e.1)) m → AreKept is_store is_empty m
+  kept_from [] all = tt
+  kept_from (x ∷ xs) all = (all 0 x (omega arith), kept_from xs (λ i d p. all (suc i) d (omega arith)))
+
+  pub kept_each : {R : K → K → Ordering} → IsTotalOrder R → CmpEqualImpliesEq R → (m : List (K × S)) → IsKeyed R is_store is_empty m → AreKept is_store is_empty m
+  kept_each o exact m u = kept_from m (each_entry o exact (λ _ v. IsKept is_store is_empty v) m u.in_order u.stores)
+
+-- ---- filters of blocks
+
+not_there : (c may : Bool) → (c ≡ true → may ≡ true) → may ≡ false → c ≡ false
+not_there true may f e = absurd (false≢true (sym e ∙ f refl))
+not_there false may f e = refl
+
+-- what is not true is false
+pub not_true : (b : Bool) → not b ≡ true → b ≡ false
+not_true true e = absurd (false≢true e)
+not_true false e = refl
+
+module _ {K S : Type 0} (has : S → Dot → Bool) where
+  -- where no slot is set in both filters, none of the dots has been heard of
+  pub apart_unheard : (m : List (K × S)) (slots others : List ℕ) (heard : Dots) → MayHoldAll has slots m → MayHaveAll others heard → AreApart slots others → IsUnheard (has_in has m) heard
+  apart_unheard m slots others heard holds all apart x e = not_there (set.contains heard x) (may_have others x) (all x) (apart x (holds x e))
+
+  -- a dot whose slot isn't set isn't held
+  pub not_held : (m : List (K × S)) (slots : List ℕ) (x : Dot) → MayHoldAll has slots m → may_have slots x ≡ false → has_in has m x ≡ false
+  not_held m slots x holds e = not_there (has_in has m x) (may_have slots x) (holds x) e
+
+  -- the dots of one entry
+  pub one_has : (e : K × S) (x : Dot) → has_in has (e ∷ []) x ≡ true → has e.1 x ≡ true
+  one_has e x h = elim (or_cases (has e.1 x) false h) [ inl here ↦ here | inr none ↦ absurd (false≢true none) ]
+
+  -- each dot of some entries is put, or one of those that are left
+  pub record IsFilling (whole left : List (K × S)) (old slots : List ℕ) : Type 0 where
+    pub own : (x : Dot) → has_in has whole x ≡ true → (has_in has left x ≡ true) ⊎ (may_have slots x ≡ true)
+    pub more : (x : Dot) → may_have old x ≡ true → may_have slots x ≡ true
+
+  pub filling_start : (whole left : List (K × S)) (slots : List ℕ) → left ≡ whole → IsFilling whole left slots slots
+  filling_start whole left slots e = record { own = λ x h. inl (ap (λ m. has_in has m x) e ∙ h); more = λ x h. h }
+
+  -- the dots of the first of those that are left are put too
+  pub filling_more : (whole now part next : List (K × S)) (old slots new : List ℕ) → now ≡ part ++ next → IsFilling whole now old slots → ((x : Dot) → has_in has part x ≡ true → may_have new x ≡ true) → ((x : Dot) → may_have slots x ≡ true → may_have new x ≡ true)
+      → IsFilling whole next old new
+  filling_more whole now part next old slots new is before own more = record {
+    own = λ x h. elim (before.own x h) [
+      | inl left ↦ elim (has_either has part next x (ap (λ m. has_in has m x) (sym is) ∙ left)) [
+        | inl here ↦ inr (own x here)
+        | inr later ↦ inl later
+      ]
+      | inr there ↦ inr (more x there)
+    ];
+    more = λ x h. more x (before.more x h);
+  }
+
+  pub all_filled : (whole : List (K × S)) (old slots : List ℕ) → IsFilling whole [] old slots → (x : Dot) → has_in has whole x ≡ true → may_have slots x ≡ true
+  all_filled whole old slots done x h = elim (done.own x h) [ inl none ↦ absurd (false≢true none) | inr there ↦ there ]
+
+  pub filling_last : (whole last : List (K × S)) (old slots new : List ℕ) → IsFilling whole last old slots → ((x : Dot) → has_in has last x ≡ true → may_have new x ≡ true) → ((x : Dot) → may_have slots x ≡ true → may_have new x ≡ true)
+      → (x : Dot) → has_in has whole x ≡ true → may_have new x ≡ true
+  filling_last whole last old slots new before own more x h = elim (before.own x h) [ inl left ↦ own x left | inr there ↦ more x there ]
+
+-- entries of which nothing has been heard
+module _ {S : Type 0} {is_store : S → Type 0} {has : S → Dot → Bool} {below : S → Dots → S → Dots → Type 0} {join : S → Dots → S → Dots → S} {nothing : S} {is_empty : S → Bool} (laws : IsDotStore is_store has below join nothing is_empty) where
+  pub each_unheard : {K : Type 0} (R : K → K → Ordering) (mine block : List (K × S)) (c d : Dots) → IsUnheard (has_in has block) c → AtEachEntry (IsBelowAt R nothing below mine c d) block
+  each_unheard R mine block c d u i e p = laws.unheard (store_at nothing (find R (get_or block i e).0 mine)) (get_or block i e).1 c d (λ x h. u x (has_at has block i e x p h))

@@ -1,0 +1,53 @@
+-- A merge of two maps in steps: what is merged so far, and what is left of each.
+use Rattle.std.specs.Prelude.{◌≡◌, Bool, true, false, List, [], ◌∷◌, ◌++◌, Option, None, Some}
+use Rattle.std.specs.declared.cmp.Ordering.{Ordering}
+use Rattle.std.specs.declared.cmp.Ordering.TheVariants.{Less, Equal}
+use Rattle.dac_origins.specs.Dots.{Dots}
+use Rattle.dac_lattice.specs.Entries.{Combine, merge_entries, merge_entry}
+use Rattle.dac_store.specs.Appending.{is_above_entries}
+use Rattle.dac_store.specs.DotMaps.{store_at, unless_empty}
+
+-- what is kept at a key of two maps
+abbrev pub joined_at : {K S : Type 0} → S → (S → Bool) → (S → Dots → S → Dots → S) → Dots → Dots → Combine K S
+joined_at nothing is_empty join c d = λ _ v w. unless_empty is_empty (join (store_at nothing v) c (store_at nothing w) d)
+
+-- each entry is a store with dots
+abbrev pub AreKept : {K S : Type 0} → (S → Type 0) → (S → Bool) → List (K × S) → Type 0
+AreKept is_store is_empty [] = Unit {0}
+AreKept is_store is_empty (e ∷ es) = (is_store e.1 × (is_empty e.1 ≡ false)) × AreKept is_store is_empty es
+
+module _ {K X : Type 0} (R : K → K → Ordering) where
+  -- each key is below the first of the others
+  abbrev pub AreBefore : List (K × X) → List (K × X) → Type 0
+  AreBefore part [] = Unit {0}
+  AreBefore part (y ∷ ys) = is_above_entries R part y.0 ≡ true
+
+  -- the first of these isn't at this key
+  abbrev pub IsNotAt : K → List (K × X) → Type 0
+  IsNotAt key [] = Unit {0}
+  IsNotAt key (y ∷ ys) = R y.0 key ≡ Equal → ⊥
+
+  -- no key of these, which are in order, is below this one
+  abbrev pub IsNotBelow : K → List (K × X) → Type 0
+  IsNotBelow key [] = Unit {0}
+  IsNotBelow key (y ∷ ys) = R y.0 key ≡ Less → ⊥
+
+  -- the first of these is taken if it is at this key
+  abbrev pub IsTakenAt : K → List (K × X) → Option X → List (K × X) → Type 0
+  IsTakenAt key ys None zs = (zs ≡ ys) × IsNotAt key ys
+  IsTakenAt key ys (Some v) zs = (k : K) × (R k key ≡ Equal) × (ys ≡ (k, v) ∷ zs)
+
+  module _ (f : Combine K X) where
+    -- all that the second map has below a key is merged
+    pub record IsMergedBelow (key : K) (old ys new zs : List (K × X)) : Type 0 where
+      pub merged : (x : K × X) (rest : List (K × X) → List (K × X)) → x.0 ≡ key
+          → new ++ merge_entry R f x rest zs ≡ old ++ merge_entry R f x rest ys
+      pub past : IsNotBelow key zs
+
+    -- an entry is merged
+    abbrev pub IsMergedWith : K × X → List (K × X) → List (K × X) → List (K × X) → List (K × X) → Type 0
+    IsMergedWith x old ys new zs = (rest : List (K × X) → List (K × X)) → new ++ rest zs ≡ old ++ merge_entry R f x rest ys
+
+    -- some entries are merged
+    abbrev pub IsMergedPart : List (K × X) → List (K × X) → List (K × X) → List (K × X) → List (K × X) → Type 0
+    IsMergedPart part old ys new zs = (xs : List (K × X)) → new ++ merge_entries R f xs zs ≡ old ++ merge_entries R f (part ++ xs) ys

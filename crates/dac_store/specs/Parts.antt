@@ -1,0 +1,31 @@
+-- Entries in parts.
+use Rattle.std.specs.Prelude.{◌≡◌, ℕ, Bool, true, List, Option, length}
+use Rattle.std.specs.declared.cmp.Ordering.{Ordering}
+use Rattle.std.specs.FinMap.{find}
+use Rattle.dac_origins.specs.Dots.{Dots}
+use Rattle.dac_origins.specs.declared.dot.Dot.{Dot}
+use Rattle.dac_dots.specs.DotFilters.{may_have}
+use Rattle.dac_lattice.specs.Search.{IsInOrder}
+use Rattle.dac_store.specs.Appending.{is_above_entries}
+use Rattle.dac_store.specs.DotMaps.{IsKeyed, has_in, store_at}
+
+-- each dot of the entries has its slot set
+abbrev pub MayHoldAll : {K S : Type 0} → (S → Dot → Bool) → List ℕ → List (K × S) → Type 0
+MayHoldAll has slots m = (x : Dot) → has_in has m x ≡ true → may_have slots x ≡ true
+
+-- a part of some entries among which a key would be
+pub record IsPartAt {K X : Type 0} (R : K → K → Ordering) (key : K) (whole part : List (K × X)) : Type 0 where
+  pub in_order : IsInOrder R part
+  pub found : find R key part ≡ find R key whole
+  pub above : is_above_entries R part key ≡ is_above_entries R whole key
+
+-- a map of stores, whose entries are counted
+pub record IsCounted {K S : Type 0} (R : K → K → Ordering) (is_store : S → Type 0) (is_empty : S → Bool) (m : List (K × S))
+    (count : ℕ) : Type 0 where
+  pub keyed : IsKeyed R is_store is_empty m
+  pub counted : count ≡ length m
+
+-- what a map has at a key is below what another has there
+abbrev pub IsBelowAt : {K S : Type 0} → (K → K → Ordering) → S → (S → Dots → S → Dots → Type 0) → List (K × S) → Dots → Dots
+    → K → Option S → Type 0
+IsBelowAt R nothing below m c d k v = below (store_at nothing (find R k m)) c (store_at nothing v) d

@@ -1,0 +1,77 @@
+//! Blocks of entries, which maps share.
+ghost use Rattle.std.specs.Prelude.{◌≡◌, ◌↔◌, true, IsTrue, IfOk};
+ghost use Rattle.std.specs.Arc.{arc_value};
+ghost use Rattle.dac_store.specs.DotMaps.{has_in};
+ghost use Rattle.dac_store.specs.Stores.{IsUnheard};
+
+use crate::DotStore;
+use crate::part::{are_unheard, entries_have, fill_each};
+use dac_dots::{DotFilter, FilteredContext};
+use dac_origins::{Dot, MapKey, NoMemory};
+use std::alloc::Global;
+use std::marker::Model;
+use std::sync::Arc;
+
+/// Some entries beside a filter of all their dots. A block never changes. Contracts see it as its entries.
+#[derive(Drop)]
+pub(crate) struct Block<K: MapKey, S: DotStore> {
+    filter: DotFilter,
+    entries: Vec<(K, S)>,
+}
+
+impl<K: MapKey, S: DotStore> Model for Block<K, S> {
+    ghost use Rattle.std.specs.Prelude.{List};
+    ghost use Rattle.dac_store.specs.Parts.{MayHoldAll};
+
+    ghost Value = { List (K × S) };
+
+    ghost view = { λ a. a.entries.items };
+
+    ghost invariant = { λ a. MayHoldAll S.has a.filter.slots a.entries.items };
+}
+
+impl<K: MapKey, S: DotStore> Block<K, S> {
+    /// A block of these entries. [`NoMemory`] is the only error.
+    pub(crate) fn of(alloc: Global, entries: Vec<(K, S)>) -> Result<Arc<Self, Global>, NoMemory>
+        ensures { IfOk result (λ block. arc_value block ≡ entries.items) }
+    {
+        let mut filter = DotFilter::none();
+        fill_each(&entries, &mut filter);
+        let block = Arc::new(alloc, Block { filter, entries })?;
+        Ok(block)
+    }
+
+    /// The entries.
+    pub(crate) fn entries(&self) -> &[(K, S)]
+        ensures { result.now ≡ self.now }
+    {
+        self.entries.as_slice()
+    }
+
+    /// Whether surely none of its dots has been heard of.
+    pub(crate) fn is_apart(&self, heard: &FilteredContext<'_>) -> bool
+        ensures { result ≡ true → IsUnheard (has_in S.has self.now) heard.now }
+    {
+        !self.filter.meets(heard.filter())
+    }
+
+    /// Whether none of its dots has been heard of.
+    pub(crate) fn is_unheard(&self, heard: &FilteredContext<'_>) -> bool
+        ensures { IsTrue result ↔ IsUnheard (has_in S.has self.now) heard.now }
+    {
+        if self.is_apart(heard) {
+            return true;
+        }
+        are_unheard(&self.entries, heard)
+    }
+
+    /// Whether some store holds the dot.
+    pub(crate) fn has(&self, dot: Dot) -> bool
+        ensures { result ≡ has_in S.has self.now dot }
+    {
+        if !self.filter.has(dot) {
+            return false;
+        }
+        entries_have(&self.entries, dot)
+    }
+}

@@ -1,0 +1,86 @@
+//! Entries of a map that are read one after the other.
+ghost use Rattle.std.specs.Prelude.{◌≡◌, [], ◌∷◌, ◌++◌, drop, MatchOption};
+ghost use Rattle.std.specs.Arc.{arc_value};
+ghost use Rattle.std.specs.List.{flat_map};
+
+use crate::DotStore;
+use crate::block::Block;
+use dac_origins::MapKey;
+use std::alloc::Global;
+use std::marker::Model;
+use std::sync::Arc;
+
+/// The keys of a map with their stores, in the order of the keys, as far as they are left to a reader. Contracts see
+/// the list of those that are left. To read them takes no memory.
+#[derive(Drop)]
+pub struct Entries<'a, K: MapKey, S: DotStore> {
+    here: &'a [(K, S)],
+    blocks: &'a [Arc<Block<K, S>, Global>],
+    last: &'a [(K, S)],
+}
+
+impl<'a, K: MapKey, S: DotStore> Model for Entries<'a, K, S> {
+    ghost use Rattle.std.specs.Prelude.{List, ◌≡◌, ◌++◌, []};
+    ghost use Rattle.std.specs.List.{flat_map};
+    ghost use Rattle.std.specs.Arc.{arc_value};
+
+    ghost Value = { List (K × S) };
+
+    ghost view = { λ a. a.here.now ++ (flat_map arc_value a.blocks.now ++ a.last.now) };
+
+    ghost invariant = { λ a. a.here.now ≡ [] → flat_map arc_value a.blocks.now ++ a.last.now ≡ [] };
+}
+
+impl<'a, K: MapKey, S: DotStore> Entries<'a, K, S> {
+    /// The entries of these blocks, and those after them.
+    pub(crate) fn of(blocks: &'a [Arc<Block<K, S>, Global>], last: &'a [(K, S)]) -> Self
+        ensures { result ≡ flat_map arc_value blocks.now ++ last.now }
+    {
+        let mut rest = blocks;
+        while let Some((block, others)) = rest.split_first() {
+            let here = block.entries();
+            if !here.is_empty() {
+                return Entries {
+                    here,
+                    blocks: others,
+                    last,
+                };
+            }
+            rest = others;
+        }
+        Entries {
+            here: last,
+            blocks: &[],
+            last: &[],
+        }
+    }
+
+    /// The next entry, if one is left.
+    pub fn first(&self) -> Option<&'a (K, S)>
+        ensures { MatchOption result (self.now ≡ [])
+            (λ entry. self.now ≡ entry.now ∷ drop 1 self.now) }
+    {
+        self.here.first()
+    }
+
+    /// Passes the next entry, if one is left.
+    pub fn pass(&mut self)
+        ensures { self.new ≡ drop 1 self.old }
+    {
+        if self.here.len() > 1 {
+            self.here = &self.here[1..];
+            return;
+        }
+        *self = Self::of(self.blocks, self.last);
+    }
+
+    /// The next entry, which is passed, if one is left.
+    pub fn next(&mut self) -> Option<&'a (K, S)>
+        ensures { MatchOption result ((self.old ≡ []) × (self.new ≡ []))
+            (λ entry. self.old ≡ entry.now ∷ self.new) }
+    {
+        let first = self.first();
+        self.pass();
+        first
+    }
+}

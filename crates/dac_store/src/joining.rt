@@ -1,0 +1,269 @@
+//! The join of two maps, which shares the blocks that it leaves as they are.
+ghost use Rattle.std.specs.Prelude.{◌≡◌, ◌++◌, [], Some, true, IfOk, OnOk};
+ghost use Rattle.std.specs.Arc.{arc_value};
+ghost use Rattle.std.specs.Option.{option_copied};
+ghost use Rattle.dac_lattice.specs.Entries.{keep, merge_entries};
+ghost use Rattle.dac_lattice.specs.Search.{IsInOrder};
+ghost use Rattle.dac_store.specs.DotMaps.{IsKeyed, has_in, join_keyed, unless_empty};
+ghost use Rattle.dac_store.specs.Joining.{AreBefore, AreKept, IsMergedBelow, IsMergedPart, IsMergedWith, IsNotBelow, IsTakenAt, joined_at};
+ghost use Rattle.dac_store.specs.Stores.{IsUnheard};
+
+use crate::DotStore;
+use crate::appending::ends_below;
+use crate::block::Block;
+use crate::entries::Entries;
+use crate::parts::Parts;
+use dac_dots::FilteredContext;
+use dac_lattice::merging::Combine;
+use dac_origins::{MapKey, NoMemory};
+use std::alloc::Global;
+use std::sync::Arc;
+
+/// The store, unless it holds no dots.
+fn unless_empty<S: DotStore>(store: S) -> Option<S>
+    ensures { result ≡ unless_empty S.is_empty store }
+{
+    if store.is_empty() { None } else { Some(store) }
+}
+
+/// Joins the two stores of each key beside what each side has heard of, and drops a key without dots.
+#[derive(Clone, Copy)]
+pub(crate) struct JoinStores<'a> {
+    pub(crate) alloc: Global,
+    pub(crate) mine: &'a FilteredContext<'a>,
+    pub(crate) theirs: &'a FilteredContext<'a>,
+}
+
+impl<K: MapKey, S: DotStore> Combine<K, S> for JoinStores<'_> {
+    ghost use Rattle.dac_store.specs.DotMaps.{unless_empty, store_at};
+
+    ghost combined = { λ h _ v w. unless_empty S.is_empty
+        (S.join (store_at S.nothing v) h.mine.now (store_at S.nothing w) h.theirs.now) };
+
+    fn left(&self, _key: K, mine: &S) -> Result<Option<S>, NoMemory> {
+        if mine.is_unheard(self.theirs) {
+            mine.tells_invariant();
+            return Ok(unless_empty(mine.copy()?));
+        }
+        Ok(unless_empty(mine.join_in(
+            self.mine.context(),
+            &S::empty(self.alloc),
+            self.theirs.context(),
+        )?))
+    }
+
+    fn right(&self, _key: K, theirs: &S) -> Result<Option<S>, NoMemory> {
+        if theirs.is_unheard(self.mine) {
+            theirs.tells_invariant();
+            return Ok(unless_empty(theirs.copy()?));
+        }
+        Ok(unless_empty(S::empty(self.alloc).join_in(
+            self.mine.context(),
+            theirs,
+            self.theirs.context(),
+        )?))
+    }
+
+    fn both(&self, _key: K, mine: &S, theirs: &S) -> Result<Option<S>, NoMemory> {
+        Ok(unless_empty(mine.join_in(self.mine.context(), theirs, self.theirs.context())?))
+    }
+}
+
+/// Puts an entry at the end, if there is a store.
+fn put_kept<K: MapKey, S: DotStore>(
+    built: &mut Parts<K, S>,
+    key: K,
+    store: Option<S>,
+) -> Result<(), NoMemory>
+    ensures { OnOk result (built.new ≡ built.old ++ keep key store []) }
+{
+    match store {
+        Some(store) => {
+            built.put(key, store)?;
+            Ok(())
+        }
+        None => Ok(()),
+    }
+}
+
+/// Puts the other side's next entries at the end whose keys are below this one.
+fn put_below<K: MapKey, S: DotStore, C: Combine<K, S>>(
+    how: &C,
+    built: &mut Parts<K, S>,
+    theirs: &mut Entries<'_, K, S>,
+    key: K,
+) -> Result<(), NoMemory>
+    ensures { OnOk result (IsMergedBelow K.cmp (C.combined how.now) key built.old theirs.old
+        built.new theirs.new) }
+{
+    while let Some((other, store)) = theirs.first() {
+        if !other.cmp(&key).is_lt() {
+            return Ok(());
+        }
+        put_kept(built, *other, how.right(*other, store)?)?;
+        theirs.pass();
+    }
+    Ok(())
+}
+
+/// Puts all entries that the other side has left at the end.
+fn put_rest<K: MapKey, S: DotStore, C: Combine<K, S>>(
+    how: &C,
+    built: &mut Parts<K, S>,
+    theirs: &mut Entries<'_, K, S>,
+) -> Result<(), NoMemory>
+    ensures { OnOk result
+        (built.new ≡ built.old ++ merge_entries K.cmp (C.combined how.now) [] theirs.old) }
+{
+    while let Some((other, store)) = theirs.first() {
+        put_kept(built, *other, how.right(*other, store)?)?;
+        theirs.pass();
+    }
+    Ok(())
+}
+
+/// Takes the other side's next entry, if it is at this key.
+fn take_at<'a, K: MapKey, S: DotStore>(theirs: &mut Entries<'a, K, S>, key: K) -> Option<&'a S>
+    ensures { IsTakenAt K.cmp key theirs.old (option_copied result) theirs.new }
+{
+    let Some((other, store)) = theirs.first() else {
+        return None;
+    };
+    if !other.cmp(&key).is_eq() {
+        return None;
+    }
+    theirs.pass();
+    Some(store)
+}
+
+/// What is kept at a key of the first map, by what the second one has there.
+fn kept_at<K: MapKey, S: DotStore, C: Combine<K, S>>(
+    how: &C,
+    key: K,
+    mine: &S,
+    theirs: Option<&S>,
+) -> Result<Option<S>, NoMemory>
+    ensures { IfOk result
+        (λ kept. kept ≡ C.combined how.now key (Some mine.now) (option_copied theirs.entry)) }
+{
+    match theirs {
+        Some(theirs) => {
+            let kept = how.both(key, mine, theirs)?;
+            Ok(kept)
+        }
+        None => {
+            let kept = how.left(key, mine)?;
+            Ok(kept)
+        }
+    }
+}
+
+/// Puts what an entry makes with the other side's at the end, which is taken if it is at the same key. None is left there
+/// below it.
+fn put_entry<K: MapKey, S: DotStore, C: Combine<K, S>>(
+    how: &C,
+    built: &mut Parts<K, S>,
+    entry: &(K, S),
+    theirs: &mut Entries<'_, K, S>,
+) -> Result<(), NoMemory>
+    requires { IsNotBelow K.cmp entry.now.0 theirs.old }
+    ensures { OnOk result (IsMergedWith K.cmp (C.combined how.now) entry.now built.old theirs.old
+        built.new theirs.new) }
+{
+    let (key, store) = entry;
+    let taken = take_at(theirs, *key);
+    let kept = kept_at(how, *key, store, taken)?;
+    put_kept(built, *key, kept)?;
+    Ok(())
+}
+
+/// Joins these entries with the other side's up to their last key.
+fn join_part<K: MapKey, S: DotStore, C: Combine<K, S>>(
+    how: &C,
+    built: &mut Parts<K, S>,
+    part: &[(K, S)],
+    theirs: &mut Entries<'_, K, S>,
+) -> Result<(), NoMemory>
+    ensures { OnOk result (IsMergedPart K.cmp (C.combined how.now) part.now built.old theirs.old
+        built.new theirs.new) }
+{
+    for entry in part {
+        put_below(how, built, theirs, entry.0)?;
+        put_entry(how, built, entry, theirs)?;
+    }
+    Ok(())
+}
+
+/// Whether all entries that the other side has left are past these.
+fn are_before<K: MapKey, S: DotStore>(part: &[(K, S)], theirs: &Entries<'_, K, S>) -> bool
+    requires { IsInOrder K.cmp part.now }
+    ensures { result ≡ true → AreBefore K.cmp part.now theirs.now }
+{
+    match theirs.first() {
+        Some((other, _)) => ends_below(part, *other),
+        None => true,
+    }
+}
+
+/// Whether a block can be shared: a block may come next, and the join surely leaves its entries as they are.
+fn can_share<K: MapKey, S: DotStore>(
+    how: &JoinStores<'_>,
+    built: &Parts<K, S>,
+    block: &Block<K, S>,
+    theirs: &Entries<'_, K, S>,
+) -> bool
+    requires { IsInOrder K.cmp block.now }
+    ensures before { result ≡ true → AreBefore K.cmp block.now theirs.now }
+    ensures unheard { result ≡ true → IsUnheard (has_in S.has block.now) how.now.theirs.now }
+{
+    if !built.ends_whole() {
+        return false;
+    }
+    if !are_before(block.entries(), theirs) {
+        return false;
+    }
+    block.is_apart(how.theirs)
+}
+
+/// Joins the entries of a block with the other side's up to their last key, or shares the block.
+fn join_block<K: MapKey, S: DotStore>(
+    how: &JoinStores<'_>,
+    built: &mut Parts<K, S>,
+    block: &Arc<Block<K, S>, Global>,
+    theirs: &mut Entries<'_, K, S>,
+) -> Result<(), NoMemory>
+    requires in_order { IsInOrder K.cmp (arc_value block.now) }
+    requires kept { AreKept S.is_store S.is_empty (arc_value block.now) }
+    ensures { OnOk result (IsMergedPart K.cmp
+        (joined_at S.nothing S.is_empty S.join how.now.mine.now how.now.theirs.now)
+        (arc_value block.now) built.old theirs.old built.new theirs.new) }
+{
+    if can_share(how, built, block, theirs) {
+        built.share(block)?;
+        return Ok(());
+    }
+    join_part(how, built, block.entries(), theirs)?;
+    Ok(())
+}
+
+/// The join of two maps. [`NoMemory`] is the only error.
+pub(crate) fn join_parts<K: MapKey, S: DotStore>(
+    how: &JoinStores<'_>,
+    mine: &Parts<K, S>,
+    theirs: &Parts<K, S>,
+) -> Result<Parts<K, S>, NoMemory>
+    requires { IsKeyed K.cmp S.is_store S.is_empty mine.now }
+    ensures { IfOk result (λ joined. joined
+        ≡ join_keyed K.cmp S.nothing S.is_empty S.join mine.now how.now.mine.now theirs.now
+        how.now.theirs.now) }
+{
+    let mut built = Parts::empty(how.alloc);
+    let mut others = theirs.entries();
+    let (blocks, last) = mine.pieces();
+    for block in blocks {
+        join_block(how, &mut built, block, &mut others)?;
+    }
+    join_part(how, &mut built, last, &mut others)?;
+    put_rest(how, &mut built, &mut others)?;
+    Ok(built)
+}

@@ -1,0 +1,226 @@
+//! Entries in blocks, which maps share, and a few after them.
+ghost use Rattle.std.specs.Prelude.{◌≡◌, ◌≤◌, [], ◌∷◌, ◌++◌, length, take, drop, IfOk, IfSome, OnOk, OnErr};
+ghost use Rattle.std.specs.Arc.{arc_value};
+ghost use Rattle.std.specs.List.{flat_map};
+ghost use Rattle.std.specs.Option.{option_copied};
+ghost use Rattle.std.specs.FinMap.{find};
+ghost use Rattle.dac_lattice.specs.Search.{IsInOrder};
+ghost use Rattle.dac_store.specs.Appending.{is_above_entries};
+ghost use Rattle.dac_store.specs.Parts.{IsPartAt};
+
+use crate::DotStore;
+use crate::appending::ends_below;
+use crate::block::Block;
+use crate::entries::Entries;
+use dac_lattice::merging::value_at;
+use dac_origins::{MapKey, NoMemory};
+use std::alloc::Global;
+use std::marker::Model;
+use std::mem::replace;
+use std::sync::Arc;
+
+/// How many entries the last ones are at most, where a join makes them.
+const MOST: usize = 16;
+
+/// How many entries a block has at least, where a join makes it and others follow.
+const LEAST: usize = 8;
+
+/// Entries in blocks, and those after them. Contracts see all entries as one list.
+#[derive(Drop)]
+pub(crate) struct Parts<K: MapKey, S: DotStore> {
+    blocks: Vec<Arc<Block<K, S>, Global>>,
+    last: Vec<(K, S)>,
+}
+
+impl<K: MapKey, S: DotStore> Model for Parts<K, S> {
+    ghost use Rattle.std.specs.Prelude.{List, ◌++◌};
+    ghost use Rattle.std.specs.List.{flat_map};
+    ghost use Rattle.std.specs.Arc.{arc_value};
+
+    ghost Value = { List (K × S) };
+
+    ghost view = { λ a. flat_map arc_value a.blocks.items ++ a.last.items };
+}
+
+impl<K: MapKey, S: DotStore> Parts<K, S> {
+    /// No entries. It takes no memory.
+    pub(crate) fn empty(alloc: Global) -> Self
+        ensures { result ≡ [] }
+    {
+        Parts {
+            blocks: Vec::new(alloc),
+            last: Vec::new(alloc),
+        }
+    }
+
+    /// Where the memory comes from.
+    pub(crate) fn allocator(&self) -> Global {
+        *self.last.allocator()
+    }
+
+    /// The blocks, and the entries after them.
+    pub(crate) fn pieces(&self) -> (&[Arc<Block<K, S>, Global>], &[(K, S)])
+        ensures { self.now ≡ flat_map arc_value result.0.now ++ result.1.now }
+    {
+        (self.blocks.as_slice(), self.last.as_slice())
+    }
+
+    /// The entries, for a reader.
+    pub(crate) fn entries(&self) -> Entries<'_, K, S>
+        ensures { result ≡ self.now }
+    {
+        let (blocks, last) = self.pieces();
+        Entries::of(blocks, last)
+    }
+
+    /// How many entries there are, if the number fits.
+    pub(crate) fn count(&self) -> Option<usize>
+        ensures { IfSome result (λ count. count ≡ length self.now) }
+    {
+        let (blocks, last) = self.pieces();
+        let mut count = last.len();
+        for block in blocks {
+            let Some(more) = count.checked_add(block.entries().len()) else {
+                return None;
+            };
+            count = more;
+        }
+        Some(count)
+    }
+
+    /// The entries among which a key would be.
+    fn part_at(&self, key: K) -> &[(K, S)]
+        requires { IsInOrder K.cmp self.now }
+        ensures { IsPartAt K.cmp key self.now result.now }
+    {
+        let (blocks, last) = self.pieces();
+        for block in blocks {
+            let entries = block.entries();
+            if !ends_below(entries, key) {
+                return entries;
+            }
+        }
+        last
+    }
+
+    /// Whether each key of the entries, which are in order, is below this one.
+    pub(crate) fn end_below(&self, key: K) -> bool
+        requires { IsInOrder K.cmp self.now }
+        ensures { result ≡ is_above_entries K.cmp self.now key }
+    {
+        ends_below(self.part_at(key), key)
+    }
+
+    /// The store at a key, where the entries are in order.
+    pub(crate) fn get(&self, key: K) -> Option<&S>
+        requires { IsInOrder K.cmp self.now }
+        ensures { option_copied result ≡ find K.cmp key self.now }
+    {
+        value_at(self.part_at(key), key)
+    }
+
+    /// The same entries, of which the blocks are shared. [`NoMemory`] is the only error.
+    pub(crate) fn copy(&self) -> Result<Self, NoMemory>
+        ensures { IfOk result (λ copied. copied ≡ self.now) }
+    {
+        let alloc = self.allocator();
+        let (blocks, last) = self.pieces();
+        let shared = share_blocks(alloc, blocks)?;
+        let copied = copy_entries(alloc, last)?;
+        Ok(Parts {
+            blocks: shared,
+            last: copied,
+        })
+    }
+
+    /// Puts an entry at the end. Where memory is refused ([`NoMemory`], the only error), all stays as it was.
+    pub(crate) fn push(&mut self, key: K, store: S) -> Result<(), NoMemory>
+        ensures ok { OnOk result (self.new ≡ self.old ++ (key, store) ∷ []) }
+        ensures err { OnErr result (self.new ≡ self.old) }
+    {
+        self.last.push((key, store))?;
+        Ok(())
+    }
+
+    /// Puts an entry at the end, and makes a block of the first of the last entries where these are many. [`NoMemory`]
+    /// is the only error, and may leave other entries.
+    pub(crate) fn put(&mut self, key: K, store: S) -> Result<(), NoMemory>
+        ensures { OnOk result (self.new ≡ self.old ++ (key, store) ∷ []) }
+    {
+        self.push(key, store)?;
+        if self.last.len() < MOST {
+            return Ok(());
+        }
+        seal(&mut self.blocks, &mut self.last, LEAST)?;
+        Ok(())
+    }
+
+    /// Whether a block may come next, and no small one is made before it.
+    pub(crate) fn ends_whole(&self) -> bool {
+        self.last.is_empty() || self.last.len() >= LEAST
+    }
+
+    /// Puts the entries of a block at the end, and shares it. [`NoMemory`] is the only error, and may leave other
+    /// entries.
+    pub(crate) fn share(&mut self, block: &Arc<Block<K, S>, Global>) -> Result<(), NoMemory>
+        ensures { OnOk result (self.new ≡ self.old ++ arc_value block.now) }
+    {
+        let open = self.last.len();
+        seal(&mut self.blocks, &mut self.last, open)?;
+        self.blocks.push(Arc::try_clone(block)?)?;
+        Ok(())
+    }
+}
+
+/// Makes a block of so many of the last entries, if there are any. [`NoMemory`] is the only error, and may leave other
+/// entries.
+fn seal<K: MapKey, S: DotStore>(
+    blocks: &mut Vec<Arc<Block<K, S>, Global>>,
+    last: &mut Vec<(K, S)>,
+    count: usize,
+) -> Result<(), NoMemory>
+    requires { count ≤ length last.old.items }
+    ensures sealed { OnOk result
+        (flat_map arc_value blocks.new.items
+        ≡ flat_map arc_value blocks.old.items ++ take count last.old.items) }
+    ensures rest { OnOk result (last.new.items ≡ drop count last.old.items) }
+{
+    if count == 0 {
+        return Ok(());
+    }
+    let alloc = *last.allocator();
+    let rest = last.split_off(count)?;
+    let sealed = replace(last, rest);
+    let block = Block::of(alloc, sealed)?;
+    blocks.push(block)?;
+    Ok(())
+}
+
+/// The same blocks, which both lists share. [`NoMemory`] is the only error.
+fn share_blocks<K: MapKey, S: DotStore>(
+    alloc: Global,
+    blocks: &[Arc<Block<K, S>, Global>],
+) -> Result<Vec<Arc<Block<K, S>, Global>>, NoMemory>
+    ensures { IfOk result
+        (λ shared. flat_map arc_value shared.items ≡ flat_map arc_value blocks.now) }
+{
+    let mut shared = Vec::with_capacity(alloc, blocks.len())?;
+    for block in blocks {
+        shared.push(Arc::try_clone(block)?)?;
+    }
+    Ok(shared)
+}
+
+/// Equal entries, with memory of their own. [`NoMemory`] is the only error.
+fn copy_entries<K: MapKey, S: DotStore>(
+    alloc: Global,
+    entries: &[(K, S)],
+) -> Result<Vec<(K, S)>, NoMemory>
+    ensures { IfOk result (λ copied. copied.items ≡ entries.now) }
+{
+    let mut copied = Vec::with_capacity(alloc, entries.len())?;
+    for (key, store) in entries {
+        copied.push((*key, store.copy()?))?;
+    }
+    Ok(copied)
+}
