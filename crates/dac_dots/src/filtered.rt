@@ -8,7 +8,7 @@ use crate::filter::DotFilter;
 use dac_origins::Dot;
 use std::marker::Model;
 
-/// The most dots that are put one by one. Of more dots most slots would be set.
+/// The most dots that are put one by one. So many in a row of one origin set each slot that dots of its node have.
 const MOST_FILTERED: usize = 128;
 
 /// How many dots a context is asked about at least, where its own are put one by one.

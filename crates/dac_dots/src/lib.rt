@@ -6,7 +6,7 @@
 //!
 //! A context is kept by origin, as spans of counters that follow one another. So calls cost by the number of
 //! origins and of gaps, and not by that of dots. Only the list of all dots, and that of the further counters
-//! of a row, cost by what they list.
+//! of a row, cost by what they list. Copies share what is kept, so a copy costs as much as a pointer.
 #![tactic(auto)]
 
 pub use context::Context;

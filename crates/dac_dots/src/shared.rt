@@ -38,7 +38,7 @@ impl SharedContext {
         SharedContext { context }
     }
 
-    /// This context, which copies will share. [`NoMemory`] is the only error.
+    /// This context, which copies will share. It takes no memory today. [`NoMemory`] is the only error.
     pub fn new(context: Context) -> Result<Self, NoMemory>
         ensures { IfOk result (λ shared. shared ≡ context) }
     {

@@ -115,7 +115,7 @@ impl Heard {
         other.has(other_known, self.beside(known))
     }
 
-    /// Equal dots, with memory of their own.
+    /// Equal dots. They share memory that never changes.
     pub(crate) fn copy(&self) -> Result<Self, NoMemory>
         ensures { IfOk result (λ copied. copied ≡ self.now) }
     {

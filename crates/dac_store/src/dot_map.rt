@@ -21,7 +21,8 @@ use std::marker::Model;
 /// A store at each of some keys. A key without dots isn't kept, so equal maps are equal values. Contracts
 /// see it as the list of the keys with their stores, in the order of the keys.
 ///
-/// The entries stand in blocks, which never change. A join shares each block that it surely leaves as it is.
+/// The entries stand in blocks, which never change, and the last ones in a list behind them. Copies share the blocks, and
+/// so does a join with those of its own side that it surely leaves as they are.
 #[derive(Drop)]
 pub struct DotMap<K: MapKey, S: DotStore> {
     count: usize,

@@ -45,7 +45,7 @@ pub trait DotStore: Drop {
     /// Where its memory comes from.
     fn allocator(&self) -> Global;
 
-    /// An equal store, with memory of its own. [`NoMemory`] is the only error.
+    /// An equal store. It may share memory that never changes. [`NoMemory`] is the only error.
     fn copy(&self) -> Result<Self, NoMemory>
         ensures { IfOk result (λ copied. copied ≡ self.now) };
 

@@ -9,6 +9,8 @@
 //!
 //! Stores ask mostly whether a context contains a dot. Two calls list the dots of a context, where it has few. One is
 //! the join of two sets. The other is a join beside contexts, which sees whether it leaves one side's store as it is.
+//! Maps keep their entries in blocks, each beside a filter of its dots. A join shares the blocks that it surely leaves as
+//! they are, and no contract tells of blocks: the entries of a map come by a reader ([`Entries`]).
 #![tactic(auto)]
 
 pub use causal::Causal;

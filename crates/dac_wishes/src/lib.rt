@@ -8,7 +8,7 @@
 //! name.
 //!
 //! A start beside a stop wins, as a stop replaces only the starts that it names. Of permits that stand
-//! together false wins, here in [`Permissions::is_permitted`].
+//! together false wins, here in [`Permissions::permitted`].
 #![tactic(auto)]
 
 pub use dot_list::DotList;
