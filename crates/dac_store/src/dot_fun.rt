@@ -217,6 +217,22 @@ impl<V: Lattice> DotStore for DotFun<V> {
         true
     }
 
+    fn is_same(&self, other: &Self) -> bool {
+        let mine = self.few.as_slice();
+        let theirs = other.few.as_slice();
+        if mine.len() != theirs.len() {
+            return false;
+        }
+        for i in 0..mine.len() {
+            let (x, a) = &mine[i];
+            let (y, b) = &theirs[i];
+            if x != y || !a.equal(b) {
+                return false;
+            }
+        }
+        true
+    }
+
     fn fill(&self, filter: &mut DotFilter) {
         for (dot, _) in self.few.as_slice() {
             filter.put(*dot);

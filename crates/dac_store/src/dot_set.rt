@@ -279,6 +279,10 @@ impl DotStore for DotSet {
         true
     }
 
+    fn is_same(&self, other: &Self) -> bool {
+        self.has_same_dots(other)
+    }
+
     fn fill(&self, filter: &mut DotFilter) {
         for dot in self.dots() {
             filter.put(*dot);
