@@ -2,7 +2,7 @@
 use Rattle.std.proofs.Common.{◌≡◌, ◌<◌, ◌≤◌, true, false, List, [], ◌∷◌, ◌++◌, Option, None, Some, MatchOption, length, drop, refl, sym, ap, ◌∙◌, arith, add-one, append_assoc, append-nil, nat_eq, true≢false, true}
 use Rattle.std.proofs.lemmas.Bool.{eqb-true}
 use Rattle.std.specs.Borrow.{Bor}
-use Rattle.std.specs.Option.{is_some, option_copied}
+use Rattle.std.specs.Option.{option_copied}
 use Rattle.std.specs.List.{flat_map, slice_get}
 
 module _ {E : Type 0} where
@@ -59,10 +59,16 @@ module _ {E : Type 0} where
   pub same_first : (old new next after : List E) (e f : E) → old ≡ e ∷ next → new ≡ f ∷ after → e ≡ f → next ≡ after → old ≡ new
   same_first old new next after e f is also same rest = is ∙ (λ i. same i ∷ rest i) ∙ sym also
 
-  -- nothing is left where there is no next one
-  pub none_left : (now : List E) (r : Option (Bor E)) → MatchOption r (now ≡ []) (λ e. now ≡ e.now ∷ drop 1 now) → is_some r ≡ false → now ≡ []
-  none_left now None first e = first
-  none_left now (Some b) first e = absurd (true≢false e)
+  -- as many are left on both sides
+  pub still_as_many : (old new next after : List E) (e f : E) → old ≡ e ∷ next → new ≡ f ∷ after → length old ≡ length new → length next ≡ length after
+  still_as_many old new next after e f is also same =
+      let long = ap length is in
+      let long_too = ap length also in
+      omega (arith, long, long_too)
+
+  pub same_end : (now other : List E) → now ≡ [] → length now ≡ length other → now ≡ other
+  same_end now [] none same = none
+  same_end now (x ∷ other) none same = let more = sym same ∙ ap length none in absurd (omega (arith, more))
 
   module _ {B : Type 0} (value : B → List E) where
     -- past a block without entries

@@ -224,9 +224,9 @@ impl<V: Lattice> DotStore for DotFun<V> {
             return false;
         }
         for i in 0..mine.len() {
-            let (x, a) = &mine[i];
-            let (y, b) = &theirs[i];
-            if x != y || !a.equal(b) {
+            let (dot, value) = &mine[i];
+            let (other_dot, other_value) = &theirs[i];
+            if dot != other_dot || !value.equal(other_value) {
                 return false;
             }
         }

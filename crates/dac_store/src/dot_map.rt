@@ -210,17 +210,20 @@ impl<K: MapKey, S: DotStore> DotStore for DotMap<K, S> {
     }
 
     fn is_same(&self, other: &Self) -> bool {
+        if self.count != other.count {
+            return false;
+        }
         let mut mine = self.parts.entries();
         let mut theirs = other.parts.entries();
-        while let Some(one) = mine.next() {
-            let Some(other) = theirs.next() else {
+        while let Some((key, store)) = mine.next() {
+            let Some((other_key, other_store)) = theirs.next() else {
                 return false;
             };
-            if !one.0.cmp(&other.0).is_eq() || !one.1.is_same(&other.1) {
+            if !key.cmp(other_key).is_eq() || !store.is_same(other_store) {
                 return false;
             }
         }
-        theirs.first().is_none()
+        true
     }
 
     fn fill(&self, filter: &mut DotFilter) {

@@ -1,4 +1,4 @@
-use Rattle.std.proofs.Common.{◌≡◌, ◌∙◌, Some, true, sym, refl, subst, arith}
+use Rattle.std.proofs.Common.{◌∙◌, Some, sym, refl, subst, arith}
 use Rattle.std.proofs.lemmas.Bool.{false≢true}
 use Rattle.std.proofs.lemmas.List.{take_all}
 use Rattle.dac_lattice.specs.Search.{AtEachEntry}
