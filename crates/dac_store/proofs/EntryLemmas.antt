@@ -1,5 +1,5 @@
 -- A reader of entries: those at hand, and the others.
-use Rattle.std.proofs.Common.{◌≡◌, ◌<◌, ◌≤◌, true, false, List, [], ◌∷◌, ◌++◌, Option, None, Some, MatchOption, length, drop, refl, sym, ap, ◌∙◌, arith, append_assoc, append-nil, nat_eq, true≢false, true}
+use Rattle.std.proofs.Common.{◌≡◌, ◌<◌, ◌≤◌, true, false, List, [], ◌∷◌, ◌++◌, Option, None, Some, MatchOption, length, drop, refl, sym, ap, ◌∙◌, arith, add-one, append_assoc, append-nil, nat_eq, true≢false, true}
 use Rattle.std.proofs.lemmas.Bool.{eqb-true}
 use Rattle.std.specs.Borrow.{Bor}
 use Rattle.std.specs.Option.{option_copied}
@@ -48,6 +48,27 @@ module _ {E : Type 0} where
   pub nil_of : (here there : List E) → there ≡ here → nat_eq (length here) 0 ≡ true → there ≡ []
   nil_of [] there e p = e
   nil_of (x ∷ here) there e p = let none = eqb-true (length (x ∷ here)) 0 p in absurd (omega (arith, none))
+
+  -- one fewer is left
+  pub shorter : (now next : List E) (e : E) → now ≡ e ∷ next → length next < length now
+  shorter now next e is =
+      let long = ap length is ∙ sym (add-one (length next)) in
+      omega (arith, long)
+
+  -- two lists whose first elements are equal
+  pub same_first : (old new next after : List E) (e f : E) → old ≡ e ∷ next → new ≡ f ∷ after → e ≡ f → next ≡ after → old ≡ new
+  same_first old new next after e f is also same rest = is ∙ (λ i. same i ∷ rest i) ∙ sym also
+
+  -- as many are left on both sides
+  pub still_as_many : (old new next after : List E) (e f : E) → old ≡ e ∷ next → new ≡ f ∷ after → length old ≡ length new → length next ≡ length after
+  still_as_many old new next after e f is also same =
+      let long = ap length is in
+      let long_too = ap length also in
+      omega (arith, long, long_too)
+
+  pub same_end : (now other : List E) → now ≡ [] → length now ≡ length other → now ≡ other
+  same_end now [] none same = none
+  same_end now (x ∷ other) none same = let more = sym same ∙ ap length none in absurd (omega (arith, more))
 
   module _ {B : Type 0} (value : B → List E) where
     -- past a block without entries

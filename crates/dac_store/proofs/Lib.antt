@@ -2,3 +2,4 @@ pub mod Passing
 mod PartLemmas
 mod EntryLemmas
 mod JoinLemmas
+mod BelowLemmas

@@ -1,6 +1,7 @@
 -- Entries in parts.
-use Rattle.std.specs.Prelude.{◌≡◌, ℕ, Bool, true, List, Option, length}
+use Rattle.std.specs.Prelude.{◌≡◌, ℕ, Bool, true, false, List, Option, length}
 use Rattle.std.specs.declared.cmp.Ordering.{Ordering}
+use Rattle.std.specs.Ordering.{is_lt}
 use Rattle.std.specs.FinMap.{find}
 use Rattle.dac_origins.specs.Dots.{Dots}
 use Rattle.dac_origins.specs.declared.dot.Dot.{Dot}
@@ -29,3 +30,11 @@ pub record IsCounted {K S : Type 0} (R : K → K → Ordering) (is_store : S →
 abbrev pub IsBelowAt : {K S : Type 0} → (K → K → Ordering) → S → (S → Dots → S → Dots → Type 0) → List (K × S) → Dots → Dots
     → K → Option S → Type 0
 IsBelowAt R nothing below m c d k v = below (store_at nothing (find R k m)) c (store_at nothing v) d
+
+-- what is found at each key that isn't below this one is the same
+abbrev pub HasSameFrom : {K X : Type 0} → (K → K → Ordering) → K → List (K × X) → List (K × X) → Type 0
+HasSameFrom {K} R key old new = (k : K) → is_lt (R k key) ≡ false → find R k new ≡ find R k old
+
+-- what is found at each key above those of a part is the same
+abbrev pub HasLaterKeys : {K X : Type 0} → (K → K → Ordering) → List (K × X) → List (K × X) → List (K × X) → Type 0
+HasLaterKeys {K} R part old new = (k : K) → is_above_entries R part k ≡ true → find R k new ≡ find R k old

@@ -217,6 +217,22 @@ impl<V: Lattice> DotStore for DotFun<V> {
         true
     }
 
+    fn is_same(&self, other: &Self) -> bool {
+        let mine = self.few.as_slice();
+        let theirs = other.few.as_slice();
+        if mine.len() != theirs.len() {
+            return false;
+        }
+        for i in 0..mine.len() {
+            let (dot, value) = &mine[i];
+            let (other_dot, other_value) = &theirs[i];
+            if dot != other_dot || !value.equal(other_value) {
+                return false;
+            }
+        }
+        true
+    }
+
     fn fill(&self, filter: &mut DotFilter) {
         for (dot, _) in self.few.as_slice() {
             filter.put(*dot);

@@ -1,14 +1,12 @@
 //! Stores at keys.
-ghost use Rattle.std.specs.Prelude.{◌≡◌, ◌↔◌, ◌&&◌, [], ◌∷◌, ◌++◌, length, not, true, IsTrue, IfOk, OnErr, if◌then◌else◌};
+ghost use Rattle.std.specs.Prelude.{◌≡◌, ◌&&◌, [], ◌∷◌, ◌++◌, length, not, true, IfOk, OnErr, if◌then◌else◌};
 ghost use Rattle.std.specs.Option.{option_copied};
 ghost use Rattle.std.specs.FinMap.{find};
-ghost use Rattle.dac_lattice.specs.Search.{AtEachEntry};
 ghost use Rattle.dac_store.specs.Appending.{is_above_entries};
-ghost use Rattle.dac_store.specs.DotMaps.{IsKeyed, store_at};
-ghost use Rattle.dac_store.specs.Parts.{IsBelowAt};
+ghost use Rattle.dac_store.specs.DotMaps.{IsKeyed};
 
 use crate::DotStore;
-use crate::block::Block;
+use crate::below::{are_below, block_below};
 use crate::entries::Entries;
 use crate::joining::{JoinStores, join_parts};
 use crate::part::{are_unheard, are_within, entries_have, fill_each};
@@ -106,52 +104,6 @@ impl<K: MapKey, S: DotStore> DotMap<K, S> {
     {
         self.count
     }
-
-    /// Whether what is at a key is below a store of the other side.
-    fn leq_at(&self, heard: &FilteredContext<'_>, key: K, theirs: &S, other_heard: &Context) -> bool
-        ensures { IsTrue result
-            ↔ S.below (store_at S.nothing (find K.cmp key self.now)) heard.now theirs.now
-            other_heard.now }
-    {
-        // Of most stores nothing was heard, and the own one need not be looked up.
-        if theirs.is_unheard(heard) {
-            return true;
-        }
-        let heard = heard.context();
-        match self.get(key) {
-            Some(mine) => mine.leq_in(heard, theirs, other_heard),
-            None => S::empty(self.parts.allocator()).leq_in(heard, theirs, other_heard),
-        }
-    }
-
-    /// Whether what is at each key of some entries is below their stores.
-    fn leq_part(&self, heard: &FilteredContext<'_>, part: &[(K, S)], other_heard: &Context) -> bool
-        ensures { IsTrue result ↔ AtEachEntry
-            (IsBelowAt K.cmp S.nothing S.below self.now heard.now other_heard.now) part.now }
-    {
-        for (key, theirs) in part {
-            if !self.leq_at(heard, *key, theirs, other_heard) {
-                return false;
-            }
-        }
-        true
-    }
-
-    /// The same of a block, which is passed over where surely none of its dots has been heard of.
-    fn leq_block(
-        &self,
-        heard: &FilteredContext<'_>,
-        block: &Block<K, S>,
-        other_heard: &Context,
-    ) -> bool
-        ensures { IsTrue result ↔ AtEachEntry
-            (IsBelowAt K.cmp S.nothing S.below self.now heard.now other_heard.now) block.now }
-    {
-        if block.is_apart(heard) {
-            return true;
-        }
-        self.leq_part(heard, block.entries(), other_heard)
-    }
 }
 
 impl<K: MapKey, S: DotStore> DotStore for DotMap<K, S> {
@@ -218,13 +170,14 @@ impl<K: MapKey, S: DotStore> DotStore for DotMap<K, S> {
     fn leq_in(&self, heard: &Context, other: &Self, other_heard: &Context) -> bool {
         self.tells_invariant();
         let filtered = FilteredContext::of(heard, other.count);
+        let mut mine = self.parts.entries();
         let (blocks, last) = other.parts.pieces();
         for block in blocks {
-            if !self.leq_block(&filtered, block, other_heard) {
+            if !block_below(&mut mine, &filtered, block, other_heard) {
                 return false;
             }
         }
-        self.leq_part(&filtered, last, other_heard)
+        are_below(&mut mine, &filtered, last, other_heard)
     }
 
     fn has(&self, dot: Dot) -> bool {
@@ -255,6 +208,23 @@ impl<K: MapKey, S: DotStore> DotStore for DotMap<K, S> {
             }
         }
         are_unheard(last, heard)
+    }
+
+    fn is_same(&self, other: &Self) -> bool {
+        if self.count != other.count {
+            return false;
+        }
+        let mut mine = self.parts.entries();
+        let mut theirs = other.parts.entries();
+        while let Some((key, store)) = mine.next() {
+            let Some((other_key, other_store)) = theirs.next() else {
+                return false;
+            };
+            if !key.cmp(other_key).is_eq() || !store.is_same(other_store) {
+                return false;
+            }
+        }
+        true
     }
 
     fn fill(&self, filter: &mut DotFilter) {

@@ -1,5 +1,5 @@
 //! Sets of dots.
-ghost use Rattle.std.specs.Prelude.{◌≡◌, ◌↔◌, ◌||◌, ◌&&◌, IsTrue, IfOk, OnErr, OnOk, true, if◌then◌else◌};
+ghost use Rattle.std.specs.Prelude.{◌≡◌, ◌↔◌, ◌||◌, ◌&&◌, IfOk, OnErr, OnOk, true, if◌then◌else◌};
 ghost use Rattle.std.specs.FinSet as set;
 ghost use Rattle.dac_origins.specs.InOrder.{in_order};
 ghost use Rattle.dac_store.specs.Appending.{is_above_dots};
@@ -163,13 +163,6 @@ impl DotSet {
         Ok(joined)
     }
 
-    /// Whether both sets have the same dots.
-    fn has_same_dots(&self, other: &Self) -> bool
-        ensures { IsTrue result → self.now ≡ other.now }
-    {
-        other.few.as_slice() == self.few.as_slice()
-    }
-
     /// The join that looks at each dot of both sides.
     fn join_each(
         &self,
@@ -232,7 +225,7 @@ impl DotStore for DotSet {
         other_heard: &Context,
     ) -> Result<Self, NoMemory> {
         // Most joins bring dots that both sides have.
-        if self.has_same_dots(other) {
+        if self.is_same(other) {
             return self.copy();
         }
         if other_heard.has_at_most(self.dots().len() / FEW_BESIDE) {
@@ -277,6 +270,10 @@ impl DotStore for DotSet {
             }
         }
         true
+    }
+
+    fn is_same(&self, other: &Self) -> bool {
+        other.few.as_slice() == self.few.as_slice()
     }
 
     fn fill(&self, filter: &mut DotFilter) {

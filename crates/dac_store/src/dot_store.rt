@@ -77,6 +77,10 @@ pub trait DotStore: Drop {
     fn is_unheard(&self, heard: &FilteredContext<'_>) -> bool
         ensures { IsTrue result ↔ IsUnheard (has self.now) heard.now };
 
+    /// Whether both stores are surely equal.
+    fn is_same(&self, other: &Self) -> bool
+        ensures { result ≡ true → self.now ≡ other.now };
+
     /// Puts each dot of the store into a filter, which keeps those that it has.
     fn fill(&self, filter: &mut DotFilter)
         ensures own { (x : Dot) → has self.now x ≡ true → may_have filter.new.slots x ≡ true }

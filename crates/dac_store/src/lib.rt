@@ -22,6 +22,7 @@ pub use dot_store::DotStore;
 pub use entries::Entries;
 
 mod appending;
+mod below;
 mod block;
 mod causal;
 mod dot_fun;

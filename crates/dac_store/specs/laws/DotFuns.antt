@@ -64,5 +64,6 @@ module _ {V : Type 0} {is_value : V → Type 0} {below : V → V → Type 0} {jo
     alone_right = λ s c d u h. same_entries dot_cmp dots_total exact_dots (join_funs join [] d s c) s
         (sorted_merge dots_total exact_dots (λ x. join_at join (set.contains d x) (set.contains c x)) [] s tt u.in_order) u.in_order
         (λ x. find_join [] d s c (record { in_order = tt; values = λ x. tt }) u x ∙ at_alone_right join (set.contains c x) (set.contains d x) (find dot_cmp x s) (h x));
+    same = λ s c d u x h. at_refl laws _ (u.values x);
     unheard = λ s t c d h x e. at_unheard below (set.contains c x) _ _ (h x) e;
   }

@@ -142,5 +142,6 @@ module _ {K : Type 0} {R : K → K → Ordering} (o : IsTotalOrder R) (exact : C
         (λ k. find_keyed [] d s c (record { in_order = tt; stores = λ k. tt }) u k
         ∙ ap (unless_empty is_empty) (laws.alone_right _ c d (at_store _ (u.stores k)) (λ x e. h x (has_found s k x e)))
         ∙ kept_at _ (u.stores k));
+    same = λ s c d u k. laws.same _ c d (at_store _ (u.stores k));
     unheard = λ s t c d h k. laws.unheard _ _ c d (λ x e. h x (has_found t k x e));
   }

@@ -1,0 +1,113 @@
+//! Whether one map is below another, by one walk through both.
+ghost use Rattle.std.specs.Prelude.{◌≡◌, ◌↔◌, true, IsTrue};
+ghost use Rattle.std.specs.Option.{option_copied};
+ghost use Rattle.std.specs.FinMap.{find};
+ghost use Rattle.dac_origins.specs.Dots.{Dots};
+ghost use Rattle.dac_lattice.specs.Search.{AtEachEntry, IsInOrder};
+ghost use Rattle.dac_store.specs.DotMaps.{store_at};
+ghost use Rattle.dac_store.specs.Parts.{HasLaterKeys, HasSameFrom, IsBelowAt};
+
+use crate::DotStore;
+use crate::block::Block;
+use crate::entries::Entries;
+use dac_dots::{Context, FilteredContext};
+use dac_origins::MapKey;
+use std::cmp::Ordering;
+
+/// Whether what is at a key is surely below the other side's store, whatever was heard of: both are the same.
+fn is_surely_below<S: DotStore>(mine: Option<&S>, theirs: &S) -> bool
+    ensures { result ≡ true → (c d : Dots)
+        → S.below (store_at S.nothing (option_copied mine.entry)) c theirs.now d }
+{
+    match mine {
+        Some(mine) => {
+            mine.tells_invariant();
+            mine.is_same(theirs)
+        }
+        None => false,
+    }
+}
+
+/// Whether what is at a key is below the other side's store.
+fn is_below<S: DotStore>(
+    mine: Option<&S>,
+    heard: &FilteredContext<'_>,
+    theirs: &S,
+    other_heard: &Context,
+) -> bool
+    ensures { IsTrue result ↔ S.below (store_at S.nothing (option_copied mine.entry)) heard.now
+        theirs.now other_heard.now }
+{
+    if is_surely_below(mine, theirs) {
+        return true;
+    }
+    if theirs.is_unheard(heard) {
+        return true;
+    }
+    let heard = heard.context();
+    match mine {
+        Some(mine) => mine.leq_in(heard, theirs, other_heard),
+        None => S::empty(theirs.allocator()).leq_in(heard, theirs, other_heard),
+    }
+}
+
+/// The store at a key, if there is one. Entries below the key are passed.
+fn store_from<'a, K: MapKey, S: DotStore>(left: &mut Entries<'a, K, S>, key: K) -> Option<&'a S>
+    requires { IsInOrder K.cmp left.old }
+    ensures found { option_copied result ≡ find K.cmp key left.old }
+    ensures in_order { IsInOrder K.cmp left.new }
+    ensures same { HasSameFrom K.cmp key left.old left.new }
+{
+    while let Some((other, store)) = left.first() {
+        match other.cmp(&key) {
+            Ordering::Less => left.pass(),
+            Ordering::Equal => return Some(store),
+            Ordering::Greater => return None,
+        }
+    }
+    None
+}
+
+/// Whether what is at each key of some entries is below their stores. Entries below these keys are passed, and maybe
+/// some more if it isn't.
+pub(crate) fn are_below<K: MapKey, S: DotStore>(
+    left: &mut Entries<'_, K, S>,
+    heard: &FilteredContext<'_>,
+    part: &[(K, S)],
+    other_heard: &Context,
+) -> bool
+    requires left { IsInOrder K.cmp left.old }
+    requires part { IsInOrder K.cmp part.now }
+    ensures below { IsTrue result ↔ AtEachEntry
+        (IsBelowAt K.cmp S.nothing S.below left.old heard.now other_heard.now) part.now }
+    ensures in_order { IsInOrder K.cmp left.new }
+    ensures later { result ≡ true → HasLaterKeys K.cmp part.now left.old left.new }
+{
+    for (key, theirs) in part {
+        let mine = store_from(left, *key);
+        if !is_below(mine, heard, theirs, other_heard) {
+            return false;
+        }
+    }
+    true
+}
+
+/// The same of a block, which is passed over where surely none of its dots has been heard of.
+pub(crate) fn block_below<K: MapKey, S: DotStore>(
+    left: &mut Entries<'_, K, S>,
+    heard: &FilteredContext<'_>,
+    block: &Block<K, S>,
+    other_heard: &Context,
+) -> bool
+    requires left { IsInOrder K.cmp left.old }
+    requires part { IsInOrder K.cmp block.now }
+    ensures below { IsTrue result ↔ AtEachEntry
+        (IsBelowAt K.cmp S.nothing S.below left.old heard.now other_heard.now) block.now }
+    ensures in_order { IsInOrder K.cmp left.new }
+    ensures later { result ≡ true → HasLaterKeys K.cmp block.now left.old left.new }
+{
+    if block.is_apart(heard) {
+        return true;
+    }
+    are_below(left, heard, block.entries(), other_heard)
+}
