@@ -12,8 +12,8 @@ use tried_calls::decisions::{OfDecision, decisions};
 use tried_calls::messages::{OfList, OfMessage, lists, messages};
 use tried_calls::operations::{OfOperation, operations};
 use tried_calls::pieces::{
-    Made, OfAct, OfLattice, OfStore, Pushed, acts, causals, claims, dot_funs, dot_maps, dot_sets,
-    drains, lives, making, maps, pairs, permissions, pushes, wishes,
+    Made, OfAct, OfLattice, OfStore, Pushed, acts, block_maps, causals, claims, dot_funs, dot_maps,
+    dot_sets, drains, lives, making, maps, pairs, permissions, pushes, wishes,
 };
 use tried_calls::states::{OfState, states};
 use tried_calls::trial::{Came, try_call};
@@ -39,6 +39,7 @@ pub enum Call {
     Sets(OfStore),
     Funs(OfStore),
     DotMaps(OfStore),
+    BlockMaps(OfStore),
     Made(Made),
     Pushed(Pushed),
     Act(OfAct),
@@ -132,6 +133,8 @@ pub const CALLS: &[(&str, Call)] = &[
     ("DotFun::copy", Call::Funs(OfStore::Copy)),
     ("DotMap::join_in", Call::DotMaps(OfStore::Join)),
     ("DotMap::copy", Call::DotMaps(OfStore::Copy)),
+    ("DotMap::join_in:blocks", Call::BlockMaps(OfStore::Join)),
+    ("DotMap::copy:blocks", Call::BlockMaps(OfStore::Copy)),
     ("DotSet::push", Call::Pushed(Pushed::ToSet)),
     ("DotFun::push", Call::Pushed(Pushed::ToFun)),
     ("DotMap::push", Call::Pushed(Pushed::ToMap)),
@@ -294,6 +297,7 @@ fn try_lattice<T: Print>(rt: &T, alloc: Global, call: Call) -> Option<Came> {
         Call::Sets(asked) => Some(try_call(rt, dot_sets(alloc, asked))),
         Call::Funs(asked) => Some(try_call(rt, dot_funs(alloc, asked))),
         Call::DotMaps(asked) => Some(try_call(rt, dot_maps(alloc, asked))),
+        Call::BlockMaps(asked) => Some(try_call(rt, block_maps(alloc, asked))),
         _ => try_value(rt, alloc, call),
     }
 }

@@ -280,6 +280,21 @@ pub fn dot_maps(alloc: Global, asked: OfStore) -> Option<StoreBench<FlagMap>> {
     stores(alloc, asked, map_at(alloc, ME, 1), map_at(alloc, OTHER, 2))
 }
 
+/// A vote at each of 40 keys, as a join makes the map: 32 entries stand in blocks.
+fn map_in_blocks(alloc: Global) -> Result<FlagMap, NoMemory> {
+    let mut pushed = DotMap::empty(alloc);
+    for key in 1..41u64 {
+        let _pushed = pushed.push(key, DotFun::one(alloc, dot(ME, key), Flag::Up)?)?;
+    }
+    let nothing = Context::empty(alloc);
+    pushed.join_in(&nothing, &DotMap::empty(alloc), &nothing)
+}
+
+/// The bench of a call.
+pub fn block_maps(alloc: Global, asked: OfStore) -> Option<StoreBench<FlagMap>> {
+    stores(alloc, asked, map_in_blocks(alloc), map_at(alloc, OTHER, 41))
+}
+
 /// What is made anew.
 #[derive(Clone, Copy, Debug, PartialEq, Eq)]
 pub enum Made {
