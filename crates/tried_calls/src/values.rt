@@ -80,7 +80,7 @@ pub enum OfContext {
     ShareUnion,
 }
 
-/// A context, what is united with it, and its bytes.
+/// A context, what is united with it, and its bytes. None of the others shares its rows, so that they show what became of it.
 #[derive(Drop)]
 pub struct ContextBench {
     alloc: Global,
@@ -107,9 +107,9 @@ pub fn contexts(alloc: Global, asked: OfContext) -> Option<ContextBench> {
     Some(ContextBench {
         alloc,
         asked,
-        kept: all.copy().ok()?,
+        kept: context(alloc, &mine).ok()?,
         other: context(alloc, &theirs).ok()?,
-        shared: SharedContext::of(all.copy().ok()?),
+        shared: SharedContext::of(context(alloc, &mine).ok()?),
         other_shared: SharedContext::of(context(alloc, &theirs).ok()?),
         bytes: bytes_of(alloc, &all).ok()?,
         context: all,
