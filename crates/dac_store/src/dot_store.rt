@@ -45,7 +45,8 @@ pub trait DotStore: Drop {
     /// Where its memory comes from.
     fn allocator(&self) -> Global;
 
-    /// An equal store, with memory of its own. [`NoMemory`] is the only error.
+    /// An equal store. It may share memory with this one, which never changes while both are there. [`NoMemory`] is the
+    /// only error.
     fn copy(&self) -> Result<Self, NoMemory>
         ensures { IfOk result (λ copied. copied ≡ self.now) };
 
