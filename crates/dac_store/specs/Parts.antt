@@ -1,5 +1,7 @@
 -- Entries in parts.
-use Rattle.std.specs.Prelude.{◌≡◌, ℕ, Bool, true, false, List, Option, length}
+use Rattle.std.specs.Prelude.{◌≡◌, ℕ, Bool, true, false, List, [], Option, None, Some, length}
+use Rattle.std.specs.Arc.{arc_value}
+use Rattle.std.specs.declared.sync.Arc.{Arc}
 use Rattle.std.specs.declared.cmp.Ordering.{Ordering}
 use Rattle.std.specs.Ordering.{is_lt}
 use Rattle.std.specs.FinMap.{find}
@@ -38,3 +40,8 @@ HasSameFrom {K} R key old new = (k : K) → is_lt (R k key) ≡ false → find R
 -- what is found at each key above those of a part is the same
 abbrev pub HasLaterKeys : {K X : Type 0} → (K → K → Ordering) → List (K × X) → List (K × X) → List (K × X) → Type 0
 HasLaterKeys {K} R part old new = (k : K) → is_above_entries R part k ≡ true → find R k new ≡ find R k old
+
+-- the entries that maps may share: none where none are kept
+abbrev pub stores_kept : {X Z : Type 0} → Option (Arc (List X) Z) → List X
+stores_kept None = []
+stores_kept (Some kept) = arc_value kept

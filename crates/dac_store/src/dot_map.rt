@@ -1,5 +1,7 @@
 //! Stores at keys.
-ghost use Rattle.std.specs.Prelude.{◌≡◌, ◌&&◌, [], ◌∷◌, ◌++◌, length, not, true, IfOk, OnErr, if◌then◌else◌};
+ghost use Rattle.std.specs.Prelude.{◌≡◌, ◌&&◌, [], ◌∷◌, ◌++◌, length, not, false, true, IfOk, OnOk, OnErr, if◌then◌else◌};
+ghost use Rattle.std.specs.Arc.{arc_value};
+ghost use Rattle.std.specs.List.{flat_map};
 ghost use Rattle.std.specs.Option.{option_copied};
 ghost use Rattle.std.specs.FinMap.{find};
 ghost use Rattle.dac_store.specs.Appending.{is_above_entries};
@@ -7,6 +9,8 @@ ghost use Rattle.dac_store.specs.DotMaps.{IsKeyed};
 
 use crate::DotStore;
 use crate::below::{are_below, block_below};
+use crate::block::Block;
+use crate::counted::Counted;
 use crate::entries::Entries;
 use crate::joining::{JoinStores, join_parts};
 use crate::part::{are_unheard, are_within, entries_have, fill_each};
@@ -15,27 +19,29 @@ use dac_dots::{Context, DotFilter, FilteredContext};
 use dac_origins::{Dot, MapKey, NoMemory};
 use std::alloc::Global;
 use std::marker::Model;
+use std::sync::Arc;
 
 /// A store at each of some keys. A key without dots isn't kept, so equal maps are equal values. Contracts
 /// see it as the list of the keys with their stores, in the order of the keys.
 ///
-/// The entries stand in blocks, which never change, and the last ones in a list behind them. Copies share the blocks, and
-/// so does a join with those of its own side that it surely leaves as they are.
+/// The entries stand in blocks, which never change, and the last ones in a list behind them. A join shares the blocks of its
+/// own side that it surely leaves as they are.
+///
+/// Copies share all entries, so a copy costs as much as a pointer. Appending to entries that another map has too first
+/// copies those that stand in no block. An empty map takes no memory.
 #[derive(Drop)]
 pub struct DotMap<K: MapKey, S: DotStore> {
-    count: usize,
-    parts: Parts<K, S>,
+    alloc: Global,
+    kept: Option<Arc<Counted<K, S>, Global>>,
 }
 
 impl<K: MapKey, S: DotStore> Model for DotMap<K, S> {
     ghost use Rattle.std.specs.Prelude.{List};
-    ghost use Rattle.dac_store.specs.Parts.{IsCounted};
+    ghost use Rattle.dac_store.specs.Parts.{stores_kept};
 
     ghost Value = { List (K × S) };
 
-    ghost view = { λ a. a.parts };
-
-    ghost invariant = { λ a. IsCounted K.cmp S.is_store S.is_empty a.parts a.count };
+    ghost view = { λ a. stores_kept a.kept };
 }
 
 impl<K: MapKey, S: DotStore> DotMap<K, S> {
@@ -62,48 +68,109 @@ impl<K: MapKey, S: DotStore> DotMap<K, S> {
             ((is_above_entries K.cmp self.old key && not (S.is_empty store)) ≡ true) }
     {
         store.tells_invariant();
-        if !self.parts.end_below(key) || store.is_empty() {
+        if !self.end_below(key) || store.is_empty() {
             return Ok(false);
         }
-        let Some(count) = self.count.checked_add(1) else {
-            return Err(NoMemory);
-        };
-        self.parts.push(key, store)?;
-        self.count = count;
+        self.append(key, store)?;
         Ok(true)
     }
 
-    /// The map of these entries, which are counted. [`NoMemory`] is the only error, where their number doesn't fit.
+    /// Whether each key is below this one.
+    fn end_below(&self, key: K) -> bool
+        ensures { result ≡ is_above_entries K.cmp self.now key }
+    {
+        match &self.kept {
+            Some(kept) => kept.end_below(key),
+            None => true,
+        }
+    }
+
+    /// Puts an entry at the end, whose key is above all others. Where memory is refused ([`NoMemory`], the only error),
+    /// the map stays as it was.
+    fn append(&mut self, key: K, store: S) -> Result<(), NoMemory>
+        requires above { is_above_entries K.cmp self.old key ≡ true }
+        requires store { S.is_store store }
+        requires dots { S.is_empty store ≡ false }
+        ensures ok { OnOk result (self.new ≡ self.old ++ (key, store) ∷ []) }
+        ensures err { OnErr result (self.new ≡ self.old) }
+    {
+        match &mut self.kept {
+            Some(kept) => Arc::make_mut(kept)?.push(key, store)?,
+            None => self.kept = Some(first_entry(self.alloc, key, store)?),
+        }
+        Ok(())
+    }
+
+    /// The map of these entries. [`NoMemory`] is the only error.
     fn of(parts: Parts<K, S>) -> Result<Self, NoMemory>
         requires { IsKeyed K.cmp S.is_store S.is_empty parts }
         ensures { IfOk result (λ map. map ≡ parts) }
     {
-        let Some(count) = parts.count() else {
-            return Err(NoMemory);
-        };
-        Ok(DotMap { count, parts })
+        let alloc = parts.allocator();
+        let counted = Counted::of(parts)?;
+        if counted.is_empty() {
+            return Ok(Self::empty(alloc));
+        }
+        let kept = Arc::new(alloc, counted)?;
+        Ok(DotMap {
+            alloc,
+            kept: Some(kept),
+        })
+    }
+
+    /// The blocks, and the entries after them.
+    fn pieces(&self) -> (&[Arc<Block<K, S>, Global>], &[(K, S)])
+        ensures { self.now ≡ flat_map arc_value result.0.now ++ result.1.now }
+    {
+        match &self.kept {
+            Some(kept) => kept.pieces(),
+            None => (&[], &[]),
+        }
     }
 
     /// The store at a key, if it holds dots. It takes no memory.
     pub fn get(&self, key: K) -> Option<&S>
         ensures { option_copied result ≡ find K.cmp key self.now }
     {
-        self.parts.get(key)
+        match &self.kept {
+            Some(kept) => kept.get(key),
+            None => None,
+        }
     }
 
     /// The keys with their stores, in the order of the keys, for a reader. It takes no memory.
     pub fn entries(&self) -> Entries<'_, K, S>
         ensures { result ≡ self.now }
     {
-        self.parts.entries()
+        let (blocks, last) = self.pieces();
+        Entries::of(blocks, last)
     }
 
     /// How many keys there are.
     pub fn len(&self) -> usize
         ensures { result ≡ length self.now }
     {
-        self.count
+        match &self.kept {
+            Some(kept) => kept.len(),
+            None => 0,
+        }
     }
+}
+
+/// One entry, whose store holds dots.
+fn first_entry<K: MapKey, S: DotStore>(
+    alloc: Global,
+    key: K,
+    store: S,
+) -> Result<Arc<Counted<K, S>, Global>, NoMemory>
+    requires store { S.is_store store }
+    requires dots { S.is_empty store ≡ false }
+    ensures { IfOk result (λ counted. arc_value counted ≡ (key, store) ∷ []) }
+{
+    let mut counted = Counted::empty(alloc);
+    counted.push(key, store)?;
+    let kept = Arc::new(alloc, counted)?;
+    Ok(kept)
 }
 
 impl<K: MapKey, S: DotStore> DotStore for DotMap<K, S> {
@@ -127,25 +194,27 @@ impl<K: MapKey, S: DotStore> DotStore for DotMap<K, S> {
     ghost laws = { keyed_laws K.total K.exact S.laws };
 
     fn tells_invariant(&self) {
-        let _parts = &self.parts;
-    }
-
-    fn empty(alloc: Global) -> Self {
-        DotMap {
-            count: 0,
-            parts: Parts::empty(alloc),
+        if let Some(kept) = &self.kept {
+            kept.tells_invariant();
         }
     }
 
+    fn empty(alloc: Global) -> Self {
+        DotMap { alloc, kept: None }
+    }
+
     fn allocator(&self) -> Global {
-        self.parts.allocator()
+        self.alloc
     }
 
     fn copy(&self) -> Result<Self, NoMemory> {
-        let parts = self.parts.copy()?;
+        let kept = match &self.kept {
+            Some(kept) => Some(Arc::try_clone(kept)?),
+            None => None,
+        };
         Ok(DotMap {
-            count: self.count,
-            parts,
+            alloc: self.alloc,
+            kept,
         })
     }
 
@@ -155,23 +224,27 @@ impl<K: MapKey, S: DotStore> DotStore for DotMap<K, S> {
         other: &Self,
         other_heard: &Context,
     ) -> Result<Self, NoMemory> {
-        let mine = FilteredContext::of(heard, other.count);
-        let theirs = FilteredContext::of(other_heard, self.count);
+        self.tells_invariant();
+        other.tells_invariant();
+        let mine = FilteredContext::of(heard, other.len());
+        let theirs = FilteredContext::of(other_heard, self.len());
         let how = JoinStores {
-            alloc: self.parts.allocator(),
+            alloc: self.alloc,
             mine: &mine,
             theirs: &theirs,
         };
-        let parts = join_parts(&how, &self.parts, &other.parts)?;
+        let (blocks, last) = self.pieces();
+        let parts = join_parts(&how, blocks, last, other.entries())?;
         let joined = Self::of(parts)?;
         Ok(joined)
     }
 
     fn leq_in(&self, heard: &Context, other: &Self, other_heard: &Context) -> bool {
         self.tells_invariant();
-        let filtered = FilteredContext::of(heard, other.count);
-        let mut mine = self.parts.entries();
-        let (blocks, last) = other.parts.pieces();
+        other.tells_invariant();
+        let filtered = FilteredContext::of(heard, other.len());
+        let mut mine = self.entries();
+        let (blocks, last) = other.pieces();
         for block in blocks {
             if !block_below(&mut mine, &filtered, block, other_heard) {
                 return false;
@@ -181,7 +254,7 @@ impl<K: MapKey, S: DotStore> DotStore for DotMap<K, S> {
     }
 
     fn has(&self, dot: Dot) -> bool {
-        let (blocks, last) = self.parts.pieces();
+        let (blocks, last) = self.pieces();
         for block in blocks {
             if block.has(dot) {
                 return true;
@@ -191,7 +264,7 @@ impl<K: MapKey, S: DotStore> DotStore for DotMap<K, S> {
     }
 
     fn within(&self, context: &Context) -> bool {
-        let (blocks, last) = self.parts.pieces();
+        let (blocks, last) = self.pieces();
         for block in blocks {
             if !are_within(block.entries(), context) {
                 return false;
@@ -201,7 +274,7 @@ impl<K: MapKey, S: DotStore> DotStore for DotMap<K, S> {
     }
 
     fn is_unheard(&self, heard: &FilteredContext<'_>) -> bool {
-        let (blocks, last) = self.parts.pieces();
+        let (blocks, last) = self.pieces();
         for block in blocks {
             if !block.is_unheard(heard) {
                 return false;
@@ -211,11 +284,11 @@ impl<K: MapKey, S: DotStore> DotStore for DotMap<K, S> {
     }
 
     fn is_same(&self, other: &Self) -> bool {
-        if self.count != other.count {
+        if self.len() != other.len() {
             return false;
         }
-        let mut mine = self.parts.entries();
-        let mut theirs = other.parts.entries();
+        let mut mine = self.entries();
+        let mut theirs = other.entries();
         while let Some((key, store)) = mine.next() {
             let Some((other_key, other_store)) = theirs.next() else {
                 return false;
@@ -228,7 +301,7 @@ impl<K: MapKey, S: DotStore> DotStore for DotMap<K, S> {
     }
 
     fn fill(&self, filter: &mut DotFilter) {
-        let (blocks, last) = self.parts.pieces();
+        let (blocks, last) = self.pieces();
         for block in blocks {
             fill_each(block.entries(), filter);
         }
@@ -236,6 +309,9 @@ impl<K: MapKey, S: DotStore> DotStore for DotMap<K, S> {
     }
 
     fn is_empty(&self) -> bool {
-        self.count == 0
+        match &self.kept {
+            Some(kept) => kept.is_empty(),
+            None => true,
+        }
     }
 }

@@ -1,6 +1,7 @@
 //! The join of two maps, which shares the blocks that it leaves as they are.
 ghost use Rattle.std.specs.Prelude.{◌≡◌, ◌++◌, [], Some, true, IfOk, OnOk};
 ghost use Rattle.std.specs.Arc.{arc_value};
+ghost use Rattle.std.specs.List.{flat_map};
 ghost use Rattle.std.specs.Option.{option_copied};
 ghost use Rattle.dac_lattice.specs.Entries.{keep, merge_entries};
 ghost use Rattle.dac_lattice.specs.Search.{IsInOrder};
@@ -246,20 +247,21 @@ fn join_block<K: MapKey, S: DotStore>(
     Ok(())
 }
 
-/// The join of two maps. [`NoMemory`] is the only error.
+/// The join of two maps. One is in blocks, with entries after them. [`NoMemory`] is the only error.
 pub(crate) fn join_parts<K: MapKey, S: DotStore>(
     how: &JoinStores<'_>,
-    mine: &Parts<K, S>,
-    theirs: &Parts<K, S>,
+    blocks: &[Arc<Block<K, S>, Global>],
+    last: &[(K, S)],
+    theirs: Entries<'_, K, S>,
 ) -> Result<Parts<K, S>, NoMemory>
-    requires { IsKeyed K.cmp S.is_store S.is_empty mine.now }
+    requires { IsKeyed K.cmp S.is_store S.is_empty
+        (flat_map arc_value blocks.now ++ last.now) }
     ensures { IfOk result (λ joined. joined
-        ≡ join_keyed K.cmp S.nothing S.is_empty S.join mine.now how.now.mine.now theirs.now
-        how.now.theirs.now) }
+        ≡ join_keyed K.cmp S.nothing S.is_empty S.join (flat_map arc_value blocks.now ++ last.now)
+        how.now.mine.now theirs.entry how.now.theirs.now) }
 {
     let mut built = Parts::empty(how.alloc);
-    let mut others = theirs.entries();
-    let (blocks, last) = mine.pieces();
+    let mut others = theirs;
     for block in blocks {
         join_block(how, &mut built, block, &mut others)?;
     }

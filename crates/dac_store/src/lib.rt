@@ -25,6 +25,7 @@ mod appending;
 mod below;
 mod block;
 mod causal;
+mod counted;
 mod dot_fun;
 mod dot_map;
 mod dot_set;

@@ -11,7 +11,6 @@ ghost use Rattle.dac_store.specs.Parts.{IsPartAt};
 use crate::DotStore;
 use crate::appending::ends_below;
 use crate::block::Block;
-use crate::entries::Entries;
 use dac_lattice::merging::value_at;
 use dac_origins::{MapKey, NoMemory};
 use std::alloc::Global;
@@ -63,14 +62,6 @@ impl<K: MapKey, S: DotStore> Parts<K, S> {
         ensures { self.now ≡ flat_map arc_value result.0.now ++ result.1.now }
     {
         (self.blocks.as_slice(), self.last.as_slice())
-    }
-
-    /// The entries, for a reader.
-    pub(crate) fn entries(&self) -> Entries<'_, K, S>
-        ensures { result ≡ self.now }
-    {
-        let (blocks, last) = self.pieces();
-        Entries::of(blocks, last)
     }
 
     /// How many entries there are, if the number fits.

@@ -5,7 +5,7 @@ use Rattle.dac_store.proofs.PartLemmas.{IsFilling, filling_last, filling_more, f
 use Rattle.dac_store.proofs.dot_map.DotMapDotStore.fill.Goals as goal
 
 pub loop-block-init : goal.loop-block-init
-loop-block-init g c = filling_start g.S.DotStore.has c.args.self.now (rest_of arc_value c.pieces.result.0.now c.pieces.result.1.now 0) c.args.filter.now.slots (sym c.pieces.ensures ∙ c.self.view_is)
+loop-block-init g c = filling_start g.S.DotStore.has c.args.self.now (rest_of arc_value c.pieces.result.0.now c.pieces.result.1.now 0) c.args.filter.now.slots (sym c.pieces.ensures)
 
 pub loop-block-preserved : goal.loop-block-preserved
 loop-block-preserved g c =

@@ -5,7 +5,7 @@ use Rattle.dac_store.proofs.PartLemmas.{has_here, has_next, rest_last}
 use Rattle.dac_store.proofs.dot_map.DotMapDotStore.has.Goals as goal
 
 pub loop-block-init : goal.loop-block-init
-loop-block-init g c = ap (λ m. has_in g.S.DotStore.has m c.args.dot) (sym c.pieces.ensures ∙ c.self.view_is)
+loop-block-init g c = ap (λ m. has_in g.S.DotStore.has m c.args.dot) (sym c.pieces.ensures)
 
 pub loop-block-preserved : goal.loop-block-preserved
 loop-block-preserved g c =

@@ -5,8 +5,8 @@ use Rattle.dac_store.proofs.dot_map.DotMapDotStore.is_same.Goals as goal
 
 pub loop-key-init : goal.loop-key-init
 loop-key-init g c = record {
-  decides = λ same. sym (c.entries-mine.ensures ∙ c.self.view_is) ∙ same ∙ (c.entries-theirs.ensures ∙ c.other.view_is);
-  as_many = ap length c.entries-mine.ensures ∙ sym c.self.invariant.counted ∙ c.if-self-other.false ∙ c.other.invariant.counted ∙ sym (ap length c.entries-theirs.ensures);
+  decides = λ same. sym c.entries-mine.ensures ∙ same ∙ c.entries-theirs.ensures;
+  as_many = ap length c.entries-mine.ensures ∙ sym c.len.ensures ∙ c.if-len.false ∙ c.len-2.ensures ∙ sym (ap length c.entries-theirs.ensures);
 }
 
 pub loop-key-preserved : goal.loop-key-preserved

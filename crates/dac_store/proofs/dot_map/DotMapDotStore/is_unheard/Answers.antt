@@ -7,7 +7,7 @@ use Rattle.dac_store.proofs.PartLemmas.{unheard_splits, rest_of, walk_end, walk_
 use Rattle.dac_store.proofs.dot_map.DotMapDotStore.is_unheard.Goals as goal
 
 pub loop-block-init : goal.loop-block-init
-loop-block-init g c = walk_start (λ m. IsUnheard (has_in g.S.DotStore.has m) c.args.heard.now) (rest_of arc_value c.pieces.result.0.now c.pieces.result.1.now 0) c.args.self.now (sym c.pieces.ensures ∙ c.self.view_is)
+loop-block-init g c = walk_start (λ m. IsUnheard (has_in g.S.DotStore.has m) c.args.heard.now) (rest_of arc_value c.pieces.result.0.now c.pieces.result.1.now 0) c.args.self.now (sym c.pieces.ensures)
 
 pub loop-block-preserved : goal.loop-block-preserved
 loop-block-preserved g c =

@@ -13,7 +13,7 @@ pub loop-block-init : goal.loop-block-init
 loop-block-init g c =
     let s = g.S.DotStore in
     walking_start g.K.Ord.cmp s.nothing s.below c.args.heard.now c.args.other_heard.now c.args.self.now c.args.other.now c.entries-mine.result (rest_of arc_value c.pieces.result.0.now c.pieces.result.1.now 0)
-    (c.entries-mine.ensures ∙ c.self.view_is) (sym c.pieces.ensures ∙ c.other.view_is) c.tells_invariant.ensures.in_order (subst (IsInOrder g.K.Ord.cmp) c.other.view_is c.other.invariant.keyed.in_order)
+    c.entries-mine.ensures (sym c.pieces.ensures) c.tells_invariant.ensures.in_order c.tells_invariant-2.ensures.in_order
 
 pub block_below-requires : goal.block_below-requires
 block_below-requires g c =
@@ -37,7 +37,7 @@ loop-block-preserved g c =
 pub returns-then-not-block_below : goal.returns-then-not-block_below
 returns-then-not-block_below g c =
     let s = g.S.DotStore in
-    let each = each_entry g.met.K.Ord.total g.met.K.MapKey.exact (IsBelowAt g.K.Ord.cmp s.nothing s.below c.args.self.now c.args.heard.now c.args.other_heard.now) c.args.other.now (subst (IsInOrder g.K.Ord.cmp) c.other.view_is c.other.invariant.keyed.in_order) in (
+    let each = each_entry g.met.K.Ord.total g.met.K.MapKey.exact (IsBelowAt g.K.Ord.cmp s.nothing s.below c.args.self.now c.args.heard.now c.args.other_heard.now) c.args.other.now c.tells_invariant-2.ensures.in_order in (
       λ e. absurd (false≢true e),
       λ all. absurd (false≢true (sym c.if-not-block_below.true ∙ c.block_below.ensures.below.1
           (rw c.of-filtered.ensures (subst (AtEachEntry (IsBelowAt g.K.Ord.cmp s.nothing s.below c.loop-block.mine c.args.heard.now c.args.other_heard.now)) (sym c.deref.ensures)
@@ -57,7 +57,7 @@ returns g c =
     let s = g.S.DotStore in
     let below = IsBelowAt g.K.Ord.cmp s.nothing s.below c.args.self.now c.args.heard.now c.args.other_heard.now in
     let cleared = λ (k : g.row.K.Denot). g.met.S.DotStore.laws.cleared _ c.args.heard.now c.args.other_heard.now (at_store g.met.K.Ord.total g.met.K.MapKey.exact g.met.S.DotStore.laws _ (c.tells_invariant.ensures.stores k)) in
-    let each = each_entry g.met.K.Ord.total g.met.K.MapKey.exact below c.args.other.now (subst (IsInOrder g.K.Ord.cmp) c.other.view_is c.other.invariant.keyed.in_order) in (
+    let each = each_entry g.met.K.Ord.total g.met.K.MapKey.exact below c.args.other.now c.tells_invariant-2.ensures.in_order in (
       λ e. each_key g.met.K.Ord.total g.met.K.MapKey.exact below cleared c.args.other.now
           (walked_up g.K.Ord.cmp s.nothing s.below c.args.heard.now c.args.other_heard.now arc_value c.pieces.result.0.now c.pieces.result.1.now c.loop-block.block-index c.args.self.now c.args.other.now c.loop-block.mine c.loop-block-test.false c.loop-block.invariant (rw (← c.of-filtered.ensures) (c.are_below.ensures.below.0 e))),
       λ p. c.are_below.ensures.below.1 (rw c.of-filtered.ensures

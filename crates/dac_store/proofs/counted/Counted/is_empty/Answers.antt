@@ -1,7 +1,7 @@
 use Rattle.std.proofs.Common.{◌≡◌, ◌∙◌, nat_eq, ap, length, List, [], ◌∷◌, refl, true, false, arith}
 use Rattle.std.proofs.lemmas.Bool.{eqb-true}
 use Rattle.dac_store.specs.DotFuns.{is_empty_list}
-use Rattle.dac_store.proofs.dot_map.DotMapDotStore.is_empty.Goals as goal
+use Rattle.dac_store.proofs.counted.Counted.is_empty.Goals as goal
 
 none_long : {X : Type 0} (xs : List X) → nat_eq (length xs) 0 ≡ is_empty_list xs
 none_long [] = refl

@@ -1,0 +1,142 @@
+//! The entries of a map, which are counted.
+ghost use Rattle.std.specs.Prelude.{◌≡◌, [], ◌∷◌, ◌++◌, length, false, true, IfOk, OnOk, OnErr};
+ghost use Rattle.std.specs.Arc.{arc_value};
+ghost use Rattle.std.specs.List.{flat_map};
+ghost use Rattle.std.specs.Option.{option_copied};
+ghost use Rattle.std.specs.FinMap.{find};
+ghost use Rattle.dac_store.specs.Appending.{is_above_entries};
+ghost use Rattle.dac_store.specs.DotFuns.{is_empty_list};
+ghost use Rattle.dac_store.specs.DotMaps.{IsKeyed};
+
+use crate::DotStore;
+use crate::block::Block;
+use crate::parts::Parts;
+use dac_origins::{MapKey, NoMemory};
+use std::alloc::{AllocError, Global};
+use std::marker::Model;
+use std::sync::Arc;
+
+/// The entries of a map of stores, and how many there are. Contracts see the list of the entries.
+#[derive(Drop)]
+pub(crate) struct Counted<K: MapKey, S: DotStore> {
+    count: usize,
+    parts: Parts<K, S>,
+}
+
+impl<K: MapKey, S: DotStore> Model for Counted<K, S> {
+    ghost use Rattle.std.specs.Prelude.{List};
+    ghost use Rattle.dac_store.specs.Parts.{IsCounted};
+
+    ghost Value = { List (K × S) };
+
+    ghost view = { λ a. a.parts };
+
+    ghost invariant = { λ a. IsCounted K.cmp S.is_store S.is_empty a.parts a.count };
+}
+
+/// A clone is a copy.
+impl<K: MapKey, S: DotStore> Clone for Counted<K, S> {
+    ghost use Rattle.std.specs.Prelude.{◌≡◌};
+
+    ghost is_clone = { λ counted copied. copied ≡ counted };
+
+    fn clone(&self) -> Result<Self, AllocError> {
+        match self.copy() {
+            Ok(copied) => Ok(copied),
+            Err(_refused) => Err(AllocError),
+        }
+    }
+}
+
+impl<K: MapKey, S: DotStore> Counted<K, S> {
+    /// No entries. It takes no memory.
+    pub(crate) fn empty(alloc: Global) -> Self
+        ensures { result ≡ [] }
+    {
+        Counted {
+            count: 0,
+            parts: Parts::empty(alloc),
+        }
+    }
+
+    /// These entries, which are counted. [`NoMemory`] is the only error, where their number doesn't fit.
+    pub(crate) fn of(parts: Parts<K, S>) -> Result<Self, NoMemory>
+        requires { IsKeyed K.cmp S.is_store S.is_empty parts }
+        ensures { IfOk result (λ counted. counted ≡ parts) }
+    {
+        let Some(count) = parts.count() else {
+            return Err(NoMemory);
+        };
+        Ok(Counted { count, parts })
+    }
+
+    /// The entries are those of a map. This only tells proofs so, and does nothing when it runs.
+    pub(crate) fn tells_invariant(&self)
+        ensures { IsKeyed K.cmp S.is_store S.is_empty self.now }
+    {
+        let _parts = &self.parts;
+    }
+
+    /// The same entries, of which the blocks are shared. [`NoMemory`] is the only error.
+    fn copy(&self) -> Result<Self, NoMemory>
+        ensures { IfOk result (λ copied. copied ≡ self.now) }
+    {
+        let parts = self.parts.copy()?;
+        Ok(Counted {
+            count: self.count,
+            parts,
+        })
+    }
+
+    /// The blocks, and the entries after them.
+    pub(crate) fn pieces(&self) -> (&[Arc<Block<K, S>, Global>], &[(K, S)])
+        ensures { self.now ≡ flat_map arc_value result.0.now ++ result.1.now }
+    {
+        self.parts.pieces()
+    }
+
+    /// How many entries there are.
+    pub(crate) fn len(&self) -> usize
+        ensures { result ≡ length self.now }
+    {
+        self.count
+    }
+
+    /// Whether there are no entries.
+    pub(crate) fn is_empty(&self) -> bool
+        ensures { result ≡ is_empty_list self.now }
+    {
+        self.count == 0
+    }
+
+    /// Whether each key is below this one.
+    pub(crate) fn end_below(&self, key: K) -> bool
+        ensures { result ≡ is_above_entries K.cmp self.now key }
+    {
+        self.parts.end_below(key)
+    }
+
+    /// The store at a key.
+    pub(crate) fn get(&self, key: K) -> Option<&S>
+        ensures { option_copied result ≡ find K.cmp key self.now }
+    {
+        self.parts.get(key)
+    }
+
+    /// Puts an entry at the end, whose key is above all others. Where memory is refused ([`NoMemory`], the only error),
+    /// all stays as it was.
+    pub(crate) fn push(&mut self, key: K, store: S) -> Result<(), NoMemory>
+        requires above { is_above_entries K.cmp self.old key ≡ true }
+        requires store { S.is_store store }
+        requires dots { S.is_empty store ≡ false }
+        ensures ok { OnOk result (self.new ≡ self.old ++ (key, store) ∷ []) }
+        ensures err { OnErr result (self.new ≡ self.old) }
+    {
+        let Some(count) = self.count.checked_add(1) else {
+            return Err(NoMemory);
+        };
+        self.parts.push(key, store)?;
+        self.count = count;
+        Ok(())
+    }
+}
