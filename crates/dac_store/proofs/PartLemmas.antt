@@ -1,17 +1,18 @@
 -- Entries in parts: what holds of the parts holds of the whole, and the other way round.
-use Rattle.std.proofs.Common.{◌≡◌, ℕ, ◌+◌, ◌<◌, ◌≤◌, suc, Bool, true, false, cond, not, ◌&&◌, ◌||◌, ◌⊎◌, T, inl, inr, List, [], ◌∷◌, ◌++◌, Some, length, get_or, take, drop, refl, sym, ap, subst, ◌∙◌, arith, append_assoc, append-nil, length-append, take-append-drop}
+use Rattle.std.proofs.Common.{◌≡◌, ℕ, ◌+◌, ◌-◌, ◌<◌, ◌≤◌, zero, suc, Bool, true, false, cond, not, ◌&&◌, ◌||◌, ◌⊎◌, T, inl, inr, List, [], ◌∷◌, ◌++◌, Some, length, get_or, take, drop, refl, sym, ap, subst, ◌∙◌, arith, append_assoc, append-nil, length-append, take-append-drop}
 use Rattle.std.specs.declared.cmp.Ordering.{Ordering}
 use Rattle.std.specs.declared.cmp.Ordering.TheVariants.{Less, Equal, Greater}
 use Rattle.std.specs.Ordering.{is_lt, is_eq, eq_by_cmp, ordering_reverse}
 use Rattle.std.specs.Cmp.{IsTotalOrder}
-use Rattle.std.specs.List.{flat_map, All}
+use Rattle.std.specs.List.{flat_map, All, AllWithin}
+use Rattle.std.specs.List.Sorted.{IsPartitionPoint, IsPartitionedBy}
 use Rattle.std.specs.FinMap.{find}
 use Rattle.std.specs.FinMap.Entries.{below_all}
 use Rattle.std.specs.FinSet as set
 use Rattle.std.proofs.lemmas.Bool.{false≢true, or_cases, or_left, or_right, and_parts}
 use Rattle.std.proofs.lemmas.Grind.{flat_map-append}
 use Rattle.std.proofs.lemmas.List.{drop_all, drop_more, get_or_append_left, take_all, take_more}
-use Rattle.std.proofs.lemmas.List.Elements.{All-append}
+use Rattle.std.proofs.lemmas.List.Elements.{All-append, All-push, All-tail}
 use Rattle.std.proofs.lemmas.List.Folds.{list_any-append, list_all-append}
 use Rattle.std.proofs.lemmas.Map.Lookups.{CmpEqualImpliesEq}
 use Rattle.dac_origins.specs.Dots.{Dots}
@@ -20,9 +21,10 @@ use Rattle.dac_lattice.specs.Search.{AtEachEntry, IsInOrder}
 use Rattle.dac_lattice.specs.laws.Entries.{find_below}
 use Rattle.dac_lattice.specs.laws.EntryLaws.{first, second, less, greater, each_entry}
 use Rattle.dac_store.specs.Appending.{is_above_entries}
+use Rattle.dac_store.specs.laws.Appending.{above_before, above_last_entry}
 use Rattle.dac_dots.specs.DotFilters.{AreApart, MayHaveAll, may_have}
 use Rattle.dac_store.specs.DotMaps.{IsKept, IsKeyed, has_in, store_at}
-use Rattle.dac_store.specs.Parts.{IsBelowAt, IsPartAt, MayHoldAll}
+use Rattle.dac_store.specs.Parts.{HaveEntries, IsBelowAt, IsPartAt, MayHoldAll}
 use Rattle.dac_store.specs.Joining.{AreKept}
 use Rattle.dac_store.specs.Stores.{IsDotStore, IsHeld, IsUnheard}
 use Rattle.dac_store.proofs.Passing.{has_at}
@@ -72,6 +74,10 @@ module _ {E B : Type 0} (value : B → List E) where
       ap (flat_map value) pushed
       ∙ flat_map-append value blocks (b ∷ [])
       ∙ ap (λ l. flat_map value blocks ++ l) (append-nil (value b) ∙ is)
+
+  -- which has entries
+  pub one_filled : (blocks new : List B) (b : B) → HaveEntries value blocks → new ≡ blocks ++ b ∷ [] → 0 < length (value b) → HaveEntries value new
+  one_filled blocks new b full pushed here = subst (HaveEntries value) (sym pushed) (All-push (λ b. 0 < length (value b)) blocks b full here)
 
   -- one block more is shared
   pub one_shared : (blocks done new : List B) (i : ℕ) (b c : B) → i < length blocks → b ≡ get_or blocks i b → flat_map value done ≡ flat_map value (take i blocks) → value c ≡ value b → new ≡ done ++ c ∷ []
@@ -285,6 +291,70 @@ module _ {K X : Type 0} {R : K → K → Ordering} (o : IsTotalOrder R) (exact :
       found = sym (find_here k (value b) (rest_of value blocks last (i + 1)) part_sorted not) ∙ part_found;
       above = not ∙ sym (ap (λ t. t && is_above_entries R (rest_of value blocks last (i + 1)) k) not) ∙ part_above;
     }
+
+  -- ---- a search among blocks
+
+  module _ {B : Type 0} (value : B → List (K × X)) (k : K) where
+    abbrev is_below : B → Bool
+    is_below b = is_above_entries R (value b) k
+
+    -- its last key is below the key
+    abbrev pub last_below : B → Bool
+    last_below b = is_above_entries R (drop (length (value b) - 1) (value b)) k
+
+    last_decides : (blocks : List B) (i : ℕ) (d : B) → IsInOrder R (flat_map value blocks) → i < length blocks → last_below (get_or blocks i d) ≡ is_below (get_or blocks i d)
+    last_decides [] i d s p = absurd (omega arith)
+    last_decides (b ∷ blocks) zero d s p = above_last_entry o (value b) k (sorted_left R (value b) (flat_map value blocks) s)
+    last_decides (b ∷ blocks) (suc i) d s p = last_decides blocks i d (sorted_right R (value b) (flat_map value blocks) s) (omega arith)
+
+    -- where a block is below the key, so are entries before it
+    below_before : (xs : List (K × X)) (blocks : List B) (i : ℕ) (d : B) → IsInOrder R (xs ++ flat_map value blocks) → HaveEntries value blocks → i < length blocks → is_below (get_or blocks i d) ≡ true → is_above_entries R xs k ≡ true
+    below_before xs [] i d s full p h = absurd (omega arith)
+    below_before xs (b ∷ blocks) i d s full p h =
+        let next : IsInOrder R ((xs ++ value b) ++ flat_map value blocks) = subst (IsInOrder R) (sym (append_assoc xs (value b) (flat_map value blocks))) s in
+        elim i as (λ i. i < length (b ∷ blocks) → is_below (get_or (b ∷ blocks) i d) ≡ true → is_above_entries R xs k ≡ true) [
+          | zero ↦ λ p h. above_before o xs (value b) k (sorted_left R (xs ++ value b) (flat_map value blocks) next) (full 0 b (omega arith)) h
+          | suc j ↦ λ p h. (and_parts _ _ (sym (above_parts R k xs (value b)) ∙ below_before (xs ++ value b) blocks j d next (All-tail (λ b. 0 < length (value b)) b blocks full) (omega arith) h)).0
+        ] p h
+
+    parted : (blocks : List B) → IsInOrder R (flat_map value blocks) → HaveEntries value blocks → IsPartitionedBy is_below blocks
+    parted [] s full i j d q p h = absurd (omega arith)
+    parted (b ∷ blocks) s full zero zero d q p h = h
+    parted (b ∷ blocks) s full zero (suc j) d q p h = below_before (value b) blocks j d s (All-tail (λ b. 0 < length (value b)) b blocks full) (omega arith) h
+    parted (b ∷ blocks) s full (suc i) zero d q p h = absurd (omega arith)
+    parted (b ∷ blocks) s full (suc i) (suc j) d q p h = parted blocks (sorted_right R (value b) (flat_map value blocks) s) (All-tail (λ b. 0 < length (value b)) b blocks full) i j d (omega arith) (omega arith) h
+
+    parted_by_last : (blocks : List B) → IsInOrder R (flat_map value blocks) → HaveEntries value blocks → IsPartitionedBy last_below blocks
+    parted_by_last blocks s full i j d q p h = last_decides blocks i d s (omega arith) ∙ parted blocks s full i j d q p (sym (last_decides blocks j d s p) ∙ h)
+
+    -- past blocks below the key
+    parts_past : (blocks : List B) (last whole : List (K × X)) (i : ℕ) → IsPartAt R k whole (flat_map value blocks ++ last) → AllWithin (λ b. is_below b ≡ true) blocks 0 i → i ≤ length blocks → IsPartAt R k whole (rest_of value blocks last i)
+    parts_past blocks last whole zero part below p = part
+    parts_past [] last whole (suc i) part below p = absurd (omega arith)
+    parts_past (b ∷ blocks) last whole (suc i) part below p =
+        parts_past blocks last whole i
+        (part_past value k (b ∷ blocks) last 0 b whole (omega arith) refl part (below 0 b (omega arith) (omega arith)))
+        (λ j d q r. below (suc j) d (omega arith) (omega arith)) (omega arith)
+
+    module _ (blocks : List B) (last whole : List (K × X)) (s : IsInOrder R whole) (split : flat_map value blocks ++ last ≡ whole) (full : HaveEntries value blocks) (place : ℕ) (bound : place ≤ length blocks) (found : IsPartitionedBy last_below blocks → IsPartitionPoint (λ b. last_below b ≡ true) (λ b. last_below b ≡ false) blocks place) where
+      in_blocks : IsInOrder R (flat_map value blocks)
+      in_blocks = sorted_left R (flat_map value blocks) last (subst (IsInOrder R) (sym split) s)
+
+      point : IsPartitionPoint (λ b. last_below b ≡ true) (λ b. last_below b ≡ false) blocks place
+      point = found (parted_by_last blocks in_blocks full)
+
+      past : IsPartAt R k whole (rest_of value blocks last place)
+      past = parts_past blocks last whole place (part_whole k whole (flat_map value blocks ++ last) s (sym split)) (λ j d q p. sym (last_decides blocks j d in_blocks (omega arith)) ∙ point.0 j d q p) bound
+
+      -- the first block that isn't below the key
+      pub part_found_at : (b : B) → place < length blocks → b ≡ get_or blocks place b → IsPartAt R k whole (value b)
+      part_found_at b p is =
+          part_here value k blocks last place b whole p is past
+          (ap is_below is ∙ sym (last_decides blocks place b in_blocks p) ∙ point.1 place b (omega arith) p)
+
+      -- none is left, as all are below it
+      pub part_at_last : length blocks ≤ place → IsPartAt R k whole last
+      part_at_last p = subst (IsPartAt R k whole) (rest_last value blocks last place p) past
 
 -- ---- stores with dots
 

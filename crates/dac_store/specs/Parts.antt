@@ -1,6 +1,7 @@
 -- Entries in parts.
-use Rattle.std.specs.Prelude.{◌≡◌, ℕ, Bool, true, false, List, [], Option, None, Some, length}
+use Rattle.std.specs.Prelude.{◌≡◌, ℕ, ◌<◌, Bool, true, false, List, [], Option, None, Some, length}
 use Rattle.std.specs.Arc.{arc_value}
+use Rattle.std.specs.List.{All}
 use Rattle.std.specs.declared.sync.Arc.{Arc}
 use Rattle.std.specs.declared.cmp.Ordering.{Ordering}
 use Rattle.std.specs.Ordering.{is_lt}
@@ -15,6 +16,10 @@ use Rattle.dac_store.specs.DotMaps.{IsKeyed, has_in, store_at}
 -- each dot of the entries has its slot set
 abbrev pub MayHoldAll : {K S : Type 0} → (S → Dot → Bool) → List ℕ → List (K × S) → Type 0
 MayHoldAll has slots m = (x : Dot) → has_in has m x ≡ true → may_have slots x ≡ true
+
+-- each block has entries
+abbrev pub HaveEntries : {B E : Type 0} → (B → List E) → List B → Type 0
+HaveEntries value blocks = All (λ b. 0 < length (value b)) blocks
 
 -- a part of some entries among which a key would be
 pub record IsPartAt {K X : Type 0} (R : K → K → Ordering) (key : K) (whole part : List (K × X)) : Type 0 where

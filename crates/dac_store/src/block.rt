@@ -31,10 +31,11 @@ impl<K: MapKey, S: DotStore> Model for Block<K, S> {
 }
 
 impl<K: MapKey, S: DotStore> Block<K, S> {
-    /// A block of these entries. [`NoMemory`] is the only error.
-    pub(crate) fn of(alloc: Global, entries: Vec<(K, S)>) -> Result<Arc<Self, Global>, NoMemory>
+    /// A block of these entries, which keeps no room for more. [`NoMemory`] is the only error.
+    pub(crate) fn of(alloc: Global, mut entries: Vec<(K, S)>) -> Result<Arc<Self, Global>, NoMemory>
         ensures { IfOk result (λ block. arc_value block ≡ entries.items) }
     {
+        entries.shrink_to_fit();
         let mut filter = DotFilter::none();
         fill_each(&entries, &mut filter);
         let block = Arc::new(alloc, Block { filter, entries })?;

@@ -6,10 +6,10 @@ ghost use Rattle.std.specs.Option.{option_copied};
 ghost use Rattle.std.specs.FinMap.{find};
 ghost use Rattle.dac_lattice.specs.Search.{IsInOrder};
 ghost use Rattle.dac_store.specs.Appending.{is_above_entries};
-ghost use Rattle.dac_store.specs.Parts.{IsPartAt};
+ghost use Rattle.dac_store.specs.Parts.{HaveEntries, IsPartAt};
 
 use crate::DotStore;
-use crate::appending::ends_below;
+use crate::appending::{ends_below, last_is_below};
 use crate::block::Block;
 use dac_lattice::merging::value_at;
 use dac_origins::{MapKey, NoMemory};
@@ -35,10 +35,14 @@ impl<K: MapKey, S: DotStore> Model for Parts<K, S> {
     ghost use Rattle.std.specs.Prelude.{List, ◌++◌};
     ghost use Rattle.std.specs.List.{flat_map};
     ghost use Rattle.std.specs.Arc.{arc_value};
+    ghost use Rattle.dac_store.specs.Parts.{HaveEntries};
 
     ghost Value = { List (K × S) };
 
     ghost view = { λ a. flat_map arc_value a.blocks.items ++ a.last.items };
+
+    // An empty block would hide those before it from a search.
+    ghost invariant = { λ a. HaveEntries arc_value a.blocks.items };
 }
 
 impl<K: MapKey, S: DotStore> Parts<K, S> {
@@ -84,14 +88,13 @@ impl<K: MapKey, S: DotStore> Parts<K, S> {
         requires { IsInOrder K.cmp self.now }
         ensures { IsPartAt K.cmp key self.now result.now }
     {
-        let (blocks, last) = self.pieces();
-        for block in blocks {
-            let entries = block.entries();
-            if !ends_below(entries, key) {
-                return entries;
-            }
+        let place = self
+            .blocks
+            .partition_point(|block| last_is_below(block.entries(), key));
+        match self.blocks.get(place) {
+            Some(block) => block.entries(),
+            None => self.last.as_slice(),
         }
-        last
     }
 
     /// Whether each key of the entries, which are in order, is below this one.
@@ -115,9 +118,8 @@ impl<K: MapKey, S: DotStore> Parts<K, S> {
         ensures { IfOk result (λ copied. copied ≡ self.now) }
     {
         let alloc = self.allocator();
-        let (blocks, last) = self.pieces();
-        let shared = share_blocks(alloc, blocks)?;
-        let copied = copy_entries(alloc, last)?;
+        let shared = share_blocks(alloc, self.blocks.as_slice())?;
+        let copied = copy_entries(alloc, self.last.as_slice())?;
         Ok(Parts {
             blocks: shared,
             last: copied,
@@ -156,6 +158,9 @@ impl<K: MapKey, S: DotStore> Parts<K, S> {
     pub(crate) fn share(&mut self, block: &Arc<Block<K, S>, Global>) -> Result<(), NoMemory>
         ensures { OnOk result (self.new ≡ self.old ++ arc_value block.now) }
     {
+        if block.entries().is_empty() {
+            return Ok(());
+        }
         let open = self.last.len();
         seal(&mut self.blocks, &mut self.last, open)?;
         self.blocks.push(Arc::try_clone(block)?)?;
@@ -171,6 +176,8 @@ fn seal<K: MapKey, S: DotStore>(
     count: usize,
 ) -> Result<(), NoMemory>
     requires { count ≤ length last.old.items }
+    ensures filled { HaveEntries arc_value blocks.old.items
+        → HaveEntries arc_value blocks.new.items }
     ensures sealed { OnOk result
         (flat_map arc_value blocks.new.items
         ≡ flat_map arc_value blocks.old.items ++ take count last.old.items) }
@@ -192,7 +199,9 @@ fn share_blocks<K: MapKey, S: DotStore>(
     alloc: Global,
     blocks: &[Arc<Block<K, S>, Global>],
 ) -> Result<Vec<Arc<Block<K, S>, Global>>, NoMemory>
-    ensures { IfOk result
+    requires { HaveEntries arc_value blocks.now }
+    ensures filled { IfOk result (λ shared. HaveEntries arc_value shared.items) }
+    ensures same { IfOk result
         (λ shared. flat_map arc_value shared.items ≡ flat_map arc_value blocks.now) }
 {
     let mut shared = Vec::with_capacity(alloc, blocks.len())?;

@@ -1,6 +1,6 @@
 -- Laws of the definitions in `Appending`.
 use Rattle.std.specs.Prelude.{◌≡◌, ℕ, ◌+◌, ◌-◌, ◌<◌, ◌≤◌, Bool, true, false, cond, ◌&&◌, T, List, [], ◌∷◌, ◌++◌, length, Option, None, Some, unwrap_or, refl}
-use Rattle.std.proofs.Common.{sym, ap, subst, ◌∙◌, arith, zero, suc}
+use Rattle.std.proofs.Common.{sym, ap, subst, ◌∙◌, arith, zero, suc, take, drop, length-drop, take-append-drop}
 use Rattle.std.specs.declared.cmp.Ordering.{Ordering}
 use Rattle.std.specs.Ordering.{is_lt, eq_by_cmp}
 use Rattle.std.specs.Cmp.{IsTotalOrder}
@@ -9,6 +9,7 @@ use Rattle.std.specs.FinMap.{find, is_sorted}
 use Rattle.std.specs.FinMap.Entries.{below_all}
 use Rattle.std.proofs.Math.Bool.{and-true}
 use Rattle.std.proofs.lemmas.Bool.{and_parts, and_from}
+use Rattle.std.proofs.lemmas.List.Folds.{list_all-append}
 use Rattle.dac_origins.specs.Keys.{is_below_all, IsRising}
 use Rattle.dac_origins.specs.laws.InOrder.{less}
 use Rattle.dac_lattice.specs.laws.EntryLaws.{first, second, less as below}
@@ -64,20 +65,30 @@ module _ {K : Type 0} {R : K → K → Ordering} (o : IsTotalOrder R) where
   rising_appended (x ∷ ks) k h a = and_from _ _ (rising_below x ks k (and_parts _ _ h).0 (and_parts _ _ a).0) (rising_appended ks k (and_parts _ _ h).1 (and_parts _ _ a).1)
 
 module _ {K X : Type 0} {R : K → K → Ordering} (o : IsTotalOrder R) where
-  entry_at : (x : K) (es : List (K × X)) (i : ℕ) (y : K × X) → T (below_all R x es) → slice_get es i ≡ Some y → is_lt (R x y.0) ≡ true
-  entry_at x [] i y h e = absurd (nothing e)
-  entry_at x (z ∷ es) zero y h e = ap (λ (r : Option (K × X)). is_lt (R x (unwrap_or r z).0)) (sym e) ∙ ap is_lt (below (R x z.0) (first _ _ h))
-  entry_at x (z ∷ es) (suc i) y h e = entry_at x es i y (second _ _ h) e
+  below_later : (x : K) (xs ys : List (K × X)) (y : K × X) → T (below_all R x (xs ++ y ∷ ys)) → is_lt (R x y.0) ≡ true
+  below_later x [] ys y h = ap is_lt (below (R x y.0) (first _ _ h))
+  below_later x (z ∷ xs) ys y h = below_later x xs ys y (second _ _ h)
+
+  -- a key above some entries is above those before them
+  pub above_before : (xs ys : List (K × X)) (k : K) → T (is_sorted R (xs ++ ys)) → 0 < length ys → is_above_entries R ys k ≡ true → is_above_entries R xs k ≡ true
+  above_before [] ys k h p a = refl
+  above_before (x ∷ xs) [] k h p a = absurd (omega arith)
+  above_before (x ∷ xs) (y ∷ ys) k h p a =
+      and_from _ _
+      (ap is_lt (o.trans x.0 y.0 k (less _ (below_later x.0 xs ys y (first _ _ h))) (less _ (and_parts _ _ a).0)))
+      (above_before xs (y ∷ ys) k (second _ _ h) p a)
 
   -- a key is above entries in order exactly if it is above the last one
-  pub above_last_entry : (es : List (K × X)) (i : ℕ) (last : K × X) (k : K) → T (is_sorted R es) → length es ≤ i + 1 → slice_get es i ≡ Some last → is_above_entries R es k ≡ is_lt (R last.0 k)
-  above_last_entry [] i last k h p e = absurd (nothing e)
-  above_last_entry (x ∷ []) zero last k h p e = and-true _ ∙ ap (λ (r : Option (K × X)). is_lt (R (unwrap_or r x).0 k)) e
-  above_last_entry (x ∷ []) (suc i) last k h p e = absurd (nothing e)
-  above_last_entry (x ∷ y ∷ ys) zero last k h p e = absurd (omega arith)
-  above_last_entry (x ∷ y ∷ ys) (suc i) last k h p e =
-      ap (λ b. is_lt (R x.0 k) && b) (above_last_entry (y ∷ ys) i last k (second _ _ h) (omega arith) e)
-      ∙ implied (is_lt (R x.0 k)) (is_lt (R last.0 k)) (λ t. ap is_lt (o.trans x.0 last.0 k (less _ (entry_at x.0 (y ∷ ys) i last (first _ _ h) e)) (less _ t)))
+  pub above_last_entry : (es : List (K × X)) (k : K) → T (is_sorted R es) → is_above_entries R (drop (length es - 1) es) k ≡ is_above_entries R es k
+  above_last_entry [] k h = refl
+  above_last_entry (x ∷ xs) k h =
+      let es = x ∷ xs in
+      let n = length es - 1 in
+      let split : take n es ++ drop n es ≡ es = take-append-drop n es in
+      let rest : length (drop n es) ≡ length es - n = length-drop n es in
+      sym (implied _ _ (above_before (take n es) (drop n es) k (subst (λ l. T (is_sorted R l)) (sym split) h) (omega (arith, rest))))
+      ∙ sym (list_all-append (λ (e : K × X). is_lt (R e.0 k)) (take n es) (drop n es))
+      ∙ ap (λ l. is_above_entries R l k) split
 
   sorted_below : (x : K) (es : List (K × X)) (e : K × X) → T (below_all R x es) → is_lt (R x e.0) ≡ true → T (below_all R x (es ++ e ∷ []))
   sorted_below x [] e h t = both _ _ (subst T (sym t) tt) tt

@@ -1,29 +1,27 @@
-use Rattle.std.proofs.Common.{◌∙◌, ap, sym, subst}
+use Rattle.std.proofs.Common.{◌∙◌, rules, subst, sym}
 use Rattle.std.specs.Arc.{arc_value}
-use Rattle.dac_lattice.specs.Search.{IsInOrder}
-use Rattle.dac_store.specs.Appending.{is_above_entries}
+use Rattle.std.proofs.lemmas.List.Sorted.{IsPartitionPoint-from_clause}
 use Rattle.dac_store.specs.Parts.{IsPartAt}
-use Rattle.dac_store.proofs.PartLemmas.{block_sorted, part_here, part_past, part_whole, rest_last, rest_of}
+use Rattle.dac_store.proofs.PartLemmas.{last_below, part_at_last, part_found_at}
 use Rattle.dac_store.proofs.parts.Parts.part_at.Goals as goal
 
-pub loop-block-init : goal.loop-block-init
-loop-block-init g c = part_whole g.met.K.Ord.total g.met.K.MapKey.exact c.args.key c.args.self.now (rest_of arc_value c.pieces.result.0.now c.pieces.result.1.now 0) c.requires c.pieces.ensures
+pub returns-in-Some : goal.returns-in-Some
+returns-in-Some g c =
+    let o = g.met.K.Ord.total in
+    let exact = g.met.K.MapKey.exact in
+    let search_ends = rw c.deref.ensures.value at c.partition_point-place.ensures in
+    let lookup = rw c.deref-2.ensures.value at c.in-Some.ensures.lookup in
+    subst (IsPartAt g.K.Ord.cmp c.args.key c.args.self.now) (sym (c.entries.ensures ∙ c.deref-in-Some.ensures))
+    (part_found_at o exact arc_value c.args.key _ _ _ c.requires c.self.view_is c.self.invariant _ search_ends.bound
+    (λ parted. IsPartitionPoint-from_clause (last_below o exact arc_value c.args.key) _ _ search_ends.partitioned parted (λ a r q k. search rules))
+    c.in-Some.block.now lookup.3.0 (lookup.3.1 c.in-Some.block.now))
 
-pub ends_below-requires : goal.ends_below-requires
-ends_below-requires g c =
-    subst (IsInOrder g.K.Ord.cmp) (sym (c.entries-entries.ensures ∙ c.deref.ensures))
-    (block_sorted g.met.K.Ord.total g.met.K.MapKey.exact arc_value c.args.key c.pieces.result.0.now c.pieces.result.1.now c.loop-block.block-index c.block-item.result c.args.self.now c.loop-block-test.true c.block-item.is c.loop-block.invariant)
-
-pub loop-block-preserved : goal.loop-block-preserved
-loop-block-preserved g c =
-    part_past g.met.K.Ord.total g.met.K.MapKey.exact arc_value c.args.key c.pieces.result.0.now c.pieces.result.1.now c.loop-block.block-index c.block-item.result c.args.self.now c.loop-block-test.true c.block-item.is c.loop-block.invariant
-    (ap (λ m. is_above_entries g.K.Ord.cmp m c.args.key) (sym (c.entries-entries.ensures ∙ c.deref.ensures)) ∙ sym c.ends_below.ensures ∙ c.if-not-ends_below.false)
-
-pub returns-then-not-ends_below : goal.returns-then-not-ends_below
-returns-then-not-ends_below g c =
-    subst (IsPartAt g.K.Ord.cmp c.args.key c.args.self.now) (sym (c.entries-entries.ensures ∙ c.deref.ensures))
-    (part_here g.met.K.Ord.total g.met.K.MapKey.exact arc_value c.args.key c.pieces.result.0.now c.pieces.result.1.now c.loop-block.block-index c.block-item.result c.args.self.now c.loop-block-test.true c.block-item.is c.loop-block.invariant
-    (ap (λ m. is_above_entries g.K.Ord.cmp m c.args.key) (sym (c.entries-entries.ensures ∙ c.deref.ensures)) ∙ sym c.ends_below.ensures ∙ c.if-not-ends_below.true))
-
-pub returns : goal.returns
-returns g c = subst (IsPartAt g.K.Ord.cmp c.args.key c.args.self.now) (rest_last arc_value c.pieces.result.0.now c.pieces.result.1.now c.loop-block.block-index c.loop-block-test.false) c.loop-block.invariant
+pub returns-in-None : goal.returns-in-None
+returns-in-None g c =
+    let o = g.met.K.Ord.total in
+    let exact = g.met.K.MapKey.exact in
+    let search_ends = rw c.deref.ensures.value at c.partition_point-place.ensures in
+    subst (IsPartAt g.K.Ord.cmp c.args.key c.args.self.now) (sym c.as_slice.ensures.value)
+    (part_at_last o exact arc_value c.args.key _ _ _ c.requires c.self.view_is c.self.invariant _ search_ends.bound
+    (λ parted. IsPartitionPoint-from_clause (last_below o exact arc_value c.args.key) _ _ search_ends.partitioned parted (λ a r q k. search rules))
+    (rw c.deref-2.ensures.value at c.in-None.ensures.lookup.3))
