@@ -67,7 +67,7 @@ fn is_kept<S: DotStore>(alloc: Global, store: &S, context: &Context) -> Result<b
     let unheard = Context::empty(alloc);
     let nothing = S::empty(store.allocator());
     let kept = store.copy()?.join_in(context, &nothing, &unheard)?;
-    Ok(kept.has(dot(0, 1)))
+    Ok(kept.has(dot(0, 1)) && kept.is_same(store) && !nothing.is_same(store))
 }
 
 /// Whether a store of the first dot is kept and cleared.
