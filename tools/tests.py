@@ -1,11 +1,12 @@
 """The tests of the tools: readers over small texts, and what they say of this repository."""
 
+import contextlib
 import io
 import pathlib
 import runpy
 import tempfile
 import unittest
-from typing import Dict, Iterator, List
+from typing import Dict, Iterator, List, Sequence, Tuple
 
 from tools.code_types import declarations_in
 from tools.contracts import Sources, clauses_of, head_of
@@ -16,6 +17,7 @@ from tools.modules import Definition, Module, Modules
 from tools.promises import Cited, Promises, promises_of
 from tools.resting import Resting
 from tools.tables import cells_of, line_of
+from tools.verdicts import Record, checksums
 from tools.views import Views
 
 MODULE = """-- What the module has.
@@ -173,11 +175,139 @@ class MutantsTest(unittest.TestCase):
     def test_verdicts(self) -> None:
         script = runpy.run_path(str(HERE / "mutants"), run_name="mutants")
         names = ["at_a_goal.edit", "by_a_limit.edit", "by_a_name.edit", "left_out.edit", "the_same.edit"]
-        tried = script["Tried"]("dac_a", script["verdicts_in"](SAID_BY_THE_GATE, names))
+        tried = script["Tried"]("dac_a", script["verdicts_in"](SAID_BY_THE_GATE, names), 0)
         self.assertEqual(tried.refused(), [f"dac_a/{name}" for name in names[:3]])
         self.assertEqual(tried.refused_by("name"), ["dac_a/by_a_name.edit"])
         self.assertEqual(tried.refused_by("limit"), ["dac_a/by_a_limit.edit"])
         self.assertEqual((tried.lost(), tried.verdicts["left_out.edit"]), (2, "NOT TRIED"))
+
+
+# A repository of three crates, of which the last names the second alone.
+FILES = {
+    "crates.txt": "# Each crate.\n# Base: all.\ndac_low:\ndac_mid: dac_low thiserror\ndac_top: dac_mid\n",
+    "crates/dac_low/specs/Low.antt": "low",
+    "crates/dac_mid/specs/Mid.antt": "mid",
+    "crates/dac_mid/specs/laws.antt": "pub mod Law",
+    "crates/dac_mid/specs/laws/Law.antt": "law",
+    "crates/dac_mid/proofs/Proof.antt": "proof",
+    "crates/dac_mid/src/lib.rt": "pub fn f() -> u8\n    // why\n    ensures { A }\n{\n    1\n}\n",
+    "crates/dac_top/src/lib.rt": "code",
+    "crates/dac_top/proofs/Proof.antt": "proof",
+    "crates/dac_top/mutants/first.edit": "old: a",
+    "crates/dac_top/mutants/second.edit": "old: b",
+}
+# What a verdict on a mutant of the last crate doesn't rest on, and what it rests on: a file, and its new text.
+UNSEEN: Sequence[Tuple[str, str]] = (
+    ("crates/dac_low/specs/Low.antt", "changed"),
+    ("crates/dac_mid/specs/laws/Law.antt", "changed"),
+    ("crates/dac_mid/specs/laws.antt", "changed"),
+    ("crates/dac_mid/proofs/Proof.antt", "changed"),
+    ("crates/dac_mid/specs/Mid.antt", "-- what it is\n\nmid"),
+    ("crates/dac_top/src/lib.rt", "// why\ncode\n"),
+    ("crates/dac_mid/src/lib.rt", "fn g() {\n    0\n}\n\npub fn f() -> u8\n    ensures { A }\n{\n    2\n}\n"),
+)
+SEEN: Sequence[Tuple[str, str]] = (
+    ("crates.txt", FILES["crates.txt"].replace("dac_top: dac_mid", "dac_top: dac_mid dac_low")),
+    ("crates/dac_mid/specs/Mid.antt", "changed"),
+    ("crates/dac_mid/src/lib.rt", FILES["crates/dac_mid/src/lib.rt"].replace("A", "B")),
+    ("crates/dac_top/src/lib.rt", "changed"),
+    ("crates/dac_top/proofs/Proof.antt", "changed"),
+    ("crates/dac_top/specs/New.antt", "new"),
+    ("crates/dac_top/mutants/first.edit", "old: c"),
+)
+REFUSED, MISSED = "refused, as it must be: note: src/lib.rt:3:1", "NOT REFUSED: the crate is still proved"
+
+
+class RecordTest(unittest.TestCase):
+    """The record of what came of mutants."""
+
+    def setUp(self) -> None:
+        room = tempfile.TemporaryDirectory()
+        self.addCleanup(room.cleanup)
+        self.root = pathlib.Path(room.name) / "repository"
+        self.copy = pathlib.Path(room.name) / "copy"
+        for name, text in FILES.items():
+            self.write(self.root, name, text)
+            self.write(self.copy, name.replace("/mutants/", "/must-fail/"), text)
+        self.record = Record(self.root, "a toolchain")
+
+    def write(self, root: pathlib.Path, name: str, text: str) -> None:
+        """Writes a file."""
+        (root / name).parent.mkdir(parents=True, exist_ok=True)
+        (root / name).write_text(text, encoding="utf-8")
+
+    def test_what_is_added_is_known(self) -> None:
+        self.assertEqual(self.record.known("dac_top"), {})
+        self.record.add("dac_top", self.copy, {"first.edit": REFUSED + " "})
+        self.record.add("dac_top", self.copy, {"second.edit": MISSED})
+        self.assertEqual(self.record.known("dac_top"), {"first.edit": REFUSED, "second.edit": MISSED})
+        self.assertEqual(Record(self.root, "another one").known("dac_top"), {})
+
+    def test_rows_of_other_texts_are_not_known(self) -> None:
+        self.write(self.copy, "crates/dac_top/src/lib.rt", "as it was when the copy was made")
+        self.record.add("dac_top", self.copy, {"first.edit": REFUSED})
+        self.assertEqual((self.record.known("dac_top"), list(self.record.rows("dac_top"))), ({}, ["first.edit"]))
+
+    def test_rows_go_with_their_mutants(self) -> None:
+        self.record.add("dac_top", self.copy, {"first.edit": REFUSED})
+        (self.root / "crates/dac_top/mutants/first.edit").unlink()
+        self.record.add("dac_top", self.copy, {"second.edit": REFUSED})
+        self.assertEqual(list(self.record.rows("dac_top")), ["second.edit"])
+
+    def test_what_a_verdict_rests_on(self) -> None:
+        before = self.checksum()
+        for changes, is_seen in ((UNSEEN, False), (SEEN, True)):
+            for name, text in changes:
+                self.write(self.root, name, text)
+                self.assertEqual(self.checksum() != before, is_seen, (name, text))
+                if name in FILES:
+                    self.write(self.root, name, FILES[name])
+                else:
+                    (self.root / name).unlink()
+        self.assertEqual(self.checksum(), before)
+
+    def checksum(self) -> str:
+        """The checksum of what the first mutant rests on."""
+        mutant = self.root / "crates/dac_top/mutants/first.edit"
+        return checksums(self.root, "dac_top", "a toolchain", [mutant])["first.edit"]
+
+    def test_counts(self) -> None:
+        script = runpy.run_path(str(HERE / "mutants"), run_name="mutants")
+        states_of = script["states_of"]
+        states_of.__globals__["HERE"] = self.root
+        self.record.add("dac_top", self.copy, {"first.edit": REFUSED, "second.edit": MISSED})
+        self.write(self.root, "crates/dac_top/mutants/third.edit", "old: c")
+        said = script["counted"](states_of("dac_top", self.record))
+        self.assertEqual(said, "1 refused, 1 not refused, 0 tried on an older text, 1 never tried")
+        self.write(self.root, "crates/dac_top/src/lib.rt", "changed")
+        said = script["counted"](states_of("dac_top", self.record))
+        self.assertEqual(said, "0 refused, 0 not refused, 2 tried on an older text, 1 never tried")
+
+    def test_portions(self) -> None:
+        portions = runpy.run_path(str(HERE / "mutants"), run_name="mutants")["portions"]
+        self.assertEqual(portions(["a", "b", "c"], 2), [["a", "b"], ["c"]])
+        self.assertEqual((portions(["a", "b"], 0), portions([], 0)), ([["a", "b"]], []))
+
+    def test_what_is_recorded_is_not_tried(self) -> None:
+        script = runpy.run_path(str(HERE / "mutants"), run_name="mutants")
+        tried: List[List[str]] = []
+
+        def said_of(_crate: str, copy: pathlib.Path, _jobs: int) -> List[str]:
+            names = sorted(one.name for one in (copy / "crates/dac_top/must-fail").iterdir())
+            tried.append(names)
+            return [f"rt: must-fail dac_top/{name}: {REFUSED}" for name in names if name != "third.edit"]
+
+        script["try_crate"].__globals__.update(HERE=self.root, said_of=said_of)
+        self.write(self.root, "HANDLES", "Handles allowed: none.")
+        self.record.add("dac_top", self.copy, {"first.edit": MISSED})
+        self.write(self.root, "crates/dac_top/mutants/third.edit", "old: c")
+        with contextlib.redirect_stdout(io.StringIO()) as said:
+            found = script["try_crate"]("dac_top", script["How"](1, self.record, 0))
+        self.assertEqual(tried, [["second.edit", "third.edit"]])
+        self.assertEqual(found.verdicts, {"first.edit": MISSED, "second.edit": REFUSED, "third.edit": "NOT TRIED"})
+        self.assertEqual(self.record.known("dac_top"), {"first.edit": MISSED, "second.edit": REFUSED})
+        last = said.getvalue().splitlines()[-1]
+        self.assertEqual(last, "dac_top ends: 1 refused, 2 not refused; 1 were tried by an earlier run")
 
 
 def faults_of_tests() -> Iterator[str]:

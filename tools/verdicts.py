@@ -1,0 +1,116 @@
+"""The record of what came of mutants: a file crates/NAME/mutants/verdicts.tsv for each crate, which `./mutants --record` writes.
+
+A row has a mutant's name, the checksum of what its verdict rests on, and the verdict as the toolchain said it. The rows of
+several runs, on several machines, add up as long as nothing that they rest on changes. A row is the word of whoever committed it.
+"""
+
+import hashlib
+import pathlib
+from typing import Dict, Iterable, Iterator, List, Mapping, NamedTuple, Tuple
+
+from tools.contracts import SourceFile, without_comments
+from tools.crates import read_crates
+
+FILE = "verdicts.tsv"
+HEAD = "# by ./mutants --record: each mutant, the checksum of what its verdict rests on, and the verdict\n"
+PARTS = ("src", "specs", "proofs")
+# What a line of a comment begins with.
+COMMENTS = {".rt": "//", ".antt": "--"}
+LAWS = "laws"
+
+
+class Row(NamedTuple):
+    """What came of a mutant, and the checksum of what that rests on."""
+
+    rests_on: str
+    verdict: str
+
+
+class Record:
+    """The record in a repository, as it counts for this toolchain."""
+
+    def __init__(self, root: pathlib.Path, toolchain: str) -> None:
+        """Nothing is read before it is asked for."""
+        self.root, self.toolchain = root, toolchain
+
+    def folder(self, crate: str) -> pathlib.Path:
+        """The folder of a crate's mutants."""
+        return self.root / "crates" / crate / "mutants"
+
+    def rows(self, crate: str) -> Dict[str, Row]:
+        """The rows of a crate, by the mutants' names."""
+        file = self.folder(crate) / FILE
+        lines = file.read_text(encoding="utf-8").splitlines() if file.exists() else []
+        cells = [line.split("\t") for line in lines]
+        return {row[0]: Row(row[1], row[2]) for row in cells if len(row) == 3}
+
+    def known(self, crate: str) -> Dict[str, str]:
+        """The verdicts of a crate that are of the text of today, by the mutants' names."""
+        today = checksums(self.root, crate, self.toolchain, self.folder(crate).glob("*.edit"))
+        return {name: row.verdict for name, row in self.rows(crate).items() if today.get(name) == row.rests_on}
+
+    def add(self, crate: str, copy: pathlib.Path, found: Mapping[str, str]) -> None:
+        """Adds what came of mutants in a copy of the repository, where they stand in the place of must-fail edits. A row whose
+        mutant is gone goes too."""
+        tried = [copy / "crates" / crate / "must-fail" / name for name in found]
+        of_copy = checksums(copy, crate, self.toolchain, tried)
+        rows = {**self.rows(crate), **{name: Row(of_copy[name], verdict.strip()) for name, verdict in found.items()}}
+        kept = sorted(name for name in rows if (self.folder(crate) / name).is_file())
+        lines = ["\t".join((name, *rows[name])) + "\n" for name in kept]
+        (self.folder(crate) / FILE).write_text(HEAD + "".join(lines), encoding="utf-8")
+
+
+def checksums(root: pathlib.Path, crate: str, toolchain: str, mutants: Iterable[pathlib.Path]) -> Dict[str, str]:
+    """The checksums of what the verdicts on a crate's mutants rest on, by the mutants' names.
+
+    They are of the mutant itself, its crate's code, definitions and proofs, the toolchain, and the definitions and public
+    contracts of the crates that crates.txt lists for it. So neither a new proof further down makes a row old, nor a comment on
+    lines of its own. The types and laws of those crates aren't seen, nor are crates that aren't listed: what contracts cite of
+    the latter, listed ones pass on by its name alone.
+    """
+    basis = hashlib.sha256(repr((toolchain, list(basis_of(root, crate)))).encode("utf-8"))
+    found = {}
+    for mutant in mutants:
+        whole = basis.copy()
+        whole.update(mutant.read_bytes())
+        found[mutant.name] = whole.hexdigest()[:16]
+    return found
+
+
+def basis_of(root: pathlib.Path, crate: str) -> Iterator[Tuple[str, object]]:
+    """What all mutants of a crate rest on, by its path: lines of files, and contracts."""
+    listed = read_crates(root).listed
+    yield "crates.txt", listed[crate]
+    for part in PARTS:
+        yield from lines_in(root, files_in(root / "crates" / crate / part))
+    for below in listed[crate]:
+        folder = root / "crates" / below
+        yield from lines_in(root, (file for file in files_in(folder / "specs") if not is_law(file, folder / "specs")))
+        yield from contracts_in(root, files_in(folder / "src"))
+
+
+def files_in(folder: pathlib.Path) -> List[pathlib.Path]:
+    """The files of a folder and of those in it."""
+    return sorted(file for file in folder.glob("**/*") if file.is_file())
+
+
+def is_law(file: pathlib.Path, specs: pathlib.Path) -> bool:
+    """Whether a file of `specs/` has laws, or hands them on."""
+    return file.relative_to(specs).with_suffix("").parts[0] == LAWS
+
+
+def lines_in(root: pathlib.Path, files: Iterable[pathlib.Path]) -> Iterator[Tuple[str, object]]:
+    """The lines of files, but for comments and empty ones."""
+    for file in files:
+        sign = COMMENTS.get(file.suffix, "\n")
+        lines = file.read_text(encoding="utf-8").split("\n")
+        yield str(file.relative_to(root)), [line for line in lines if line.strip() and not line.strip().startswith(sign)]
+
+
+def contracts_in(root: pathlib.Path, files: Iterable[pathlib.Path]) -> Iterator[Tuple[str, object]]:
+    """The public functions of files: how they are called, and their contracts."""
+    for file in files:
+        for one in SourceFile("", (), file).functions():
+            if one.public and one.clauses:
+                lines = [without_comments(line).rstrip() for line in one.text]
+                yield str(file.relative_to(root)), [line for line in lines if line]
