@@ -19,10 +19,10 @@ use std::mem::replace;
 use std::sync::Arc;
 
 /// How many entries the last ones are at most, where a join makes them.
-const MOST: usize = 16;
+const MOST: usize = 24;
 
 /// How many entries a block has at least, where a join makes it and others follow.
-const LEAST: usize = 8;
+const LEAST: usize = 12;
 
 /// Entries in blocks, and those after them. Contracts see all entries as one list.
 #[derive(Drop)]
