@@ -32,9 +32,7 @@ fn is_wanted(config: &Config, state: &State, key: Key) -> bool
     ensures cases { IsTrue result
         ↔ (IsAllowedAt config.now state.now key × IsStartedAt state.now key) }
 {
-    let allowed = is_allowed(config, state, key);
-    let started = is_started(state, key);
-    allowed && started
+    is_allowed(config, state, key) && is_started(state, key)
 }
 
 /// Whether the application is allowed at this incarnation: it is permitted there, and the incarnation isn't drained.
@@ -44,9 +42,7 @@ pub fn is_allowed(config: &Config, state: &State, key: Key) -> bool
     ensures value { result ≡ is_allowed_at config.now state.now key }
     ensures cases { IsTrue result ↔ IsAllowedAt config.now state.now key }
 {
-    let permitted = is_permitted(config, state, key);
-    let drained = is_drained(state, key.node, key.inc);
-    permitted && !drained
+    is_permitted(config, state, key) && !is_drained(state, key.node, key.inc)
 }
 
 /// Whether an incarnation of a node is drained: some drain of it stands that says so. It takes no memory.
