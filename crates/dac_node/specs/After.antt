@@ -53,9 +53,9 @@ next_by r noted deed = record {
 abbrev pub after_by : RunningValue → List (Option Noted) → Deed → After
 after_by r noted deed = cond deed.goes_off Off (GoesOn (next_by r noted deed))
 
--- ---- which numbers trim alike
+-- ---- up to the base
 
--- the same, where no delta below the base of what runs is kept any more: none was
+-- the same, trimmed at least up to the base of what runs, below which nothing was kept
 abbrev pub from_base : RunningValue → AdvanceValue → AdvanceValue
 from_base r next =
     record { knowledge = next.knowledge; deltas = next.deltas; trim = max r.kept.base next.trim }

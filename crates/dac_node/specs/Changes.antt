@@ -42,7 +42,7 @@ pub record BootsBy (t : Table) (me : NodeId) (number : ℕ) (now : ℕ) (change 
   pub after : running_after change.after None ≡ Some (booted t (record { node = me; inc = number + 1 }) now)
   pub reply : change.reply ≡ Booted (up (record { node = me; inc = number + 1 }))
 
--- What an accepted event does at a running node. It makes no difference which number up to the base trims.
+-- What an accepted event does at a running node. Which number it trims by makes no difference up to the base.
 pub record Effect (t : Table) (number : ℕ) (r : RunningValue) (e : Event) (change : ChangeValue) : Type 0 where
   pub noted : List (Option Noted)
   pub noting : IsNoting t r noted e
