@@ -1,11 +1,13 @@
 -- What changes do, event by event.
-use Rattle.std.proofs.Common.{◌≡◌, ◌↔◌, ◌<◌, ◌≤◌, ℕ, Bool, true, false, not, cond, List, [], ◌∷◌, length, Option, Some, None, refl, sym, ap, subst, ◌∙◌, arith, true≢false}
+use Rattle.std.proofs.Common.{◌≡◌, ◌↔◌, ◌-◌, ◌<◌, ◌≤◌, ℕ, Bool, true, false, not, cond, List, [], ◌∷◌, length, Option, Some, None, refl, sym, ap, subst, ◌∙◌, arith, true≢false}
+use Rattle.std.specs.Prelude.{fold, max, min}
 use Rattle.dac_base.specs.declared.limits.TheConstants.{MAX_COUNTER}
 use Rattle.dac_base.specs.declared.NodeId.{NodeId}
 use Rattle.dac_operations.specs.Operations.{Operation}
 use Rattle.dac_meaning.specs.StateValue.{StateValue, IsState}
 use Rattle.dac_meaning.specs.Meaning.{meaning_of}
 use Rattle.dac_config.specs.Table.{Table}
+use Rattle.dac_deltas.specs.KeptDeltas.{KeptDeltas, cut, pushed, trimmed}
 use Rattle.dac_decide.specs.declared.waits.Noted.{Noted}
 use Rattle.dac_decide.specs.declared.start_gate.Opening.{Opening}
 use Rattle.dac_decide.specs.declared.start_gate.Opening.TheVariants.{Shut, Opened, GiveUp}
@@ -14,28 +16,45 @@ use Rattle.dac_messages.specs.declared.event.Event.TheVariants.{Boot, Crash, Tic
 use Rattle.dac_messages.specs.declared.event.Event.TheVariants.{Command as Commanded}
 use Rattle.dac_messages.specs.declared.reply.Reply.{Reply}
 use Rattle.dac_messages.specs.declared.reply.Reply.TheVariants.{Heard}
+use Rattle.dac_messages.specs.declared.message.Message.{Message}
 use Rattle.dac_events.specs.declared.refusal.Refusal.TheVariants.{DotsUsedUp}
 use Rattle.dac_model_node.specs.dac_commands.laws.Written.{none_is}
 use Rattle.dac_model_node.specs.NodeValue.{RunningValue}
 use Rattle.dac_model_node.specs.EventRefusals.{refusal_by, refusal_to_hear_op, overflows}
-use Rattle.dac_model_node.specs.Deeds.{Deed, deed_of, moment_of, opening_at, ticks_by}
+use Rattle.dac_model_node.specs.Deeds.{Deed, deed_of, hears_message, moment_of, opening_at, ticks_by}
 use Rattle.dac_model_node.specs.Accepted.{AreNewest, running_by}
 use Rattle.dac_model_node.specs.laws.Numbers.{fits, room_to_hear}
-use Rattle.dac_node.specs.declared.change.After.TheVariants.{Off, GoesOn}
-use Rattle.dac_node.specs.Knowing.{AdvanceValue, hearing, knowledge_of}
-use Rattle.dac_node.specs.After.{running_after, after_by, gone_on, next_by, FitsIn, ShipsOwnIn}
+use Rattle.dac_node.specs.declared.change.After.{After}
+use Rattle.dac_node.specs.declared.change.After.TheVariants.{Off, Boots, GoesOn}
+use Rattle.dac_node.specs.Knowing.{AdvanceValue, hearing, knowledge_of, running_of}
+use Rattle.dac_node.specs.After.{running_after, after_by, after_from_base, from_base, gone_on, next_by, FitsIn, ShipsOwnIn}
 use Rattle.dac_node.specs.Changes.{ChangeValue, BootsBy, Effect, Fits, Prepared}
 
 -- an event that notes nothing
 pub quiet_effect : (t : Table) (number : ℕ) (r : RunningValue) (e : Event) (change : ChangeValue) → (deed_of t r [] e).notes ≡ false → change.last ≡ number →
     change.after ≡ after_by r [] (deed_of t r [] e) → change.reply ≡ (deed_of t r [] e).reply → Effect t number r e change
-quiet_effect t number r e change quiet last after reply = record { noted = []; noting = λ h. absurd (true≢false (sym h ∙ quiet)); last = last; after = after; reply = reply }
+quiet_effect t number r e change quiet last after reply = record { noted = []; noting = λ h. absurd (true≢false (sym h ∙ quiet)); last = last; after = ap (after_from_base r) after; reply = reply }
 
 -- an event that notes nothing and after which what ran goes on
 pub going_effect : (t : Table) (number : ℕ) (r : RunningValue) (e : Event) (next : AdvanceValue) (reply : Reply) (change : ChangeValue) → change ≡ record { last = number; after = GoesOn next; reply = reply } → (deed_of t r [] e).notes ≡ false
     → GoesOn next ≡ after_by r [] (deed_of t r [] e) → reply ≡ (deed_of t r [] e).reply → Effect t number r e change
 going_effect t number r e next reply change is quiet after same =
     quiet_effect t number r e change quiet (ap (λ (c : ChangeValue). c.last) is) (ap (λ (c : ChangeValue). c.after) is ∙ after) (ap (λ (c : ChangeValue). c.reply) is ∙ same)
+
+-- a message that comes, after which what ran goes on so
+pub heard_effect : (t : Table) (number : ℕ) (r : RunningValue) (m : Message) (next : AdvanceValue) (reply : Reply) (change : ChangeValue) → change ≡ record { last = number; after = GoesOn next; reply = reply }
+    → next ≡ from_base r (next_by r [] (hears_message t r m)) → reply ≡ (hears_message t r m).reply → Effect t number r (Hear m) change
+heard_effect t number r m next reply change is so same = record {
+  noted = [];
+  noting = λ h. absurd (true≢false (sym h));
+  last = ap (λ (c : ChangeValue). c.last) is;
+  after = ap (λ (c : ChangeValue). after_from_base r c.after) is
+      ∙ (ap (λ (n : AdvanceValue). GoesOn (from_base r n)) so ∙ ap (λ trim. GoesOn (record (next_by r [] (hears_message t r m)) { trim = trim })) (max_again r.kept.base (hears_message t r m).trim));
+  reply = ap (λ (c : ChangeValue). c.reply) is ∙ same;
+}
+  where
+    max_again : (b n : ℕ) → max b (max b n) ≡ max b n
+    max_again b n = omega arith
 
 -- what was heard is said to be new where it is added
 pub told_new : (told below : Bool) (body : StateValue) (deltas : List StateValue) → deltas ≡ cond below [] (body ∷ []) → ((told ≡ true) ↔ (0 < length deltas)) → told ≡ not below
@@ -46,6 +65,25 @@ told_new false false body deltas is h = absurd (true≢false (sym (h.1 (subst (�
   where
     one : 0 < 1
     one = omega arith
+
+-- ---- what trims alike
+
+-- no delta that comes moves the base back
+base_grows : (k : KeptDeltas StateValue) (deltas : List StateValue) → k.base ≤ (fold pushed k deltas).base
+base_grows k [] = omega arith
+base_grows k (d ∷ deltas) = let grown = base_grows (pushed k d) deltas in omega (arith, grown)
+
+-- so a number up to the base trims nothing
+trimmed_from_base : (k : KeptDeltas StateValue) (deltas : List StateValue) (n : ℕ) → trimmed (fold pushed k deltas) (max k.base n) ≡ trimmed (fold pushed k deltas) n
+trimmed_from_base k deltas n = ap (cut (fold pushed k deltas)) (alike k.base (fold pushed k deltas).base (fold pushed k deltas).count (base_grows k deltas))
+  where
+    alike : (old base count : ℕ) → old ≤ base → min (max old n) count - base ≡ min n count - base
+    alike old base count grows = omega (arith, grows)
+
+run_from_base : (r : RunningValue) (after : After) → running_after (after_from_base r after) (Some r) ≡ running_after after (Some r)
+run_from_base r Off = refl
+run_from_base r (Boots b) = refl
+run_from_base r (GoesOn next) = ap (λ (kept : KeptDeltas StateValue). Some (running_of next.knowledge kept)) (trimmed_from_base r.kept next.deltas next.trim)
 
 -- ---- at a node
 
@@ -62,7 +100,8 @@ boots_prepared t me last e change none b = record { accepted = none; newest = tt
 
 pub effect_prepared : (t : Table) (me : NodeId) (last : ℕ) (r : RunningValue) (e : Event) (change : ChangeValue) → refusal_by t last (Some r) e ≡ None → AreNewest r.kept → IsState r.state → Effect t last r e change → Prepared t me (record { last = last; running = Some r }) e change
 effect_prepared t me last r e change none newest is f =
-    let running = ap (λ after. running_after after (Some r)) f.after ∙ run_after_by r f.noted (deed_of t r f.noted e) in
+    let deed = deed_of t r f.noted e in
+    let running = sym (run_from_base r change.after) ∙ (ap (λ after. running_after after (Some r)) f.after ∙ (run_from_base r (after_by r f.noted deed) ∙ run_after_by r f.noted deed)) in
     record { accepted = none; newest = newest; state = is; noted = f.noted; noting = f.noting; left = λ i. record { last = f.last i; running = running i }; reply = f.reply }
 
 -- only a ship ships, and what it ships is its own
@@ -83,10 +122,20 @@ ships_own t r noted (HearOp o) = tt
 -- numbers are left for what comes
 pub effect_fits : (t : Table) (last : ℕ) (r : RunningValue) (e : Event) (change : ChangeValue) → refusal_by t last (Some r) e ≡ None → r.kept.count ≤ MAX_COUNTER → Effect t last r e change → Fits (record { last = last; running = Some r }) change
 effect_fits t last r e change none countable f = record {
-  numbers = subst (FitsIn (Some r)) (sym f.after) (by (deed_of t r f.noted e).goes_off);
+  numbers = from_fits change.after (subst (FitsIn (Some r)) (sym f.after) (to_fits (after_by r f.noted (deed_of t r f.noted e)) (by (deed_of t r f.noted e).goes_off)));
   ships = subst (ShipsOwnIn (Some r)) (sym f.reply) (ships_own t r f.noted e);
 }
   where
+    to_fits : (after : After) → FitsIn (Some r) after → FitsIn (Some r) (after_from_base r after)
+    to_fits Off h = tt
+    to_fits (Boots b) h = tt
+    to_fits (GoesOn next) h = h
+
+    from_fits : (after : After) → FitsIn (Some r) (after_from_base r after) → FitsIn (Some r) after
+    from_fits Off h = tt
+    from_fits (Boots b) h = tt
+    from_fits (GoesOn next) h = h
+
     by : (b : Bool) → FitsIn (Some r) (cond b Off (GoesOn (next_by r f.noted (deed_of t r f.noted e))))
     by true = tt
     by false = fits t r f.noted countable e none

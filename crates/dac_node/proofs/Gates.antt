@@ -15,7 +15,7 @@ use Rattle.dac_model_node.specs.NodeValue.{RunningValue}
 use Rattle.dac_model_node.specs.Deeds.{ticks_by, opening_at, meanings}
 use Rattle.dac_node.specs.declared.change.After.TheVariants.{Off, GoesOn}
 use Rattle.dac_node.specs.Knowing.{ticking, knowledge_of}
-use Rattle.dac_node.specs.After.{after_by}
+use Rattle.dac_node.specs.After.{after_by, after_from_base}
 use Rattle.dac_node.specs.Changes.{ChangeValue, Effect}
 use Rattle.dac_node.proofs.Effects.{quiet_effect}
 
@@ -40,7 +40,7 @@ module _ (t : Table) (number : ℕ) (r : RunningValue) (now : ℕ) where
     noted = noted;
     noting = λ _. so;
     last = ap (λ (c : ChangeValue). c.last) same;
-    after = ap (λ (c : ChangeValue). c.after) same ∙ sym (ap (λ o. after_by r noted (ticks_by o t r noted now)) is);
+    after = ap (after_from_base r) (ap (λ (c : ChangeValue). c.after) same ∙ sym (ap (λ o. after_by r noted (ticks_by o t r noted now)) is));
     reply = ap (λ (c : ChangeValue). c.reply) same ∙ sym (ap (λ o. (ticks_by o t r noted now).reply) is);
   }
 

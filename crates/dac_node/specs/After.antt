@@ -1,5 +1,5 @@
 -- What runs after a change.
-use Rattle.std.specs.Prelude.{◌≡◌, ◌+◌, ◌≤◌, cond, List, length, Option, Some, None, fold}
+use Rattle.std.specs.Prelude.{◌≡◌, ◌+◌, ◌≤◌, max, cond, List, length, Option, Some, None, fold}
 use Rattle.std.specs.Option.{option_map}
 use Rattle.dac_base.specs.declared.limits.TheConstants.{MAX_COUNTER}
 use Rattle.dac_meaning.specs.StateValue.{join}
@@ -52,3 +52,14 @@ next_by r noted deed = record {
 
 abbrev pub after_by : RunningValue → List (Option Noted) → Deed → After
 after_by r noted deed = cond deed.goes_off Off (GoesOn (next_by r noted deed))
+
+-- ---- up to the base
+
+-- the same, trimmed at least up to the base of what runs, below which nothing was kept
+abbrev pub from_base : RunningValue → AdvanceValue → AdvanceValue
+from_base r next =
+    record { knowledge = next.knowledge; deltas = next.deltas; trim = max r.kept.base next.trim }
+
+abbrev pub after_from_base : RunningValue → After → After
+after_from_base r (GoesOn next) = GoesOn (from_base r next)
+after_from_base r after = after

@@ -12,7 +12,7 @@ use Rattle.dac_model_node.specs.Deeds.{deed_of}
 use Rattle.dac_model_node.specs.Step.{up}
 use Rattle.dac_model_node.specs.Accepted.{AcceptedAs, IsNoting, booted}
 use Rattle.dac_node.specs.declared.change.After.{After}
-use Rattle.dac_node.specs.After.{running_after, FitsIn, ShipsOwnIn, after_by}
+use Rattle.dac_node.specs.After.{running_after, FitsIn, ShipsOwnIn, after_by, after_from_base}
 
 -- the number of the last incarnation from then on, what runs from then on, and the reply
 pub record ChangeValue : Type 0 where
@@ -42,12 +42,12 @@ pub record BootsBy (t : Table) (me : NodeId) (number : ℕ) (now : ℕ) (change 
   pub after : running_after change.after None ≡ Some (booted t (record { node = me; inc = number + 1 }) now)
   pub reply : change.reply ≡ Booted (up (record { node = me; inc = number + 1 }))
 
--- what an accepted event does at a running node
+-- What an accepted event does at a running node. Which number it trims by makes no difference up to the base.
 pub record Effect (t : Table) (number : ℕ) (r : RunningValue) (e : Event) (change : ChangeValue) : Type 0 where
   pub noted : List (Option Noted)
   pub noting : IsNoting t r noted e
   pub last : change.last ≡ number
-  pub after : change.after ≡ after_by r noted (deed_of t r noted e)
+  pub after : after_from_base r change.after ≡ after_from_base r (after_by r noted (deed_of t r noted e))
   pub reply : change.reply ≡ (deed_of t r noted e).reply
 
 -- the event isn't refused, and this is what it does

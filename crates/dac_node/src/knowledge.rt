@@ -1,6 +1,6 @@
 //! What a controller knows while it runs.
 
-ghost use Rattle.std.specs.Prelude.{◌≡◌, ◌∷◌, [], IfOk};
+ghost use Rattle.std.specs.Prelude.{◌≡◌, ◌∷◌, [], IfOk, max};
 ghost use Rattle.dac_config.specs.Table.{node_count};
 ghost use Rattle.dac_meaning.specs.Meaning.{meaning_of};
 ghost use Rattle.dac_meaning.specs.Below.{is_below};
@@ -217,14 +217,14 @@ impl Knowledge {
         }
     }
 
-    /// How many of the own deltas all other nodes have acknowledged.
-    pub(crate) fn acked_by_all(&self, config: &Config) -> u64
+    /// The greater of `base` and how many of the own deltas all other nodes have acknowledged.
+    pub(crate) fn acked_past(&self, config: &Config, base: u64) -> u64
         ensures { result
-            ≡ acked_by_all self.now.peers self.now.state (node_count config.now)
-            self.now.origin.node }
+            ≡ max base (acked_by_all self.now.peers self.now.state (node_count config.now)
+            self.now.origin.node) }
     {
         self.peers
-            .acked_by_all(&self.state, config.nodes(), self.origin.node)
+            .acked_past(&self.state, config.nodes(), self.origin.node, base)
     }
 }
 

@@ -6,7 +6,7 @@ ghost use Rattle.dac_meaning.specs.Meaning.{meaning_of};
 ghost use Rattle.dac_peers.specs.Peers.{is_up_to_date as needs_nothing, shipped_to};
 ghost use Rattle.dac_model_node.specs.Deeds.{body_from, message_of, hears_message};
 ghost use Rattle.dac_node.specs.Knowing.{adding, hearing, knowledge_of};
-ghost use Rattle.dac_node.specs.After.{next_by};
+ghost use Rattle.dac_node.specs.After.{from_base, next_by};
 
 use crate::advance::Advance;
 use crate::running::Running;
@@ -107,14 +107,15 @@ impl Running {
         config: &Config,
         message: &Message,
     ) -> Result<Advance, NoMemory>
-        ensures { IfOk result
-            (λ next. next ≡ next_by self.now [] (hears_message config.now self.now message.now)) }
+        ensures { IfOk result (λ next. next
+            ≡ from_base self.now (next_by self.now []
+            (hears_message config.now self.now message.now))) }
     {
         let known = &self.knowledge;
         let count = self.buffer.count();
         let peers = known.peers.heard_from(known.origin, count, message)?;
         let next = known.hear_body(&message.body, peers)?;
-        let trim = next.knowledge.acked_by_all(config);
+        let trim = next.knowledge.acked_past(config, self.buffer.base());
         Ok(next.with_trim(trim))
     }
 

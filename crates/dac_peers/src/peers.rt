@@ -1,5 +1,5 @@
 //! What a controller keeps of its peers.
-ghost use Rattle.std.specs.Prelude.{◌≡◌, IfOk, Some};
+ghost use Rattle.std.specs.Prelude.{◌≡◌, IfOk, Some, max};
 ghost use Rattle.dac_peers.specs.Peers.{no_peers, acked_at, begins, ack_for, is_up_to_date, shipped_to, counts, lesser, acked_after, got_by, heard_from, number_acked, acked_by_all};
 
 use crate::nodes::NodeSet;
@@ -207,17 +207,21 @@ impl Peers {
         }
     }
 
-    /// How many deltas each of the other nodes acknowledged, 0 where there are no others.
-    pub fn acked_by_all(&self, state: &State, nodes: u8, own: NodeId) -> u64
-        ensures { result ≡ acked_by_all self.now state.now nodes own }
+    /// The greater of `base` and how many deltas each of the other nodes acknowledged, 0 where there are no others. No node
+    /// is asked after one that acknowledged no more than `base`.
+    pub fn acked_past(&self, state: &State, nodes: u8, own: NodeId, base: u64) -> u64
+        ensures { result ≡ max base (acked_by_all self.now state.now nodes own) }
     {
         let mut least = None;
         for number in 0..nodes {
             if number != own.0 {
                 let acked = self.number_acked(state, NodeId(number));
+                if acked <= base {
+                    return base;
+                }
                 least = Some(lesser(least, acked));
             }
         }
-        least.unwrap_or(0)
+        least.unwrap_or(base)
     }
 }

@@ -1,0 +1,17 @@
+use Rattle.std.proofs.Common.{ap, arith}
+use Rattle.dac_base.specs.declared.NodeId.{NodeId}
+use Rattle.dac_peers.specs.Peers.{number_acked}
+use Rattle.dac_peers.specs.laws.Least.{all_have_the_least, is_number}
+use Rattle.dac_peers.proofs.peers.Peers.acked_past.Goals as goal
+
+-- what all acknowledged is at most what the node did
+pub returns-then-acked-base : goal.returns-then-acked-base
+returns-then-acked-base c =
+    let p = c.args.self.now in
+    let s = c.args.state.now in
+    let node : NodeId = record { 0 = c.loop-number.number } in
+    let other = c.if-number-own.true in
+    let least = (all_have_the_least p s c.args.nodes c.args.own).at_most node (number_acked p s node) (c.loop-number-test.true, λ same. other (ap (λ (n : NodeId). n.0) same)) (is_number p s node) in
+    let acked = c.number_acked-acked.ensures in
+    let few = c.if-acked-base.true in
+    omega (arith, least, acked, few)
