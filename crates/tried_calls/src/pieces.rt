@@ -280,7 +280,7 @@ pub fn dot_maps(alloc: Global, asked: OfStore) -> Option<StoreBench<FlagMap>> {
     stores(alloc, asked, map_at(alloc, ME, 1), map_at(alloc, OTHER, 2))
 }
 
-/// A vote at each of 40 keys, as a join makes the map: 32 entries stand in blocks.
+/// A vote at each of 40 keys, as a join makes the map: 24 entries stand in two blocks.
 fn map_in_blocks(alloc: Global) -> Result<FlagMap, NoMemory> {
     let mut pushed = DotMap::empty(alloc);
     for key in 1..41u64 {
