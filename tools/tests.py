@@ -8,14 +8,17 @@ import tempfile
 import unittest
 from typing import Dict, Iterator, List, Sequence, Tuple
 
+from tools.bodies import Body, Code, Edit, edit_in
 from tools.code_types import declarations_in
 from tools.contracts import Sources, clauses_of, head_of
 from tools.crates import HERE
 from tools.definition_page import by_hand, equations_of, list_of, rows_of
 from tools.definition_sources import DefinitionSources, tags_of
+from tools.joint_checks import KIT_PARTS, Toolchain
 from tools.modules import Definition, Module, Modules
 from tools.promises import Cited, Promises, promises_of
 from tools.resting import Resting
+from tools.rounds import Round, is_readable, name_of, refused_in, rests_of, rounds_of
 from tools.tables import cells_of, line_of
 from tools.verdicts import Record, checksums
 from tools.views import Views
@@ -308,6 +311,189 @@ class RecordTest(unittest.TestCase):
         self.assertEqual(self.record.known("dac_top"), {"first.edit": MISSED, "second.edit": REFUSED})
         last = said.getvalue().splitlines()[-1]
         self.assertEqual(last, "dac_top ends: 1 refused, 2 not refused; 1 were tried by an earlier run")
+
+
+CODE = """use std::option::Option;
+
+pub struct Pair<T> {
+    pub left: T,
+}
+
+/// Adds.
+#[tactic(auto)]
+pub fn first(a: u8) -> u8
+    requires { a < 9 }
+    ensures { result ≡ a + 1 }
+{
+    let b = a;
+    b + 1
+}
+
+impl<T: Drop> Pair<T> {
+    fn second(&self) -> u8 {
+        self.left * 2
+    }
+}
+
+impl<T> From<u8> for Pair<T> {
+    ghost from_gives = { λ n. n };
+
+    fn from(n: u8) -> Pair<T>
+    {
+        made(n)
+    }
+}
+
+#[cycle(both)]
+fn third(n: u8) -> u8 {
+    third(n - 1)
+}
+"""
+# Edits, each with the function whose body alone it changes, if there is one.
+EDITS: Dict[str, Tuple[str, str]] = {
+    "clause": ("old: a + 1 }\nnew: a + 2 }", ""),
+    "early": ("old: b + 1\nnew: b + 2", "first"),
+    "field": ("old: left: T\nnew: right: T", ""),
+    "from": ("old: made(n)\nnew: made(n + 1)", "from"),
+    "ghost": ("old: λ n. n\nnew: λ n. 0", ""),
+    "in_cycle": ("old: n - 1\nnew: n - 2", ""),
+    "item": ("old: let b = a;\nnew: const C: u8 = 1; let b = C;", ""),
+    "late": ("old: let b = a;\nnew: let b = 0;\nold: b + 1\nnew: b + 3", "first"),
+    "many": ("old: b + 1\nnew: b\nold: left * 2\nnew: left", ""),
+    "none": ("old: nowhere\nnew: somewhere", ""),
+    "same_text": ("old: self.left * 2\nnew: b + 1", "second"),
+    "second": ("old: left * 2\nnew: left * 3", "second"),
+    "use": ("old: std::option\nnew: std::result", ""),
+}
+SAID_OF_A_ROUND = """impl dac_a::PairFrom: not proved; it waits for the proof of `from`
+./proofs/PairFrom/from/Answers.antt:6:29: error: `returns`: no proof of `n ≡ n + 1`
+./proofs/Pair/caller/Answers.antt:6:29: error: `Met` was not admitted
+note: src/lib.rt:8:1: it is not proved that what the function ensures holds when it returns (`returns`)
+note: src/lib.rt:12:5: it is not proved that what the function ensures holds when it returns (`more`)
+fn dac_a::first: no proof: expected answers in ./proofs/first/Answers.antt
+fn dac_a::Pair::second: proved
+fn dac_a::Pair::caller: no proof: it calls `dac_a::first`, which is not proved
+fn dac_a::PairFrom::from: not proved
+logic=not-proved""".split("\n")
+
+
+class RoundsTest(unittest.TestCase):
+    """Mutants that are tried together."""
+
+    def setUp(self) -> None:
+        room = tempfile.TemporaryDirectory()
+        self.addCleanup(room.cleanup)
+        self.root = pathlib.Path(room.name)
+        crate = self.root / "crates" / "dac_a"
+        for folder in ("src", "mutants"):
+            (crate / folder).mkdir(parents=True)
+        (crate / "src" / "lib.rt").write_text(CODE, encoding="utf-8")
+        for name, (text, _) in EDITS.items():
+            (crate / "mutants" / f"{name}.edit").write_text(f"file: src/lib.rt\n{text}\n", encoding="utf-8")
+        self.folder, self.code = crate, Code(crate)
+
+    def edits(self, *names: str) -> List[Edit]:
+        """Edits by their names."""
+        found = [edit_in(self.folder / "mutants" / f"{name}.edit") for name in names]
+        return [edit for edit in found if edit is not None]
+
+    def round(self, *names: str) -> Round:
+        """These edits as one round."""
+        (one,) = rounds_of(self.code, self.edits(*names))
+        return one
+
+    def test_bodies(self) -> None:
+        for name, (_, function) in EDITS.items():
+            body = self.code.body_of(self.edits(name)[0])
+            self.assertEqual(body.name if body is not None else "", function, name)
+        (self.folder / "mutants" / "spec.edit").write_text("file: specs/A.antt\nold: a\nnew: b", encoding="utf-8")
+        self.assertEqual(self.edits("spec"), [])
+
+    def test_lines_of_bodies(self) -> None:
+        found = [(one.of, one.trait, one.name, one.line, one.first, one.last) for one in self.code.bodies["src/lib.rt"]]
+        pairs = [("Pair", "", "second", 18, 19, 20), ("Pair", "From", "from", 26, 28, 29)]
+        self.assertEqual(found, [("", "", "first", 7, 13, 15), *pairs])
+
+    def test_rounds(self) -> None:
+        rounds = rounds_of(self.code, self.edits(*EDITS))
+        names = [["early.edit", "from.edit", "same_text.edit"], ["late.edit", "second.edit"]]
+        self.assertEqual([one.names() for one in rounds], names)
+        first = CODE.replace("b + 1", "b + 2").replace("made(n)", "made(n + 1)").replace("self.left * 2", "b + 1")
+        self.assertEqual(rounds[0].texts, {"src/lib.rt": first})
+
+    def test_what_is_left_of_a_round_that_says_nothing(self) -> None:
+        one = self.round("early", "from", "second")
+        halves = [half.names() for half in rests_of(self.code, one, ["rattle: no verdict"])]
+        self.assertEqual(halves, [["early.edit"], ["from.edit", "second.edit"]])
+        (rest,) = rests_of(self.code, one, ["src/lib.rt:28:9: error[unknown-name]: cannot find value"])
+        self.assertEqual((rest.names(), rest.texts), (["early.edit", "second.edit"], self.round("early", "second").texts))
+        for said in ([], ["src/lib.rt:14:9: error[unknown-name]: cannot find value"]):
+            self.assertEqual(rests_of(self.code, self.round("early"), said), [])
+
+    def test_an_edit_waits_for_another_that_has_its_text(self) -> None:
+        rounds = rounds_of(self.code, self.edits("same_text", "early"))
+        self.assertEqual([one.names() for one in rounds], [["same_text.edit"], ["early.edit"]])
+
+    def test_goals_of_edited_functions(self) -> None:
+        found = refused_in(self.round("early", "from", "second"), "dac_a", SAID_OF_A_ROUND)
+        start = "refused, as it must be, tried with 2 others: "
+        self.assertEqual(found, {"early.edit": start + SAID_OF_A_ROUND[3], "from.edit": start + SAID_OF_A_ROUND[1]})
+
+    def test_a_goal_of_another_function(self) -> None:
+        self.assertIsNone(refused_in(self.round("early", "second"), "dac_a", SAID_OF_A_ROUND))
+
+    def test_names(self) -> None:
+        found = ["b::new", "a::Pair::new", "b::PairNew::new", "b::PairU8From::new"]
+        of = [("", ""), ("Pair", ""), ("Pair", "New"), ("Pair", "From")]
+        lines = [f"fn dac_a::{name}: not proved" for name in (*found, "b::PairOfNew::new", "c::Old::new", "e::Old::new")]
+        for (one, trait), name in zip(of, found):
+            self.assertEqual(name_of(Body("src/b.rt", ("b",), one, trait, "new", 1, 2, 3), "dac_a", lines), f"dac_a::{name}")
+        self.assertEqual(name_of(Body("src/d.rt", ("d",), "Old", "", "new", 1, 2, 3), "dac_a", lines), "")
+
+    def test_what_is_no_goal(self) -> None:
+        one = self.round("early", "from")
+        for words in ("has no field `left`", "`x` is not in scope", "antt ran out of stack"):
+            said = [SAID_OF_A_ROUND[1].replace("no proof of", words), *SAID_OF_A_ROUND[2:]]
+            self.assertEqual(list(refused_in(one, "dac_a", said) or {}), ["early.edit"], words)
+        unread = SAID_OF_A_ROUND[1].replace("no proof of", "was not admitted:")
+        self.assertEqual(list(refused_in(one, "dac_a", [*SAID_OF_A_ROUND, unread]) or {}), ["early.edit"])
+        said = [line.replace("first: no proof", "first: could not tell") for line in SAID_OF_A_ROUND]
+        self.assertEqual(list(refused_in(one, "dac_a", said) or {}), ["from.edit"])
+        self.assertIsNone(refused_in(one, "dac_a", ["src/lib.rt:12:5: error: `b` is not in scope", *SAID_OF_A_ROUND]))
+        self.assertEqual(refused_in(one, "dac_a", ["logic=proved functions=4"]), {})
+
+    def test_readable(self) -> None:
+        self.assertTrue(is_readable(1, SAID_OF_A_ROUND))
+        self.assertTrue(is_readable(0, ["logic=proved functions=4"]))
+        self.assertFalse(is_readable(3, ["rattle: no verdict"]))
+        self.assertFalse(is_readable(1, ["error[type]: expected u8"]))
+        self.assertFalse(is_readable(1, []))
+
+    def test_what_no_round_refuses_is_tried_singly(self) -> None:
+        script = runpy.run_path(str(HERE / "mutants"), run_name="mutants")
+        (self.root / "crates.txt").write_text("# Each crate.\n# Base: all.\ndac_a:\n", encoding="utf-8")
+        (self.root / "HANDLES").write_text("Handles allowed: none.\n", encoding="utf-8")
+        singly: List[str] = []
+        commands: List[Sequence[str]] = []
+
+        def run(words: Sequence[str], folder: pathlib.Path) -> Tuple[int, List[str]]:
+            commands.append(words)
+            is_first = (folder / "src" / "lib.rt").exists() and "b + 2" in (folder / "src" / "lib.rt").read_text(encoding="utf-8")
+            return (0, []) if "ci" in words else (1, SAID_OF_A_ROUND) if is_first else (2, [])
+
+        def said_of(crate: str, copy: pathlib.Path, _jobs: int) -> List[str]:
+            singly.extend(sorted(one.name for one in (copy / "crates" / crate / "must-fail").iterdir()))
+            return [f"rt: must-fail dac_a/{name}: {REFUSED}" for name in singly]
+
+        script["try_crate"].__globals__.update(HERE=self.root, said_of=said_of)
+        with contextlib.redirect_stdout(io.StringIO()):
+            together, record = Toolchain(pathlib.Path("/kit"), run, 1), Record(self.root, "a toolchain")
+            found = script["try_crate"]("dac_a", script["How"](1, record, 0, together)).verdicts
+        self.assertEqual(singly, [f"{name}.edit" for name in EDITS if name not in ("early", "from")])
+        self.assertEqual(len(found), len(EDITS))
+        self.assertIn("tried with 2 others", found["early.edit"])
+        self.assertEqual(record.known("dac_a"), found)
+        self.assertEqual(commands[1][0], str(pathlib.Path("/kit") / KIT_PARTS[0]))
 
 
 def faults_of_tests() -> Iterator[str]:

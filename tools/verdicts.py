@@ -1,7 +1,8 @@
 """The record of what came of mutants: a file crates/NAME/mutants/verdicts.tsv for each crate, which `./mutants --record` writes.
 
-A row has a mutant's name, the checksum of what its verdict rests on, and the verdict as the toolchain said it. The rows of
-several runs, on several machines, add up as long as nothing that they rest on changes. A row is the word of whoever committed it.
+A row has a mutant's name, the checksum of what its verdict rests on, and the verdict as the toolchain said it, with the number of
+others that it was tried with, if any. The rows of several runs, on several machines, add up as long as nothing that they rest on
+changes. A row is the word of whoever committed it.
 """
 
 import hashlib

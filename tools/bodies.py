@@ -1,0 +1,155 @@
+"""Finds the functions of a crate's code, and the edits that change nothing but the body of one of them."""
+
+import bisect
+import pathlib
+import re
+from typing import Dict, Iterator, List, NamedTuple, Optional, Sequence, Tuple
+
+from tools.contracts import Function, SourceFile
+from tools.modules import depth_of
+
+CYCLE = re.compile(r"#\[cycle\b")
+# What a line of a body can't begin with: it would say something to others than this function.
+ITEM = re.compile(r"\s*(pub|use|ghost|requires|ensures|const|static|struct|enum|type|trait|impl|mod|fn|unsafe|macro_rules)\b|\s*#")
+# The trait that an impl is of.
+OF_TRAIT = re.compile(r"^impl\b.*?(?P<trait>\w+)(?:<[^{}]*>)? for ")
+
+
+class Change(NamedTuple):
+    """A text of a file that stands there once, and the one for it."""
+
+    old: str
+    new: str
+
+
+class Edit(NamedTuple):
+    """An edit: its name, its file in the crate, and what it changes there in turn."""
+
+    name: str
+    file: str
+    changes: Tuple[Change, ...]
+
+
+class Body(NamedTuple):
+    """A function with a body."""
+
+    file: str
+    modules: Tuple[str, ...]
+    # its type or its trait, if any, and in an impl of a trait that trait
+    of: str
+    trait: str
+    name: str
+    # the numbers of its first line, with the attributes above it, of the first line within its braces, and of its end
+    line: int
+    first: int
+    last: int
+
+    def holds(self, line: int) -> bool:
+        """Whether a line is one of the function's."""
+        return self.line <= line <= self.last
+
+
+def edit_in(file: pathlib.Path) -> Optional[Edit]:
+    """The edit that a file has, if it changes one file of code."""
+    files: List[str] = []
+    changes: List[Change] = []
+    old = ""
+    for line in file.read_text(encoding="utf-8").split("\n"):
+        if line.startswith("file: "):
+            files.append(line[len("file: ") :].strip())
+        elif line.startswith("old: "):
+            old = line[len("old: ") :]
+        elif line.startswith("new:"):
+            changes.append(Change(old, re.sub(r"^ ", "", line[len("new:") :])))
+            old = ""
+    is_code = len(set(files)) == 1 and files[0].startswith("src/") and files[0].endswith(".rt")
+    return Edit(file.name, files[0], tuple(changes)) if is_code and changes else None
+
+
+def applied(edit: Edit, text: str) -> Optional[str]:
+    """The text of a file with an edit, or nothing where it can't be applied."""
+    for change in edit.changes:
+        if not change.old or text.count(change.old) != 1:
+            return None
+        text = text.replace(change.old, change.new)
+    return text
+
+
+def changed_lines(before: str, after: str) -> Iterator[Tuple[int, str]]:
+    """The lines that differ, with their numbers: what they were, and what they are."""
+    for number, (old, new) in enumerate(zip(before.split("\n"), after.split("\n")), 1):
+        if old != new:
+            yield from ((number, old), (number, new))
+
+
+class Code:
+    """The code of a crate: its files, and the functions in them."""
+
+    def __init__(self, folder: pathlib.Path) -> None:
+        """Reads all files of code of a crate."""
+        self.texts: Dict[str, str] = {}
+        self.bodies: Dict[str, List[Body]] = {}
+        for file in sorted(folder.glob("src/**/*.rt")):
+            name = str(file.relative_to(folder))
+            self.texts[name] = file.read_text(encoding="utf-8")
+            self.bodies[name] = list(bodies_in(name, file))
+
+    def body_of(self, edit: Edit) -> Optional[Body]:
+        """The function whose body is all that an edit changes, if there is one."""
+        before = self.texts.get(edit.file, "")
+        after = applied(edit, before)
+        if after is None or after == before or after.count("\n") != before.count("\n"):
+            return None
+        lines = list(changed_lines(before, after))
+        if any(ITEM.match(line) for _, line in lines):
+            return None
+        found = {self.body_at(edit.file, number) for number, _ in lines}
+        return found.pop() if len(found) == 1 else None
+
+    def body_at(self, file: str, line: int) -> Optional[Body]:
+        """The function that has this line between its braces."""
+        bodies = self.bodies[file]
+        place = bisect.bisect([body.first for body in bodies], line) - 1
+        return bodies[place] if place >= 0 and line < bodies[place].last else None
+
+
+def bodies_in(name: str, file: pathlib.Path) -> Iterator[Body]:
+    """The functions of a file that have a body and a proof of their own. Those of a cycle of calls have one proof."""
+    modules = tuple(one for one in pathlib.PurePath(name).with_suffix("").parts[1:] if one not in ("lib", "main"))
+    source = SourceFile("", modules, file)
+    for function in source.functions():
+        lines = lines_of(function, source.lines)
+        above = line_above(source.lines, function.line - 1)
+        if lines is not None and not any(map(CYCLE.search, source.lines[above : function.line])):
+            trait = trait_above(source.lines, function.line - 1)
+            yield Body(name, modules, function.of, trait, function.name, above + 1, *lines)
+
+
+def lines_of(function: Function, lines: Sequence[str]) -> Optional[Tuple[int, int]]:
+    """The numbers of the first line between a function's braces and of the one that closes them, if it has several lines."""
+    depth = depth_of(lines[function.line - 1])
+    opens = function.line + len(function.text) - 1
+    if not function.text[-1].endswith(" {"):
+        opens += 1
+    if not lines[opens - 1].endswith("{"):
+        return None
+    for number in range(opens + 1, len(lines) + 1):
+        line = lines[number - 1]
+        if line.strip() and depth_of(line) <= depth:
+            return (opens + 1, number) if line.strip() == "}" else None
+    return None
+
+
+def trait_above(lines: Sequence[str], place: int) -> str:
+    """The trait whose impl a function stands in, if it stands in one."""
+    depth = depth_of(lines[place])
+    above = (line for line in reversed(lines[:place]) if line.strip() and depth_of(line) < depth)
+    match = OF_TRAIT.match(next(above, "").strip())
+    return match["trait"] if match is not None else ""
+
+
+def line_above(lines: Sequence[str], place: int) -> int:
+    """The place of the first line of what stands right above a function: comments and attributes."""
+    while place > 0 and lines[place - 1].strip() and not lines[place - 1].endswith(("{", "}", ";")):
+        place -= 1
+    return place
