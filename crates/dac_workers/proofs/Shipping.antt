@@ -1,15 +1,18 @@
 -- One call more of a link's threads.
 use Rattle.std.proofs.Common.{◌≡◌, ℕ, zero, suc, ◌+◌, List, [], ◌∷◌, ◌++◌, map, All, Some, None, Ok, refl, sym, ap, ◌∙◌, subst, append_assoc, append-nil, arith}
-use Rattle.std.proofs.lemmas.List.Elements.{All-append}
+use Rattle.std.proofs.lemmas.List.Elements.{All-append, All-cons, All-nil}
 use Rattle.dac_base.specs.declared.NodeId.{NodeId}
 use Rattle.dac_config.specs.Table.{Table}
 use Rattle.dac_messages.specs.declared.event.Event.{Event}
 use Rattle.dac_messages.specs.declared.event.Event.TheVariants.{Ship, Hear}
 use Rattle.dac_messages.specs.declared.message.Message.{Message}
+use Rattle.dac_messages.specs.declared.reply.Reply.TheVariants.{Shipped}
+use Rattle.dac_sites.specs.Added.{CallAdded}
 use Rattle.dac_sites.specs.Call.{Call}
 use Rattle.dac_links.specs.Relay.{Paper}
 use Rattle.dac_wire.specs.declared.packet.Packet.TheVariants.{Msg}
 use Rattle.dac_wire.specs.Decoding.{packet_at}
+use Rattle.dac_workers.specs.Letters.{IsLetterOf}
 use Rattle.dac_workers.specs.Links.{shipped_by, shipped_in, letters_of, ReadsBack, ships_to, ShipsOne, Ships, HearsOne, AreRead, Hears}
 
 -- ---- lists one longer
@@ -41,6 +44,15 @@ read_push t (None ∷ ps) (x ∷ ms) bytes m r e = absurd r
 read_push t (Some b ∷ ps) (x ∷ ms) bytes m r e = (r.0, read_push t ps ms bytes m r.1 e)
 
 -- ---- shipping
+pub ships_letter : (t : Table) (to : NodeId) (place : ℕ) (message : Message) (letter : Paper) (old new : List Call) (put now : List Paper) → CallAdded old new place (Ship to) (Ok (Shipped message)) → IsLetterOf t message letter → now ≡ put ++ letter ∷ [] → ShipsOne t to old new put now
+ships_letter t to place message letter old new put now added l e = record {
+  call = _;
+  calls = added;
+  event = refl;
+  letters = e ∙ ap (λ p. put ++ p ∷ []) l.bytes;
+  sound = All-cons (ReadsBack t) message [] l.reads (All-nil (ReadsBack t));
+}
+
 pub ships_none : (t : Table) (to : NodeId) (old : List Call) (put : List Paper) → Ships t to 0 old old put put []
 ships_none t to old put = record { made = []; calls = sym (append-nil old); events = refl; letters = sym (append-nil (put ++ []) ∙ append-nil put); sound = λ k d front. absurd (omega (arith, front)) }
 
