@@ -160,10 +160,10 @@ module _ {L : Type 0} (is_value : L → Type 0) (join : L → L → L) where
       let of_e = subst (λ f. HasJoins is_value join ds f) (sym is) (h i e lt) in
       let new_one = subst (λ n. StandsFor is_value join j (drop (n - 2 ^ (length e.1 + 1)) ds)) whole (subst (λ n. StandsFor is_value join j (drop (i + 1 - 2 ^ (n + 1)) ds)) (sym made.0) made.1) in
       let all : AreJoined is_value join (set es i y) = λ k d inside.
-          elim (cases_eq k i) [
-            | inl at ↦ has_same _ _ _ _ (sym (ap (λ n. take (n + 1) (deltas_of (set es i y))) at ∙ ap (take (i + 1)) same)) (sym (ap (λ n. get_or (set es i y) n d) at ∙ get_or-set_same es i y d lt)) (grown ds e j of_e new_one)
-            | inr other ↦ has_same _ _ _ _ (sym (ap (take (k + 1)) same)) (sym (get_or-set_other es i k y d other)) (h k d (let l = length-set es i y in omega arith))
-          ] in
+      elim (cases_eq k i) [
+        | inl at ↦ has_same _ _ _ _ (sym (ap (λ n. take (n + 1) (deltas_of (set es i y))) at ∙ ap (take (i + 1)) same)) (sym (ap (λ n. get_or (set es i y) n d) at ∙ get_or-set_same es i y d lt)) (grown ds e j of_e new_one)
+        | inr other ↦ has_same _ _ _ _ (sym (ap (take (k + 1)) same)) (sym (get_or-set_other es i k y d other)) (h k d (let l = length-set es i y in omega arith))
+      ] in
       (subst (AreJoined is_value join) (sym put) all, ap deltas_of put ∙ same)
 
   -- what is left to join, after one block more
