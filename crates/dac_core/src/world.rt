@@ -161,8 +161,32 @@ impl World {
         match what {
             What::Deliver(number) => self.deliver(config, node, number),
             What::Hand(number) => self.hand(config, node, number),
-            _ => self.happen(config, node, &event_by_itself(what)),
+            _ => self.happen_by_itself(config, node, &event_by_itself(what)),
         }
+    }
+
+    /// An event that comes by itself at a node, which makes ready what the event takes.
+    fn happen_by_itself(
+        &mut self,
+        config: &Config,
+        node: NodeId,
+        event: &Event,
+    ) -> Result<Reply, WorldFault>
+        requires { node.0 < length self.old.nodes }
+        ensures happens { HappensAt config.now self.old node (Ok event.now) result self.new }
+        ensures unchanged { OnErr result (self.new ≡ self.old) }
+        ensures count { length self.new.nodes ≡ length self.old.nodes }
+    {
+        self.warm(node, event);
+        self.happen(config, node, event)
+    }
+
+    /// Makes ready what an event takes at a node.
+    fn warm(&mut self, node: NodeId, event: &Event)
+        requires { node.0 < length self.old.nodes }
+        ensures { self.new ≡ self.old }
+    {
+        self.nodes[node.0 as usize].warm(event);
     }
 
     /// An event at a node.

@@ -1,17 +1,32 @@
 -- Joins of blocks: how they come about, and how they are kept as deltas come and go.
-use Rattle.std.specs.Prelude.{◌≡◌, ℕ, ◌+◌, ◌-◌, ◌*◌, ◌%◌, ◌≤◌, ◌<◌, ◌^◌, List, [], ◌∷◌, ◌++◌, length, fold, take, drop, get_or}
-use Rattle.std.proofs.Common.{arith, sym, ap, subst, ◌∙◌, zero, suc, refl, true, false, ltb, append_assoc}
-use Rattle.std.proofs.lemmas.Bool.{ltb-true, ltb-false}
-use Rattle.std.proofs.lemmas.List.{take-append-le, take_all, drop_all, drop_at, drop-append-le, take-append-drop, get_or_push, drop-take, drop-drop, get_or_append_left, get_or-drop, length-append, length-map, length-drop, length-take, map-append, drop-map}
+use Rattle.std.specs.Prelude.{◌≡◌, ℕ, ◌+◌, ◌-◌, ◌*◌, ◌%◌, ◌≤◌, ◌<◌, ◌^◌, List, [], ◌∷◌, ◌++◌, length, fold, take, drop, set, get_or}
+use Rattle.std.proofs.Common.{arith, sym, ap, subst, ◌∙◌, zero, suc, refl, true, false, inl, inr, ltb, append_assoc, take-take}
+use Rattle.std.proofs.Math.Nat.{pow-le-pow_right}
+use Rattle.std.proofs.lemmas.Bool.{ltb-true, ltb-false, cases_eq}
+use Rattle.std.proofs.lemmas.List.{take-append-le, take_all, drop_all, drop_at, drop-append-le, take-append-drop, get_or_push, get_or_read, get_or-set_same, get_or-set_other, drop-take, drop-drop, get_or_append_left, get_or-drop, length-append, length-set, length-map, length-drop, length-take, map-append, drop-map}
 use Rattle.std.proofs.lemmas.Nat.{pow_pos, one_shl}
 use Rattle.std.proofs.lemmas.List.Sums.{fold-append}
-use Rattle.dac_base.specs.declared.limits.TheConstants.{MAX_COUNTER}
 use Rattle.dac_lattice.specs.Lattices.{IsLattice}
 use Rattle.dac_lattice.specs.laws.Joins.{join_assoc}
-use Rattle.dac_deltas.proofs.Levels.{below_longest, next_power, aligned_below, aligned_before, aligned_after}
+use Rattle.dac_deltas.proofs.Levels.{next_power}
 use Rattle.dac_deltas.specs.Blocks.{IsLongest}
 use Rattle.dac_deltas.specs.declared.blocks.TheConstants.{MOST_LEVEL}
-use Rattle.dac_deltas.specs.BlockEnds.{deltas_of, join_at, StandsFor, HasJoins, AreJoined}
+use Rattle.dac_deltas.specs.BlockEnds.{deltas_of, join_at, StandsFor, HasJoins, AreJoined, IsNextJoin}
+
+-- a block that is shorter than one that fits does too
+pub record ItFits (begin level n : ℕ) : Type 0 where
+  pub within : begin + 2 ^ level ≤ n
+  pub positive : 0 < 2 ^ level
+  pub shifted : 1 * 2 ^ level % 2 ^ 64 ≡ 2 ^ level
+
+pub shorter_fits : (begin level most n : ℕ) → level ≤ most → most ≤ MOST_LEVEL → begin + 2 ^ most ≤ n → ItFits begin level n
+shorter_fits begin level most n less small fits =
+    let lower = pow-le-pow_right {n = 2} (omega arith) {i = level} {j = most} less in
+    record { within = omega arith; positive = pow_pos level; shifted = one_shl level 64 (omega arith) }
+
+-- as many endings as deltas
+pub same_long : {L : Type 0} (es fs : List (L × List L)) → deltas_of es ≡ deltas_of fs → length es ≡ length fs
+same_long {L} es fs same = sym (length-map es (λ (x : L × List L). x.0)) ∙ (ap length same ∙ length-map fs (λ (x : L × List L). x.0))
 
 module _ {L : Type 0} (is_value : L → Type 0) (join : L → L → L) where
   -- a delta stands for itself
@@ -29,53 +44,127 @@ module _ {L : Type 0} (is_value : L → Type 0) (join : L → L → L) where
         ∙ sym (join_assoc laws z x y v s.value t.value)));
   }
 
-  has_same : (number number' : ℕ) (ds ds' : List L) (e e' : L × List L) → number ≡ number' → ds ≡ ds' → e ≡ e' → HasJoins is_value join number ds e → HasJoins is_value join number' ds' e'
-  has_same number number' ds ds' e e' p q r h = subst (λ f. HasJoins is_value join number' ds' f) r (subst (λ xs. HasJoins is_value join number' xs e) q (subst (λ n. HasJoins is_value join n ds e) p h))
+  has_same : (ds ds' : List L) (e e' : L × List L) → ds ≡ ds' → e ≡ e' → HasJoins is_value join ds e → HasJoins is_value join ds' e'
+  has_same ds ds' e e' q r h = subst (λ f. HasJoins is_value join ds' f) r (subst (λ xs. HasJoins is_value join xs e) q h)
 
-  -- one more ending, with the joins of the blocks that end there
-  pub joined_push : (base : ℕ) (es : List (L × List L)) (e : L × List L) → AreJoined is_value join base es → HasJoins is_value join (base + (length es + 1)) (deltas_of es ++ e.0 ∷ []) e → AreJoined is_value join base (es ++ e ∷ [])
-  joined_push base es e h new i d lt =
-      let all = map-append (λ (x : L × List L). x.0) es (e ∷ []) in
+  -- a delta alone is right
+  alone : (ds : List L) (x : L) → is_value x → HasJoins is_value join (ds ++ x ∷ []) (x, [])
+  alone ds x v zero low fits =
+      let two = length-append ds (x ∷ []) in
+      subst (StandsFor is_value join x) (sym (drop_at ds (x ∷ []) (length (ds ++ x ∷ []) - 1) (omega arith))) (stands_one x v)
+  alone ds x v (suc k) low fits = absurd (omega arith)
+
+  -- one delta more
+  pub joined_push : (es : List (L × List L)) (x : L) → AreJoined is_value join es → is_value x → AreJoined is_value join (es ++ (x, []) ∷ [])
+  joined_push es x h v i d lt =
+      let e : L × List L = (x, []) in
+      let all = map-append (λ (y : L × List L). y.0) es (e ∷ []) in
       let long = length-append es (e ∷ []) in
-      let many = length-map es (λ (x : L × List L). x.0) in
-      elim (ltb i (length es)) as (λ b. ltb i (length es) ≡ b → HasJoins is_value join (base + (i + 1)) (take (i + 1) (deltas_of (es ++ e ∷ []))) (get_or (es ++ e ∷ []) i d)) [
+      let many = length-map es (λ (y : L × List L). y.0) in
+      elim (ltb i (length es)) as (λ b. ltb i (length es) ≡ b → HasJoins is_value join (take (i + 1) (deltas_of (es ++ e ∷ []))) (get_or (es ++ e ∷ []) i d)) [
         | true ↦ λ t.
             let below = ltb-true i (length es) t in
-            has_same _ _ _ _ _ _ refl (sym (ap (take (i + 1)) all ∙ take-append-le (i + 1) (deltas_of es) (e.0 ∷ []) (omega arith))) (sym (get_or_append_left es (e ∷ []) d i below)) (h i d below)
+            has_same _ _ _ _ (sym (ap (take (i + 1)) all ∙ take-append-le (i + 1) (deltas_of es) (x ∷ []) (omega arith))) (sym (get_or_append_left es (e ∷ []) d i below)) (h i d below)
         | false ↦ λ t.
             let above = ltb-false i (length es) t in
             let last : length es ≡ i = omega arith in
             let whole = ap length all in
-            let two = length-append (deltas_of es) (e.0 ∷ []) in
-            has_same _ _ _ _ _ _ (omega arith) (sym (take_all (i + 1) (deltas_of (es ++ e ∷ [])) (omega arith) ∙ all)) (sym (get_or_push es e d i last)) new
+            let two = length-append (deltas_of es) (x ∷ []) in
+            has_same _ _ _ _ (sym (take_all (i + 1) (deltas_of (es ++ e ∷ [])) (omega arith) ∙ all)) (sym (get_or_push es e d i last)) (alone (deltas_of es) x v)
       ] refl
 
-  -- where fewer deltas are kept, there are fewer blocks
-  has_less : (number n : ℕ) (ds : List L) (e : L × List L) → HasJoins is_value join number ds e → HasJoins is_value join number (drop n ds) e
-  has_less number n ds e h k small at fits =
+  -- where fewer deltas are kept, fewer joins count
+  has_less : (n : ℕ) (ds : List L) (e : L × List L) → HasJoins is_value join ds e → HasJoins is_value join (drop n ds) e
+  has_less n ds e h k low fits =
       let left = length-drop n ds in
       let pos = pow_pos k in
-      let had = h k small at (omega arith) in
       let to : n + (length (drop n ds) - 2 ^ k) ≡ length ds - 2 ^ k = omega arith in
-      (had.0, subst (StandsFor is_value join (join_at e k)) (sym (drop-drop (length (drop n ds) - 2 ^ k) n ds ∙ ap (λ m. drop m ds) to)) had.1)
+      subst (StandsFor is_value join (join_at e k)) (sym (drop-drop (length (drop n ds) - 2 ^ k) n ds ∙ ap (λ m. drop m ds) to)) (h k low (omega arith))
 
   -- without the oldest
-  pub joined_drop : (base n : ℕ) (es : List (L × List L)) → AreJoined is_value join base es → AreJoined is_value join (base + n) (drop n es)
-  joined_drop base n es h i d lt =
+  pub joined_drop : (n : ℕ) (es : List (L × List L)) → AreJoined is_value join es → AreJoined is_value join (drop n es)
+  joined_drop n es h i d lt =
       let left = length-drop n es in
       let same : drop n (take (n + (i + 1)) (deltas_of es)) ≡ take (i + 1) (deltas_of (drop n es)) = drop-take n (i + 1) (deltas_of es) ∙ ap (take (i + 1)) (drop-map (λ (x : L × List L). x.0) n es) in
-      let had = has_same _ (base + n + (i + 1)) _ (take (n + (i + 1)) (deltas_of es)) _ (get_or (drop n es) i d) (omega arith) (ap (λ m. take m (deltas_of es)) (omega arith)) (sym (get_or-drop n es i d)) (h (n + i) d (omega arith)) in
-      has_same _ _ _ _ _ _ refl same refl (has_less _ n _ _ had)
+      let had = has_same _ (take (n + (i + 1)) (deltas_of es)) _ (get_or (drop n es) i d) (ap (λ m. take m (deltas_of es)) (omega arith)) (sym (get_or-drop n es i d)) (h (n + i) d (omega arith)) in
+      has_same _ _ _ _ same refl (has_less n _ _ had)
 
-  -- a block that is wholly kept has its join where it ends
-  kept_block : (base a k i : ℕ) (es : List (L × List L)) (d : L × List L) → AreJoined is_value join base es → base ≤ a → k ≤ MOST_LEVEL → a % 2 ^ k ≡ 0 → base + (i + 1) ≡ a + 2 ^ k → i < length es → (k ≤ length (get_or es i d).1) × StandsFor is_value join (join_at (get_or es i d) k) (take (2 ^ k) (drop (a - base) (deltas_of es)))
-  kept_block base a k i es d h from small at to lt =
+  -- a block whose join is made stands for its deltas
+  pub block_there : (begin level i : ℕ) (es : List (L × List L)) (e : L × List L) → AreJoined is_value join es → begin + 2 ^ level ≤ length es → begin + 2 ^ level ≡ i + 1 → e ≡ get_or es i e → level ≤ length e.1 → StandsFor is_value join (join_at e level) (take (2 ^ level) (drop begin (deltas_of es)))
+  block_there begin level i es e h fits ends is made =
+      let ds = take (i + 1) (deltas_of es) in
       let many = length-map es (λ (x : L × List L). x.0) in
       let long = length-take (i + 1) (deltas_of es) in
-      let had = h i d lt k small (ap (λ n. n % 2 ^ k) to ∙ aligned_after a k at) (omega arith) in
-      let begins : length (take (i + 1) (deltas_of es)) - 2 ^ k ≡ a - base = omega arith in
-      let ends : i + 1 ≡ (a - base) + 2 ^ k = omega arith in
-      (had.0, subst (StandsFor is_value join (join_at (get_or es i d) k)) (ap (λ n. drop n (take (i + 1) (deltas_of es))) begins ∙ (ap (λ n. drop (a - base) (take n (deltas_of es))) ends ∙ drop-take (a - base) (2 ^ k) (deltas_of es))) had.1)
+      let had = subst (λ f. HasJoins is_value join ds f) (sym is) (h i e (omega arith)) level made (omega arith) in
+      let begins : length ds - 2 ^ level ≡ begin = omega arith in
+      subst (StandsFor is_value join (join_at e level)) (ap (λ n. drop n ds) begins ∙ (ap (λ n. drop begin (take n (deltas_of es))) (sym ends) ∙ drop-take begin (2 ^ level) (deltas_of es))) had
+
+  -- ---- joins that are made
+  -- a block has the deltas of its halves
+  two_halves : (b p : ℕ) (ds : List L) → take p (drop b ds) ++ take p (drop (b + p) ds) ≡ drop b (take (b + (p + p)) ds)
+  two_halves b p ds =
+      ap (λ xs. take p (drop b ds) ++ take p xs) (sym (drop-drop p b ds))
+      ∙ (ap (λ xs. xs ++ take p (drop p (drop b ds))) (sym (take-take p (p + p) (drop b ds) (omega arith)))
+      ∙ (ap (λ xs. take p (take (p + p) (drop b ds)) ++ xs) (sym (drop-take p p (drop b ds)))
+      ∙ (take-append-drop p (take (p + p) (drop b ds)) ∙ sym (drop-take b (p + p) ds))))
+
+  -- the join of two halves is the next join of the ending of the second
+  pub doubled_join : {below : L → L → Type 0} → IsLattice is_value below join → (es : List (L × List L)) (i level j : ℕ) (e m : L × List L) (x : L) → AreJoined is_value join es → i < length es → level < MOST_LEVEL → 2 ^ (level + 1) ≤ i + 1 → j ≡ i - 1 * 2 ^ level % 2 ^ 64 → e ≡ get_or es i e → m ≡ get_or es j m → length e.1 ≡ level → level ≤ length m.1 → x ≡ join (join_at m level) (join_at e level) → (f : L × List L) → IsNextJoin is_value join es i level f x
+  doubled_join laws es i level j e m x h lt small fits to is middle at made joined f same =
+      let ds = deltas_of es in
+      let p = 2 ^ level in
+      let b = i + 1 - 2 ^ (level + 1) in
+      let pos = pow_pos level in
+      let twice = next_power level in
+      let shifted = one_shl level 64 (omega arith) in
+      let whole : b + (p + p) ≡ i + 1 = omega arith in
+      let left = block_there b level j es m h (omega arith) (omega arith) middle made in
+      let right = block_there (b + p) level i es e h (omega arith) (omega arith) is (omega arith) in
+      let both = stands_both laws (join_at m level) (join_at e level) _ _ left right in
+      let all = two_halves b p ds ∙ ap (λ n. drop b (take n ds)) whole in
+      let one : f ≡ e = get_or_read es i f lt same e ∙ sym is in (
+        ap (λ (g : L × List L). length g.1) one ∙ at,
+        subst (λ y. StandsFor is_value join y (drop b (take (i + 1) ds))) (sym joined) (subst (StandsFor is_value join (join (join_at m level) (join_at e level))) all both),
+      )
+
+  -- an ending with one join more
+  grown : (ds : List L) (e : L × List L) (j : L) → HasJoins is_value join ds e → StandsFor is_value join j (drop (length ds - 2 ^ (length e.1 + 1)) ds) → HasJoins is_value join ds (e.0, e.1 ++ j ∷ [])
+  grown ds e j h new k low fits =
+      let long = length-append e.1 (j ∷ []) in
+      elim (ltb k (length e.1 + 1)) as (λ b. ltb k (length e.1 + 1) ≡ b → StandsFor is_value join (join_at (e.0, e.1 ++ j ∷ []) k) (drop (length ds - 2 ^ k) ds)) [
+        | true ↦ λ t.
+            let below = ltb-true k (length e.1 + 1) t in
+            subst (λ x. StandsFor is_value join x (drop (length ds - 2 ^ k) ds)) (sym (get_or_append_left (e.0 ∷ e.1) (j ∷ []) e.0 k (omega arith))) (h k (omega arith) fits)
+        | false ↦ λ t.
+            let above = ltb-false k (length e.1 + 1) t in
+            let last : length e.1 + 1 ≡ k = omega arith in
+            let at : length (e.0 ∷ e.1) ≡ k = omega arith in
+            subst (λ x. StandsFor is_value join x (drop (length ds - 2 ^ k) ds)) (sym (get_or_push (e.0 ∷ e.1) j e.0 k at)) (subst (λ n. StandsFor is_value join j (drop (length ds - 2 ^ n) ds)) last new)
+      ] refl
+
+  deltas_set : (es : List (L × List L)) (i : ℕ) (e : L × List L) (js : List L) → e ≡ get_or es i e → deltas_of (set es i (e.0, js)) ≡ deltas_of es
+  deltas_set [] i e js is = refl
+  deltas_set (x ∷ es) zero e js is = ap (λ (y : L × List L). y.0 ∷ deltas_of es) is
+  deltas_set (x ∷ es) (suc i) e js is = ap (λ l. x.0 ∷ l) (deltas_set es i e js is)
+
+  -- one join more is made
+  pub joined_more : (es new : List (L × List L)) (i level : ℕ) (e : L × List L) (j : L) → AreJoined is_value join es → i < length es → e ≡ get_or es i e → IsNextJoin is_value join es i level e j → new ≡ set es i (e.0, e.1 ++ j ∷ []) → AreJoined is_value join new × (deltas_of new ≡ deltas_of es)
+  joined_more es new i level e j h lt is next put =
+      let y : L × List L = (e.0, e.1 ++ j ∷ []) in
+      let same = deltas_set es i e (e.1 ++ j ∷ []) is in
+      let made = next is in
+      let ds = take (i + 1) (deltas_of es) in
+      let many = length-map es (λ (x : L × List L). x.0) in
+      let long = length-take (i + 1) (deltas_of es) in
+      let whole : i + 1 ≡ length ds = omega arith in
+      let of_e = subst (λ f. HasJoins is_value join ds f) (sym is) (h i e lt) in
+      let new_one = subst (λ n. StandsFor is_value join j (drop (n - 2 ^ (length e.1 + 1)) ds)) whole (subst (λ n. StandsFor is_value join j (drop (i + 1 - 2 ^ (n + 1)) ds)) (sym made.0) made.1) in
+      let all : AreJoined is_value join (set es i y) = λ k d inside.
+      elim (cases_eq k i) [
+        | inl at ↦ has_same _ _ _ _ (sym (ap (λ n. take (n + 1) (deltas_of (set es i y))) at ∙ ap (take (i + 1)) same)) (sym (ap (λ n. get_or (set es i y) n d) at ∙ get_or-set_same es i y d lt)) (grown ds e j of_e new_one)
+        | inr other ↦ has_same _ _ _ _ (sym (ap (take (k + 1)) same)) (sym (get_or-set_other es i k y d other)) (h k d (let l = length-set es i y in omega arith))
+      ] in
+      (subst (AreJoined is_value join) (sym put) all, ap deltas_of put ∙ same)
 
   -- what is left to join, after one block more
   block_joined : (ds : List L) (n m : ℕ) (joined x : L) → is_value joined → StandsFor is_value join x (take m (drop n ds)) → fold join (join joined x) (drop (n + m) ds) ≡ fold join joined (drop n ds)
@@ -86,132 +175,29 @@ module _ {L : Type 0} (is_value : L → Type 0) (join : L → L → L) where
       ∙ (sym (fold-append join joined (take m rest) (drop m rest))
       ∙ ap (fold join joined) (take-append-drop m rest)))
 
-  -- the last block of 2^level deltas before the next delta's own, where the two make a block that ends with that delta
-  pub block_before : (base level top i n : ℕ) (es : List (L × List L)) (e : L × List L) → AreJoined is_value join base es → n ≡ length es → IsLongest (base + (n + 1)) (n + 1) top → level < top → i ≡ n - 1 * 2 ^ level % 2 ^ 64 → e ≡ get_or es i e → (level ≤ length e.1) × StandsFor is_value join (join_at e level) (drop (i + 1 - 2 ^ level) (take (i + 1) (deltas_of es)))
-  block_before base level top i n es e h whole longest less to is =
-      let both = below_longest _ _ _ level longest less in
-      let many = length-map es (λ (x : L × List L). x.0) in
-      let long = length-take (i + 1) (deltas_of es) in
-      let at = aligned_below (base + (n + 1)) level (level + 1) (omega arith) both.aligned in
-      let number = aligned_before (base + (n + 1)) (base + (i + 1)) level (omega arith) at in
-      let had = h i e (omega arith) level (omega arith) number (omega arith) in
-      let ds = take (i + 1) (deltas_of es) in
-      let begins : length ds - 2 ^ level ≡ i + 1 - 2 ^ level = omega arith in
-      subst (λ f. (level ≤ length f.1) × StandsFor is_value join (join_at f level) (drop (i + 1 - 2 ^ level) ds)) (sym is)
-      (had.0, subst (λ n. StandsFor is_value join (join_at (get_or es i e) level) (drop n ds)) begins had.1)
-
-  -- the deltas of both are those of the longer block
-  two_blocks : (level i : ℕ) (des : List L) (d : L) → 2 ^ (level + 1) ≤ length des + 1 → i + 2 ^ level ≡ length des → drop (i + 1 - 2 ^ level) (take (i + 1) des) ++ drop (length des + 1 - 2 ^ level) (des ++ d ∷ []) ≡ drop (length des + 1 - 2 ^ (level + 1)) (des ++ d ∷ [])
-  two_blocks level i des d fits to =
-      let pos = pow_pos level in
-      let twice = next_power level in
-      let m = i + 1 - 2 ^ level in
-      let p = 2 ^ level in
-      let ends : i + 1 ≡ m + p = omega arith in
-      let next : length des + 1 - p ≡ m + p = omega arith in
-      let begins : length des + 1 - 2 ^ (level + 1) ≡ m = omega arith in
-      let left = length-drop m des in
-      let all = des ++ d ∷ [] in
-      ap (λ n. drop m (take n des) ++ drop (length des + 1 - p) all) ends
-      ∙ (ap (λ xs. xs ++ drop (length des + 1 - p) all) (drop-take m p des ∙ sym (ap (take p) (drop-append-le m des (d ∷ []) (omega arith)) ∙ take-append-le p (drop m des) (d ∷ []) (omega arith)))
-      ∙ (ap (λ n. take p (drop m all) ++ drop n all) next
-      ∙ (ap (λ xs. take p (drop m all) ++ xs) (sym (drop-drop p m all))
-      ∙ (take-append-drop p (drop m all) ∙ ap (λ n. drop n all) (sym begins)))))
-
-  -- of the next delta, the joins that are made so far: those of all blocks up to a level
-  pub record AreMade (es : List (L × List L)) (d : L) (joins : List L) (level : ℕ) : Type 0 where
-    pub long : length joins ≡ level
-    pub each : (k : ℕ) → k ≤ level → StandsFor is_value join (join_at (d, joins) k) (drop (length es + 1 - 2 ^ k) (deltas_of es ++ d ∷ []))
-
-  -- at first there is the delta alone
-  pub made_one : (es : List (L × List L)) (d : L) (joins : List L) → is_value d → joins ≡ [] → AreMade es d joins 0
-  made_one es d joins v none = record { long = ap length none; each = each }
-    where
-      each : (k : ℕ) → k ≤ 0 → StandsFor is_value join (join_at (d, joins) k) (drop (length es + 1 - 2 ^ k) (deltas_of es ++ d ∷ []))
-      each zero low =
-          let many = length-map es (λ (x : L × List L). x.0) in
-          subst (StandsFor is_value join d) (sym (drop_at (deltas_of es) (d ∷ []) (length es + 1 - 1) (omega arith))) (stands_one d v)
-      each (suc k) low = absurd (omega arith)
-
-  -- one join more
-  made_more : (es : List (L × List L)) (d j : L) (joins : List L) (level : ℕ) → AreMade es d joins level → StandsFor is_value join j (drop (length es + 1 - 2 ^ (level + 1)) (deltas_of es ++ d ∷ [])) → AreMade es d (joins ++ j ∷ []) (level + 1)
-  made_more es d j joins level made new =
-      let long = made.long in
-      record {
-        long = omega (arith, length-append joins (j ∷ []));
-        each = λ k low. elim (ltb k (level + 1)) as (λ b. ltb k (level + 1) ≡ b → StandsFor is_value join (join_at (d, joins ++ j ∷ []) k) (drop (length es + 1 - 2 ^ k) (deltas_of es ++ d ∷ []))) [
-          | true ↦ λ t.
-              let below = ltb-true k (level + 1) t in
-              subst (λ x. StandsFor is_value join x (drop (length es + 1 - 2 ^ k) (deltas_of es ++ d ∷ []))) (sym (get_or_append_left (d ∷ joins) (j ∷ []) d k (omega arith))) (made.each k (omega arith))
-          | false ↦ λ t.
-              let above = ltb-false k (level + 1) t in
-              let last : level + 1 ≡ k = omega arith in
-              let at : length (d ∷ joins) ≡ k = omega arith in
-              subst (λ x. StandsFor is_value join x (drop (length es + 1 - 2 ^ k) (deltas_of es ++ d ∷ []))) (sym (get_or_push (d ∷ joins) j d k at)) (subst (λ n. StandsFor is_value join j (drop (length es + 1 - 2 ^ n) (deltas_of es ++ d ∷ []))) last new)
-        ] refl;
-      }
-
-  -- that join is the join of two blocks, of which the second ends with the next delta
-  pub made_next : {below : L → L → Type 0} → IsLattice is_value below join → (base level top i n : ℕ) (es : List (L × List L)) (e : L × List L) (d j last : L) (joins joins' : List L) → AreJoined is_value join base es → n ≡ length es → IsLongest (base + (n + 1)) (n + 1) top → level < top → i ≡ n - 1 * 2 ^ level % 2 ^ 64 → e ≡ get_or es i e → AreMade es d joins level → last ≡ join_at (d, joins) (length joins) → j ≡ join (join_at e level) last → joins' ≡ joins ++ j ∷ [] → AreMade es d joins' (level + 1)
-  made_next laws base level top i n es e d j last joins joins' h whole longest less to is made newest joined pushed =
-      let both = below_longest _ _ _ level longest less in
-      let many = length-map es (λ (x : L × List L). x.0) in
-      let des = deltas_of es in
-      let before = block_before base level top i n es e h whole longest less to is in
-      let own = subst (λ x. StandsFor is_value join x (drop (length es + 1 - 2 ^ level) (des ++ d ∷ []))) (sym (newest ∙ ap (join_at (d, joins)) made.long)) (made.each level (omega arith)) in
-      let stands = stands_both laws (join_at e level) last _ _ before.1 own in
-      let all = ap (λ n. drop (i + 1 - 2 ^ level) (take (i + 1) des) ++ drop (n + 1 - 2 ^ level) (des ++ d ∷ [])) (sym many) ∙ (two_blocks level i des d (omega arith) (omega arith) ∙ ap (λ n. drop (n + 1 - 2 ^ (level + 1)) (des ++ d ∷ [])) many) in
-      let new = subst (λ x. StandsFor is_value join x (drop (length es + 1 - 2 ^ (level + 1)) (des ++ d ∷ []))) (sym joined) (subst (StandsFor is_value join (join (join_at e level) last)) all stands) in
-      subst (λ js. AreMade es d js (level + 1)) (sym pushed) (made_more es d j joins level made new)
-
-  -- with the longest one made, all are
-  pub made_all : (base : ℕ) (es : List (L × List L)) (d : L) (joins : List L) (level : ℕ) → AreMade es d joins level → IsLongest (base + (length es + 1)) (length es + 1) level → HasJoins is_value join (base + (length es + 1)) (deltas_of es ++ d ∷ []) (d, joins)
-  made_all base es d joins level made top k small at fits =
-      let long = made.long in
-      let many = length-map es (λ (x : L × List L). x.0) in
-      let all = length-append (deltas_of es) (d ∷ []) in
-      let low = top.longest k small at (omega arith) in
-      let whole : length es + 1 ≡ length (deltas_of es ++ d ∷ []) = omega arith in
-      (omega arith, subst (λ n. StandsFor is_value join (join_at (d, joins) k) (drop (n - 2 ^ k) (deltas_of es ++ d ∷ []))) whole (made.each k low))
-
   -- ---- several deltas
   -- of the deltas to add after those that were kept, these are left
-  pub record AreAdded (base : ℕ) (old : List (L × List L)) (deltas : List L) (kept : List (L × List L)) (left : List L) : Type 0 where
-    pub joined : AreJoined is_value join base kept
-    pub room : base + length kept + length left ≤ MAX_COUNTER
+  pub record AreAdded (old : List (L × List L)) (deltas : List L) (kept : List (L × List L)) (left : List L) : Type 0 where
+    pub joined : AreJoined is_value join kept
     pub added : deltas_of kept ++ left ≡ deltas_of old ++ deltas
     pub before : take (length old) kept ≡ old
 
   -- one more is added
-  pub added_one : (base : ℕ) (old kept new : List (L × List L)) (deltas left rest : List L) (d : L) (e : L × List L) → AreAdded base old deltas kept left → left ≡ d ∷ rest → e.0 ≡ d → HasJoins is_value join (base + (length kept + 1)) (deltas_of kept ++ d ∷ []) e → new ≡ kept ++ e ∷ [] → AreAdded base old deltas new rest
-  added_one base old kept new deltas left rest d e h next is joins pushed =
-      let one = ap length pushed ∙ length-append kept (e ∷ []) in
+  pub added_one : (old kept new : List (L × List L)) (deltas left rest : List L) (d : L) → AreAdded old deltas kept left → left ≡ d ∷ rest → is_value d → new ≡ kept ++ (d, []) ∷ [] → AreAdded old deltas new rest
+  added_one old kept new deltas left rest d h next value pushed =
       let was = ap length h.before in
       let cut = length-take (length old) kept in
-      let fewer = ap length next in
-      let room = h.room in
       record {
-        joined = subst (AreJoined is_value join base) (sym pushed) (joined_push base kept e h.joined (subst (λ x. HasJoins is_value join (base + (length kept + 1)) (deltas_of kept ++ x ∷ []) e) (sym is) joins));
-        room = omega arith;
+        joined = subst (AreJoined is_value join) (sym pushed) (joined_push kept d h.joined value);
         added =
             ap (λ es. deltas_of es ++ rest) pushed
-            ∙ (ap (λ ds. ds ++ rest) (map-append (λ (x : L × List L). x.0) kept (e ∷ []))
-            ∙ (append_assoc (deltas_of kept) (e.0 ∷ []) rest
-            ∙ (ap (λ x. deltas_of kept ++ x ∷ rest) is ∙ (ap (λ r. deltas_of kept ++ r) (sym next) ∙ h.added))));
-        before = ap (take (length old)) pushed ∙ (take-append-le (length old) kept (e ∷ []) (omega arith) ∙ h.before);
+            ∙ (ap (λ ds. ds ++ rest) (map-append (λ (x : L × List L). x.0) kept ((d, []) ∷ []))
+            ∙ (append_assoc (deltas_of kept) (d ∷ []) rest
+            ∙ (ap (λ r. deltas_of kept ++ r) (sym next) ∙ h.added)));
+        before = ap (take (length old)) pushed ∙ (take-append-le (length old) kept ((d, []) ∷ []) (omega arith) ∙ h.before);
       }
 
   -- ---- intervals
-  -- from a number on, the longest block is kept where it ends
-  pub block_there : (count base number level i : ℕ) (es : List (L × List L)) (e : L × List L) → AreJoined is_value join base es → base + length es ≡ count → base ≤ number → number < count → IsLongest number (count - number) level → i ≡ number + 1 * 2 ^ level % 2 ^ 64 - base - 1 → e ≡ get_or es i e → (level ≤ length e.1) × StandsFor is_value join (join_at e level) (take (2 ^ level) (drop (number - base) (deltas_of es)))
-  block_there count base number level i es e h whole from before top to is =
-      let pos = pow_pos level in
-      let small = top.small in
-      let fits = top.fits in
-      let shifted = one_shl level 64 (omega arith) in
-      let had = kept_block base number level i es e h from small top.aligned (omega arith) (omega arith) in
-      subst (λ f. (level ≤ length f.1) × StandsFor is_value join (join_at f level) (take (2 ^ level) (drop (number - base) (deltas_of es)))) (sym is) had
-
   -- of the deltas from a on, those before a number are joined
   pub record IsJoining (bottom : L) (base a count number : ℕ) (ds : List L) (joined : L) : Type 0 where
     pub from : a ≤ number
@@ -219,11 +205,12 @@ module _ {L : Type 0} (is_value : L → Type 0) (join : L → L → L) where
     pub value : is_value joined
     pub rest : fold join joined (drop (number - base) ds) ≡ fold join bottom (drop (a - base) ds)
 
-  -- one block more
-  pub joining_one : {below : L → L → Type 0} → IsLattice is_value below join → (bottom : L) (base a count number end level : ℕ) (es : List (L × List L)) (joined x j : L) → base ≤ a → number < count → IsLongest number (count - number) level → end ≡ number + 1 * 2 ^ level % 2 ^ 64 → StandsFor is_value join x (take (2 ^ level) (drop (number - base) (deltas_of es))) → IsJoining bottom base a count number (deltas_of es) joined → j ≡ join joined x → IsJoining bottom base a count end (deltas_of es) j
-  joining_one laws bottom base a count number end level es joined x j low before top ends s h is =
+  -- one block more, which is as long as the longest one or shorter
+  pub joining_one : {below : L → L → Type 0} → IsLattice is_value below join → (bottom : L) (base a count number end most level : ℕ) (ds : List L) (joined x j : L) → base ≤ a → IsLongest number (count - number) most → level ≤ most → number < count → end ≡ number + 1 * 2 ^ level % 2 ^ 64 → StandsFor is_value join x (take (2 ^ level) (drop (number - base) ds)) → IsJoining bottom base a count number ds joined → j ≡ join joined x → IsJoining bottom base a count end ds j
+  joining_one laws bottom base a count number end most level ds joined x j low top less before ends s h is =
       let small = top.small in
       let fits = top.fits in
+      let lower = pow-le-pow_right {n = 2} (omega arith) {i = level} {j = most} less in
       let shifted = one_shl level 64 (omega arith) in
       let from = h.from in
       let next : end - base ≡ (number - base) + 2 ^ level = omega arith in
@@ -231,7 +218,7 @@ module _ {L : Type 0} (is_value : L → Type 0) (join : L → L → L) where
         from = omega arith;
         to = omega arith;
         value = subst is_value (sym is) (laws.closed joined x h.value s.value);
-        rest = ap (λ y. fold join y (drop (end - base) (deltas_of es))) is ∙ (ap (λ n. fold join (join joined x) (drop n (deltas_of es))) next ∙ (block_joined (deltas_of es) (number - base) (2 ^ level) joined x h.value s ∙ h.rest));
+        rest = ap (λ y. fold join y (drop (end - base) ds)) is ∙ (ap (λ n. fold join (join joined x) (drop n ds)) next ∙ (block_joined ds (number - base) (2 ^ level) joined x h.value s ∙ h.rest));
       }
 
   -- in the end all are joined

@@ -1,24 +1,23 @@
 -- What a buffer keeps, after deltas came and after the oldest went.
 use Rattle.std.proofs.Common.{◌≡◌, ◌+◌, ◌-◌, ◌≤◌, ℕ, List, [], ◌∷◌, ◌++◌, drop, fold, length, refl, sym, ap, subst, ◌∙◌, arith, min}
-use Rattle.std.proofs.Math.Nat.{mod-one}
 use Rattle.std.proofs.lemmas.List.{length-drop, length-append, length-map, length-take, drop-map, get_or-map, map-append}
 use Rattle.std.specs.List.{All}
 use Rattle.dac_base.specs.declared.limits.TheConstants.{MAX_COUNTER}
-use Rattle.dac_deltas.specs.KeptDeltas.{KeptDeltas, newest, pushed, trimmed}
+use Rattle.dac_deltas.specs.KeptDeltas.{KeptDeltas, IsBuffer, newest, pushed, trimmed}
 use Rattle.dac_deltas.specs.laws.Logs.{same_kept, pushes_drop_together}
-use Rattle.dac_deltas.specs.BlockEnds.{HasJoins, AreJoined, IsKept, deltas_of}
+use Rattle.dac_deltas.specs.BlockEnds.{AreJoined, IsKept, deltas_of}
 use Rattle.dac_deltas.proofs.Joining.{joined_push, joined_drop}
 use Rattle.dac_deltas.specs.declared.buffer.TheConstants.{MAX_DELTAS}
 
 module _ {L : Type 0} (is_value : L → Type 0) (join : L → L → L) where
   -- each delta that is kept is a value, since it is a block itself
-  joined_values : (base : ℕ) (es : List (L × List L)) → AreJoined is_value join base es → All is_value (deltas_of es)
-  joined_values base es h k d lt =
+  joined_values : (es : List (L × List L)) → AreJoined is_value join es → All is_value (deltas_of es)
+  joined_values es h k d lt =
       let many = length-map es (λ (x : L × List L). x.0) in
       let long = length-take (k + 1) (deltas_of es) in
       let e : L × List L = (d, []) in
-      let had = h k e (omega arith) 0 (omega arith) (mod-one (base + (k + 1))) (omega arith) in
-      subst is_value (sym (get_or-map (λ (x : L × List L). x.0) es k e d (omega arith))) had.1.value
+      let had = h k e (omega arith) 0 (omega arith) (omega arith) in
+      subst is_value (sym (get_or-map (λ (x : L × List L). x.0) es k e d (omega arith))) had.value
 
   module _ (count : ℕ) (es : List (L × List L)) (h : IsKept is_value join count es) where
     -- the base and those kept make the count
@@ -26,7 +25,7 @@ module _ {L : Type 0} (is_value : L → Type 0) (join : L → L → L) where
     whole = let buffer = h.buffer in let numbered = buffer.numbered in let many = length-map es (λ (x : L × List L). x.0) in omega arith
 
     -- where deltas were added, all but the newest are dropped
-    pub kept_added : (mid new : List (L × List L)) (ds : List L) → count + length ds ≤ MAX_COUNTER → AreJoined is_value join (count - length es) mid → deltas_of mid ≡ deltas_of es ++ ds → new ≡ drop (length mid - MAX_DELTAS) mid → IsKept is_value join (count + length ds) new
+    pub kept_added : (mid new : List (L × List L)) (ds : List L) → count + length ds ≤ MAX_COUNTER → AreJoined is_value join mid → deltas_of mid ≡ deltas_of es ++ ds → new ≡ drop (length mid - MAX_DELTAS) mid → IsKept is_value join (count + length ds) new
     kept_added mid new ds room joined added dropped =
         let w = whole in
         let many = length-map es (λ (x : L × List L). x.0) in
@@ -34,14 +33,13 @@ module _ {L : Type 0} (is_value : L → Type 0) (join : L → L → L) where
         let all = ap length added ∙ length-append (deltas_of es) ds in
         let left = ap length dropped ∙ length-drop (length mid - MAX_DELTAS) mid in
         let long = length-map new (λ (x : L × List L). x.0) in
-        let base : (count - length es) + (length mid - MAX_DELTAS) ≡ count + length ds - length new = omega arith in
-        let now = subst (λ b. AreJoined is_value join b new) base (subst (AreJoined is_value join ((count - length es) + (length mid - MAX_DELTAS))) (sym dropped) (joined_drop is_value join (count - length es) (length mid - MAX_DELTAS) mid joined)) in
+        let now = subst (AreJoined is_value join) (sym dropped) (joined_drop is_value join (length mid - MAX_DELTAS) mid joined) in
         record {
           buffer = record {
             numbered = omega arith;
             few = omega arith;
             countable = room;
-            values = joined_values (count + length ds - length new) new now;
+            values = joined_values new now;
           };
           joined = now;
         }
@@ -70,14 +68,13 @@ module _ {L : Type 0} (is_value : L → Type 0) (join : L → L → L) where
         let many = length-map es (λ (x : L × List L). x.0) in
         let left = ap length dropped ∙ length-drop n es in
         let long = length-map new (λ (x : L × List L). x.0) in
-        let base : (count - length es) + n ≡ count - length new = omega arith in
-        let now = subst (λ b. AreJoined is_value join b new) base (subst (AreJoined is_value join ((count - length es) + n)) (sym dropped) (joined_drop is_value join (count - length es) n es h.joined)) in
+        let now = subst (AreJoined is_value join) (sym dropped) (joined_drop is_value join n es h.joined) in
         record {
           buffer = record {
             numbered = omega arith;
             few = omega arith;
             countable = buffer.countable;
-            values = joined_values (count - length new) new now;
+            values = joined_values new now;
           };
           joined = now;
         }
@@ -98,10 +95,13 @@ module _ {L : Type 0} (is_value : L → Type 0) (join : L → L → L) where
         let same = ap (λ (k : KeptDeltas L). k.base) shown in
         omega arith
 
-    -- one more ending
-    pub joined_one : (mid : List (L × List L)) (e : L × List L) (d : L) (b : ℕ) → b ≡ count - length es → e.0 ≡ d → HasJoins is_value join (b + (length es + 1)) (deltas_of es ++ d ∷ []) e → mid ≡ es ++ e ∷ [] → AreJoined is_value join (count - length es) mid × (deltas_of mid ≡ deltas_of es ++ d ∷ [])
-    joined_one mid e d b base is joins pushed =
-        let had = subst (λ x. HasJoins is_value join ((count - length es) + (length es + 1)) (deltas_of es ++ x ∷ []) e) (sym is) (subst (λ n. HasJoins is_value join (n + (length es + 1)) (deltas_of es ++ d ∷ []) e) base joins) in (
-          subst (AreJoined is_value join (count - length es)) (sym pushed) (joined_push is_value join (count - length es) es e h.joined had),
-          ap deltas_of pushed ∙ (map-append (λ (x : L × List L). x.0) es (e ∷ []) ∙ ap (λ x. deltas_of es ++ x ∷ []) is),
-        )
+    -- one more delta
+    pub joined_one : (mid : List (L × List L)) (d : L) → is_value d → mid ≡ es ++ (d, []) ∷ [] → AreJoined is_value join mid × (deltas_of mid ≡ deltas_of es ++ d ∷ [])
+    joined_one mid d value pushed = (
+      subst (AreJoined is_value join) (sym pushed) (joined_push is_value join es d h.joined value),
+      ap deltas_of pushed ∙ map-append (λ (x : L × List L). x.0) es ((d, []) ∷ []),
+    )
+
+    -- where joins are made, all else stays
+    pub kept_same : (new : List (L × List L)) → AreJoined is_value join new → deltas_of new ≡ deltas_of es → IsKept is_value join count new
+    kept_same new joined same = record { buffer = subst (λ ds. IsBuffer is_value (newest count ds)) (sym same) h.buffer; joined = joined }

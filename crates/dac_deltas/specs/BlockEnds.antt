@@ -1,7 +1,6 @@
--- What is kept of each delta: the delta itself, and the joins of the blocks that end with it. A pair of the two
--- is called an ending.
-use Rattle.std.specs.Prelude.{◌≡◌, ℕ, ◌+◌, ◌-◌, ◌%◌, ◌≤◌, ◌<◌, ◌^◌, List, ◌∷◌, length, map, fold, take, drop, slice_index_or, Option, Some, None}
-use Rattle.dac_deltas.specs.declared.blocks.TheConstants.{MOST_LEVEL}
+-- What is kept of each delta: the delta itself, and joins of blocks that end with it, as far as they are made. A pair
+-- of the two is called an ending.
+use Rattle.std.specs.Prelude.{◌≡◌, ℕ, ◌+◌, ◌-◌, ◌≤◌, ◌<◌, ◌^◌, List, ◌∷◌, length, map, fold, take, drop, slice_index_or, Option, Some, None}
 use Rattle.dac_deltas.specs.KeptDeltas.{KeptDeltas, IsBuffer, newest, numbered_from}
 
 -- the deltas of some endings
@@ -18,21 +17,26 @@ module _ {L : Type 0} (is_value : L → Type 0) (join : L → L → L) where
     pub value : is_value x
     pub same : (y : L) → is_value y → fold join y ds ≡ join y x
 
-  -- an ending has the joins of all blocks that end at a number and are wholly kept. Here these are the deltas kept
-  -- before the number
-  abbrev pub HasJoins : ℕ → List L → L × List L → Type 0
-  HasJoins number ds e = (k : ℕ) → k ≤ MOST_LEVEL → number % 2 ^ k ≡ 0 → 2 ^ k ≤ length ds
-      → (k ≤ length e.1) × StandsFor (join_at e k) (drop (length ds - 2 ^ k) ds)
+  -- of these deltas, which end with the ending's own, its joins are those of the last 2, 4 and so on. It may have
+  -- longer ones, from when more deltas were kept
+  abbrev pub HasJoins : List L → L × List L → Type 0
+  HasJoins ds e = (k : ℕ) → k ≤ length e.1 → 2 ^ k ≤ length ds
+      → StandsFor (join_at e k) (drop (length ds - 2 ^ k) ds)
 
-  -- each ending has them, where the first delta's number is the base
-  abbrev pub AreJoined : ℕ → List (L × List L) → Type 0
-  AreJoined base es = (i : ℕ) (d : L × List L) → i < length es
-      → HasJoins (base + (i + 1)) (take (i + 1) (deltas_of es)) (slice_index_or es i d)
+  -- the joins that each ending has are right
+  abbrev pub AreJoined : List (L × List L) → Type 0
+  AreJoined es = (i : ℕ) (d : L × List L) → i < length es
+      → HasJoins (take (i + 1) (deltas_of es)) (slice_index_or es i d)
 
-  -- what a buffer keeps: the newest of so many deltas, and the joins of the blocks of them that are wholly kept
+  -- an ending has the joins up to a level, and this is the next one
+  abbrev pub IsNextJoin : List (L × List L) → ℕ → ℕ → L × List L → L → Type 0
+  IsNextJoin es i level e joined = e ≡ slice_index_or es i e
+      → (length e.1 ≡ level) × StandsFor joined (drop (i + 1 - 2 ^ (level + 1)) (take (i + 1) (deltas_of es)))
+
+  -- what a buffer keeps: the newest of so many deltas, and joins of blocks of them
   pub record IsKept (count : ℕ) (es : List (L × List L)) : Type 0 where
     pub buffer : IsBuffer is_value (newest count (deltas_of es))
-    pub joined : AreJoined (count - length es) es
+    pub joined : AreJoined es
 
 module _ {L : Type 0} (join : L → L → L) (bottom : L) where
   -- an interval that was made already, by its first number: while all deltas from there on are kept, it is their join

@@ -1,9 +1,10 @@
 //! Aligned blocks of deltas, and what is kept of each delta.
-ghost use Rattle.std.specs.Prelude.{◌≡◌, ◌+◌, ◌<◌, ◌≤◌, ◌++◌, ◌∷◌, [], length, take, IfOk, OnOk, slice_index_or};
+ghost use Rattle.std.specs.Prelude.{List, ◌≡◌, ◌+◌, ◌-◌, ◌<◌, ◌≤◌, ◌^◌, ◌++◌, ◌∷◌, [], length, take, drop, IfOk, IfSome, OnOk, OnErr, slice_index_or};
+ghost use Rattle.dac_base.specs.declared.limits.TheConstants.{MAX_COUNTER};
 ghost use Rattle.dac_deltas.specs.Blocks.{IsLongest};
-ghost use Rattle.dac_deltas.specs.BlockEnds.{HasJoins, AreJoined, deltas_of, join_at};
+ghost use Rattle.dac_deltas.specs.BlockEnds.{AreJoined, IsNextJoin, StandsFor, deltas_of, join_at};
 
-use dac_base::{MAX_COUNTER, NoMemory};
+use dac_base::NoMemory;
 use dac_lattice::Lattice;
 use std::alloc::Global;
 use std::collections::VecDeque;
@@ -27,8 +28,8 @@ pub(crate) fn level_at(number: u64, most: u64) -> usize
     level
 }
 
-/// A delta that is kept, and the joins of the blocks of 2 deltas and more that end with it, the shortest
-/// block first. Contracts see the delta and the joins.
+/// A delta that is kept, and the joins of blocks of 2 deltas and more that end with it, the shortest block first. At
+/// first there are none: they are made when they are needed. Contracts see the delta and the joins.
 #[derive(Drop)]
 pub(crate) struct BlockEnd<L: Lattice> {
     delta: L,
@@ -43,37 +44,92 @@ impl<L: Lattice> Model for BlockEnd<L> {
     ghost view = { λ e. (e.delta, e.joins.items) };
 }
 
-/// The join of the longest block that ends with a delta, of those whose joins are known.
-fn longest<'a, L>(delta: &'a L, joins: &'a [L]) -> &'a L
-    ensures { result.now ≡ join_at (delta.now, joins.now) (length joins.now) }
+/// The join of the block of twice 2^level deltas that ends with a kept one. There is none where that isn't the next
+/// join to make, or where the join of its first half isn't made.
+fn doubled<L: Lattice>(
+    kept: &VecDeque<BlockEnd<L>>,
+    i: usize,
+    level: usize,
+) -> Result<Option<L>, NoMemory>
+    requires there { i < length kept.now.items }
+    requires low { level < MOST_LEVEL }
+    requires fits { 2 ^ (level + 1) ≤ i + 1 }
+    requires joined { AreJoined L.is_value L.join kept.now.items }
+    ensures { IfOk result (λ found. IfSome found (λ joined. (e : L × List L)
+        → IsNextJoin L.is_value L.join kept.now.items i level e joined)) }
 {
-    match joins.last() {
-        Some(join) => join,
-        None => delta,
+    let end = &kept[i];
+    let middle = &kept[i - (1 << level)];
+    if end.level() != level || middle.level() < level {
+        return Ok(None);
     }
+    let joined = middle.block(level).join(end.block(level))?;
+    Ok(Some(joined))
 }
 
-/// The joins of all blocks of 2 deltas and more that end with a delta, where it comes next after those that are kept.
-fn joins_after<L: Lattice>(
-    alloc: Global,
-    kept: &VecDeque<BlockEnd<L>>,
+/// Makes the joins of the blocks that end with a kept delta, where those of their first halves are made. The first
+/// delta that is kept has number `base`. Where memory is refused, only some are made.
+fn make_joins<L: Lattice>(
+    kept: &mut VecDeque<BlockEnd<L>>,
     base: u64,
-    delta: &L,
-) -> Result<Vec<L>, NoMemory>
-    requires joined { AreJoined L.is_value L.join base kept.now.items }
-    requires room { base + length kept.now.items < MAX_COUNTER }
-    ensures { IfOk result (λ joins. HasJoins L.is_value L.join (base + (length kept.now.items + 1))
-        (deltas_of kept.now.items ++ delta.now ∷ []) (delta.now, joins.items)) }
+    i: usize,
+) -> Result<(), NoMemory>
+    requires there { i < length kept.old.items }
+    requires room { base + length kept.old.items ≤ MAX_COUNTER }
+    requires joined { AreJoined L.is_value L.join kept.old.items }
+    ensures joined { AreJoined L.is_value L.join kept.new.items }
+    ensures same { deltas_of kept.new.items ≡ deltas_of kept.old.items }
 {
-    delta.tells_invariant();
-    let most = kept.len() as u64 + 1;
-    let mut joins = Vec::new(alloc);
-    for level in 0..level_at(base + most, most) {
-        let before = kept[kept.len() - (1 << level)].block(level);
-        let joined = before.join(longest(delta, &joins))?;
-        joins.push(joined)?;
+    let most = i as u64 + 1;
+    for level in kept[i].level()..level_at(base + most, most) {
+        let Some(joined) = doubled(kept, i, level)? else {
+            return Ok(());
+        };
+        kept[i].add_join(joined)?;
     }
-    Ok(joins)
+    Ok(())
+}
+
+/// Makes the joins of the blocks that end with the kept deltas from one on. The first delta that is kept has number
+/// `base`. Where memory is refused, only some are made.
+pub(crate) fn make_all_joins<L: Lattice>(
+    kept: &mut VecDeque<BlockEnd<L>>,
+    base: u64,
+    from: usize,
+) -> Result<(), NoMemory>
+    requires room { base + length kept.old.items ≤ MAX_COUNTER }
+    requires joined { AreJoined L.is_value L.join kept.old.items }
+    ensures joined { AreJoined L.is_value L.join kept.new.items }
+    ensures same { deltas_of kept.new.items ≡ deltas_of kept.old.items }
+{
+    for i in from..kept.len() {
+        make_joins(kept, base, i)?;
+    }
+    Ok(())
+}
+
+/// The longest block whose join is made, of those that begin with a kept delta and have 2^most deltas or fewer: its
+/// level, and its join.
+pub(crate) fn longest_made<L: Lattice>(
+    kept: &VecDeque<BlockEnd<L>>,
+    begin: usize,
+    most: usize,
+) -> (usize, &L)
+    requires low { most ≤ MOST_LEVEL }
+    requires fits { begin + 2 ^ most ≤ length kept.now.items }
+    requires joined { AreJoined L.is_value L.join kept.now.items }
+    ensures level { result.0 ≤ most }
+    ensures join { StandsFor L.is_value L.join result.1.now
+        (take (2 ^ result.0) (drop begin (deltas_of kept.now.items))) }
+{
+    let mut level = most;
+    loop {
+        let end = &kept[begin + (1 << level) - 1];
+        if level <= end.level() {
+            return (level, end.block(level));
+        }
+        level -= 1;
+    }
 }
 
 /// Copies of some values, in their order.
@@ -88,6 +144,23 @@ fn copy_all<L: Lattice>(alloc: Global, values: &[L]) -> Result<Vec<L>, NoMemory>
 }
 
 impl<L: Lattice> BlockEnd<L> {
+    /// A delta alone. It takes no memory.
+    pub(crate) fn new(alloc: Global, delta: L) -> Self
+        ensures { result ≡ (delta, []) }
+    {
+        BlockEnd {
+            delta,
+            joins: Vec::new(alloc),
+        }
+    }
+
+    /// The level of the longest block whose join is made, 0 where there is the delta alone.
+    pub(crate) fn level(&self) -> usize
+        ensures { result ≡ length self.now.1 }
+    {
+        self.joins.len()
+    }
+
     /// The join of the block of 2^level deltas that ends with this one.
     pub(crate) fn block(&self, level: usize) -> &L
         requires { level ≤ length self.now.1 }
@@ -99,22 +172,13 @@ impl<L: Lattice> BlockEnd<L> {
         &self.joins[level - 1]
     }
 
-    /// The next delta after those that are kept, of which the first has number `base`. It has the joins of all blocks
-    /// of kept deltas that end with it. [`NoMemory`] is the only error.
-    pub(crate) fn next(
-        alloc: Global,
-        kept: &VecDeque<BlockEnd<L>>,
-        base: u64,
-        delta: L,
-    ) -> Result<Self, NoMemory>
-        requires joined { AreJoined L.is_value L.join base kept.now.items }
-        requires room { base + length kept.now.items < MAX_COUNTER }
-        ensures delta { IfOk result (λ e. e.0 ≡ delta) }
-        ensures joins { IfOk result (HasJoins L.is_value L.join (base + (length kept.now.items + 1))
-            (deltas_of kept.now.items ++ delta ∷ [])) }
+    /// One join more. Where memory is refused, there are those before.
+    fn add_join(&mut self, joined: L) -> Result<(), NoMemory>
+        ensures ok { OnOk result (self.new ≡ (self.old.0, self.old.1 ++ joined ∷ [])) }
+        ensures err { OnErr result (self.new ≡ self.old) }
     {
-        let joins = joins_after(alloc, kept, base, &delta)?;
-        Ok(BlockEnd { delta, joins })
+        self.joins.push(joined)?;
+        Ok(())
     }
 
     /// A copy. [`NoMemory`] is the only error.
@@ -132,19 +196,17 @@ impl<L: Lattice> BlockEnd<L> {
 pub(crate) fn add_all<L: Lattice>(
     alloc: Global,
     kept: &mut VecDeque<BlockEnd<L>>,
-    base: u64,
     deltas: Vec<L>,
 ) -> Result<(), NoMemory>
-    requires joined { AreJoined L.is_value L.join base kept.old.items }
-    requires room { base + length kept.old.items + length deltas.items ≤ MAX_COUNTER }
-    ensures joined { AreJoined L.is_value L.join base kept.new.items }
+    requires joined { AreJoined L.is_value L.join kept.old.items }
+    ensures joined { AreJoined L.is_value L.join kept.new.items }
     ensures added { OnOk result
         (deltas_of kept.new.items ≡ deltas_of kept.old.items ++ deltas.items) }
     ensures before { take (length kept.old.items) kept.new.items ≡ kept.old.items }
 {
     for delta in deltas {
-        let ending = BlockEnd::next(alloc, kept, base, delta)?;
-        kept.push_back(ending)?;
+        delta.tells_invariant();
+        kept.push_back(BlockEnd::new(alloc, delta))?;
     }
     Ok(())
 }

@@ -5,7 +5,7 @@ ghost use Rattle.dac_deltas.specs.Blocks.{AreBlocks};
 ghost use Rattle.dac_deltas.specs.declared.blocks.TheConstants.{MOST_LEVEL};
 ghost use Rattle.dac_deltas.specs.declared.buffer.TheConstants.{MAX_DELTAS};
 
-use crate::blocks::{BlockEnd, MOST_LEVEL, add_all, level_at};
+use crate::blocks::{BlockEnd, MOST_LEVEL, add_all, level_at, longest_made, make_all_joins};
 use dac_base::{MAX_COUNTER, NoMemory};
 use dac_lattice::{Bottom, Lattice};
 use std::alloc::Global;
@@ -15,19 +15,25 @@ use std::marker::Model;
 /// How many deltas a buffer keeps at most. The number is this project's own.
 pub const MAX_DELTAS: usize = 1 << MOST_LEVEL;
 
+/// An interval of so many deltas, or fewer, needs no joins of blocks.
+const FEW_DELTAS: u64 = 2;
+
 /// The newest deltas of a log, at most 256. Deltas are numbered in the order in which they are pushed, from
 /// 0. Contracts see how many there were ever, the least number that is kept, and those kept, the oldest
 /// first.
 ///
-/// Beside its deltas a buffer keeps the joins of their aligned blocks of 2 to 256 deltas. A full one has at
-/// most 255 of these, and an interval takes at most 16 joins. It keeps one interval too, until a delta comes:
-/// peers that are to get the same one share it.
+/// Beside its deltas a buffer keeps joins of their aligned blocks of 2 to 256 deltas. A full one has at most 255 of
+/// these. They are made by [`Buffer::warm`], and not before an interval is asked for. After that an interval takes at
+/// most 16 joins, and one more for each delta that is pushed later. A buffer keeps one interval too, until a delta
+/// comes: peers that are to get the same one share it.
 #[derive(Drop)]
 pub struct Buffer<L: Bottom> {
     alloc: Global,
     count: u64,
     kept: VecDeque<BlockEnd<L>>,
     ready: Option<(u64, L)>,
+    /// The joins of the blocks that end before this number are made.
+    warm: u64,
 }
 
 impl<L: Bottom> Model for Buffer<L> {
@@ -93,6 +99,7 @@ impl<L: Bottom> Buffer<L> {
             count: 0,
             kept: VecDeque::new(alloc),
             ready: None,
+            warm: 0,
         }
     }
 
@@ -125,9 +132,8 @@ impl<L: Bottom> Buffer<L> {
         ensures ok { OnOk result (self.new ≡ pushed self.old delta) }
         ensures err { OnErr result (self.new ≡ self.old) }
     {
-        let base = self.base();
-        let ending = BlockEnd::next(self.alloc, &self.kept, base, delta)?;
-        self.kept.push_back(ending)?;
+        delta.tells_invariant();
+        self.kept.push_back(BlockEnd::new(self.alloc, delta))?;
         self.ready = None;
         self.count += 1;
         keep_newest(&mut self.kept);
@@ -144,10 +150,9 @@ impl<L: Bottom> Buffer<L> {
         if deltas.is_empty() {
             return Ok(());
         }
-        let base = self.base();
         let before = self.kept.len();
         let added = deltas.len() as u64;
-        if let Err(refused) = add_all(self.alloc, &mut self.kept, base, deltas) {
+        if let Err(refused) = add_all(self.alloc, &mut self.kept, deltas) {
             self.kept.truncate(before);
             return Err(refused);
         }
@@ -170,8 +175,9 @@ impl<L: Bottom> Buffer<L> {
     /// delta from `a` on is no longer kept. The caller owes that `a` is at most the count. [`NoMemory`] is the only
     /// error, and comes only where all deltas from `a` on are kept.
     ///
-    /// It joins the blocks that [`Buffer::blocks`] lists, from the first to the last. Where this interval is remembered,
-    /// it is a copy of that one, and joins nothing.
+    /// It joins the blocks that [`Buffer::blocks`] lists, from the first to the last, if their joins are made. In place of
+    /// a block whose join isn't, it joins shorter ones. Where this interval is remembered, it is a copy of that one, and
+    /// joins nothing.
     pub fn interval(&self, a: u64) -> Result<Option<L>, NoMemory>
         requires { a ≤ self.now.count }
         ensures dropped { a < self.now.base → result ≡ Ok None }
@@ -210,11 +216,10 @@ impl<L: Bottom> Buffer<L> {
         let mut joined = None;
         let mut at = a;
         while at < self.count {
-            let level = level_at(at, self.count - at);
-            let end = at + (1 << level);
-            let last = &self.kept[(end - base) as usize - 1];
-            joined = Some(join_on(joined, last.block(level))?);
-            at = end;
+            let most = level_at(at, self.count - at);
+            let (level, block) = longest_made(&self.kept, (at - base) as usize, most);
+            joined = Some(join_on(joined, block)?);
+            at += 1 << level;
         }
         Ok(or_bottom(self.alloc, joined))
     }
@@ -228,11 +233,26 @@ impl<L: Bottom> Buffer<L> {
         self.ready = Some((a, joined));
     }
 
-    /// The blocks that an interval joins, each as its first number and the one after its last. From `a` to the
-    /// count each is the longest aligned block that begins where the one before ended. They are at most 16, and
-    /// none where `a` is the count. There is no list where a delta from `a` on is no longer kept. The caller owes
-    /// that `a` is at most the count. [`NoMemory`] is the only error, and comes only where all deltas from `a` on
-    /// are kept.
+    /// Makes the joins of blocks, if an interval from number `a` takes more than one join without them. Contracts see no
+    /// change. [`NoMemory`] is the only error, and leaves all as it was.
+    pub fn warm(&mut self, a: u64) -> Result<(), NoMemory>
+        ensures { self.new ≡ self.old }
+    {
+        if self.count.saturating_sub(a) <= FEW_DELTAS {
+            return Ok(());
+        }
+        let base = self.base();
+        let cold = self.warm.saturating_sub(base) as usize;
+        make_all_joins(&mut self.kept, base, cold)?;
+        self.warm = self.count;
+        Ok(())
+    }
+
+    /// The blocks that an interval joins where their joins are made, each as its first number and the one after its
+    /// last. From `a` to the count each is the longest aligned block that begins where the one before ended. They are
+    /// at most 16, and none where `a` is the count. There is no list where a delta from `a` on is no longer kept. The
+    /// caller owes that `a` is at most the count. [`NoMemory`] is the only error, and comes only where all deltas from
+    /// `a` on are kept.
     pub fn blocks(&self, a: u64) -> Result<Option<Vec<(u64, u64)>>, NoMemory>
         requires { a ≤ self.now.count }
         ensures dropped { a < self.now.base → result ≡ Ok None }
@@ -267,6 +287,7 @@ impl<L: Bottom> Buffer<L> {
             count: self.count,
             kept,
             ready: copy_ready(&self.ready)?,
+            warm: self.warm,
         })
     }
 }

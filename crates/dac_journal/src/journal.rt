@@ -196,6 +196,7 @@ fn step_copy(
     ensures answered { IfOk result (λ r. IfErr r.1 (λ why. why ≢ Refusal.NoMemory)) }
 {
     let mut after = node.copy()?;
+    after.warm(event);
     let (answer, second, third) = ask_node(config, me, &mut after, event)?;
     Ok((after, answer, second, third))
 }

@@ -165,6 +165,18 @@ impl Node {
         }
     }
 
+    /// Makes ready what an event takes, so that [`Node::prepare`] takes less time. Contracts see no change, and memory that
+    /// is refused is no error.
+    pub fn warm(&mut self, event: &Event)
+        ensures { self.new ≡ self.old }
+    {
+        if let Event::Ship { to } = event {
+            if let Some(running) = &mut self.running {
+                running.warm(*to);
+            }
+        }
+    }
+
     /// What an event would do at node `self_id`, or why it is refused. Nothing changes yet. A crash takes no memory.
     pub fn prepare(
         &self,

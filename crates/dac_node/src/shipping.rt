@@ -68,6 +68,18 @@ impl Running {
         })
     }
 
+    /// Makes what the interval to a node needs, where it has a position to begin. Where memory is refused for that, the
+    /// interval takes longer.
+    pub(crate) fn warm(&mut self, to: NodeId)
+        ensures { self.new ≡ self.old }
+    {
+        let known = &self.knowledge;
+        let base = self.buffer.base();
+        if let Some(position) = known.peers.begins(&known.state, base, to) {
+            let _made = self.buffer.warm(position.number);
+        }
+    }
+
     /// Keeps the interval that a message of its own brings, if it brings one, for the next node that is to get it. Where
     /// memory is refused for that, the next one is made anew.
     pub(crate) fn remember(&mut self, message: &Message)

@@ -1,3 +1,5 @@
 mod Places
+mod Passing
+mod Staying
 mod Lines
 mod Groups

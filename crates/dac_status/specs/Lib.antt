@@ -1,2 +1,4 @@
 pub mod Summaries
+pub mod Kept
+pub mod Walks
 pub mod Texts

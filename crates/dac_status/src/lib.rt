@@ -6,11 +6,13 @@
 #![tactic(auto)]
 
 mod apps;
+mod kept;
 mod labels;
 mod marks;
 mod nodes;
 mod pages;
 mod summary;
+mod walk;
 
 pub use apps::{how_text, put_from};
 pub use dac_base::{MAX_APPS, MAX_NODES};

@@ -43,7 +43,7 @@ pub fn mark_of(config: &Config, state: &State, app: AppId, node: NodeId) -> Mark
 }
 
 /// How a live node stands for an application, where it is drained or not.
-pub(crate) fn mark_live(config: &Config, state: &State, key: Key, drained: bool) -> Mark
+fn mark_live(config: &Config, state: &State, key: Key, drained: bool) -> Mark
     requires app { key.app.0 < app_count config.now }
     requires drained { drained ≡ is_drained_at state.now key.node key.inc }
     ensures value { result ≡ mark_at config.now state.now key.app key.node (Some key.inc) }

@@ -1,15 +1,17 @@
 //! What a controller knows, in short.
 
-ghost use Rattle.std.specs.Prelude.{◌≡◌, ◌<◌};
+ghost use Rattle.std.specs.Prelude.{◌≡◌, ◌+◌, ◌<◌};
 ghost use Rattle.dac_config.specs.Table.{app_count};
 ghost use Rattle.dac_status.specs.Summaries.{mark_at, live_in, drains, marks_of, lives_of, drains_live, drained_of, no_app, app_summary, app_summaries, summary_of};
+ghost use Rattle.dac_status.specs.Walks.{IsBefore, first_key};
 
-use crate::marks::{Mark, mark_live};
+use crate::kept::{live_in, verdict_by};
+use crate::marks::Mark;
+use crate::walk::Walk;
 use dac_base::{AppId, MAX_APPS, MAX_NODES, NodeId};
 use dac_chains::{Claim, Life};
 use dac_config::Config;
-use dac_lattice::Flag;
-use dac_placement::{Verdict, is_drained, verdict};
+use dac_placement::{Verdict, is_drained};
 use dac_state::{Key, State};
 
 /// Where an application stands.
@@ -91,75 +93,79 @@ fn drained_of(config: &Config, state: &State) -> [bool; MAX_NODES]
     drained
 }
 
-/// The incarnation of a life that is up.
-fn live_in(life: Option<Life>) -> Option<u64>
-    ensures { result ≡ live_in life }
-{
-    let life = life?;
-    match life.flag {
-        Flag::Up => Some(life.inc),
-        Flag::Down => None,
-    }
-}
-
-/// The mark of a node of this life, which is drained or not.
+/// The mark of a node of this life, which is drained or not. The walk goes on to the next node.
 fn mark_by(
     config: &Config,
-    state: &State,
+    walk: &mut Walk<'_>,
     app: AppId,
     node: NodeId,
     life: Option<Life>,
     drained: bool,
 ) -> Mark
     requires app { app.0 < app_count config.now }
-    requires drained { drained ≡ drains state.now node (live_in life) }
-    ensures { result ≡ mark_at config.now state.now app node (live_in life) }
+    requires drained { drained ≡ drains walk.old.state node (live_in life) }
+    requires before { IsBefore (first_key app.0 node.0) walk.old }
+    ensures value { result ≡ mark_at config.now walk.old.state app node (live_in life) }
+    ensures state { walk.new.state ≡ walk.old.state }
+    ensures before { IsBefore (first_key app.0 (node.0 + 1)) walk.new }
 {
     match live_in(life) {
-        Some(inc) => mark_live(config, state, Key { app, node, inc }, drained),
+        Some(inc) => walk.mark(config, Key { app, node, inc }, drained),
         None => Mark::Down,
     }
 }
 
 /// The mark of each node of the configuration, by its number, where these are their lives, and whether they are drained.
+/// The walk goes on to the next application.
 fn marks_of(
     config: &Config,
-    state: &State,
+    walk: &mut Walk<'_>,
     app: AppId,
     lives: &[Option<Life>; MAX_NODES],
     drained: &[bool; MAX_NODES],
 ) -> [Mark; MAX_NODES]
     requires app { app.0 < app_count config.now }
-    requires lives { lives.now ≡ lives_of config.now state.now }
-    requires drained { drained.now ≡ drained_of config.now state.now }
-    ensures { result ≡ marks_of config.now state.now app }
+    requires lives { lives.now ≡ lives_of config.now walk.old.state }
+    requires drained { drained.now ≡ drained_of config.now walk.old.state }
+    requires before { IsBefore (first_key app.0 0) walk.old }
+    ensures value { result ≡ marks_of config.now walk.old.state app }
+    ensures state { walk.new.state ≡ walk.old.state }
+    ensures before { IsBefore (first_key (app.0 + 1) 0) walk.new }
 {
     let mut marks = [Mark::Down; MAX_NODES];
     for number in 0..config.nodes() {
         let place = number as usize;
         let node = NodeId(number);
-        marks[place] = mark_by(config, state, app, node, lives[place], drained[place]);
+        marks[place] = mark_by(config, walk, app, node, lives[place], drained[place]);
     }
     marks
 }
 
-/// Where an application stands, where these are the lives of the nodes, and whether they are drained.
+/// Where an application stands, where these are the lives of the nodes, and whether they are drained. The walk goes on to
+/// the next application.
 fn app_summary(
     config: &Config,
-    state: &State,
+    walk: &mut Walk<'_>,
     app: AppId,
     lives: &[Option<Life>; MAX_NODES],
     drained: &[bool; MAX_NODES],
 ) -> AppSummary
     requires app { app.0 < app_count config.now }
-    requires lives { lives.now ≡ lives_of config.now state.now }
-    requires drained { drained.now ≡ drained_of config.now state.now }
-    ensures { result ≡ app_summary config.now state.now app }
+    requires lives { lives.now ≡ lives_of config.now walk.old.state }
+    requires drained { drained.now ≡ drained_of config.now walk.old.state }
+    requires before { IsBefore (first_key app.0 0) walk.old }
+    ensures value { result ≡ app_summary config.now walk.old.state app }
+    ensures state { walk.new.state ≡ walk.old.state }
+    ensures before { IsBefore (first_key (app.0 + 1) 0) walk.new }
 {
+    let marks = marks_of(config, walk, app, lives, drained);
+    let state = walk.state();
+    let claim = state.claims().greatest(app);
+    let verdict = verdict_by(config, state, app, claim, lives, &marks);
     AppSummary {
-        claim: state.claims().greatest(app),
-        verdict: verdict(config, state, app),
-        marks: marks_of(config, state, app, lives, drained),
+        claim,
+        verdict,
+        marks,
     }
 }
 
@@ -188,8 +194,9 @@ fn apps_of(
 {
     let blank = no_app();
     let mut apps = [blank; MAX_APPS];
+    let mut walk = Walk::of(state);
     for number in 0..config.apps() {
-        apps[number as usize] = app_summary(config, state, AppId(number), lives, drained);
+        apps[number as usize] = app_summary(config, &mut walk, AppId(number), lives, drained);
     }
     apps
 }

@@ -1,4 +1,4 @@
-use Rattle.std.proofs.Common.{◌≡◌, ◌++◌, length, take, ap, sym, subst, ◌∙◌, arith}
+use Rattle.std.proofs.Common.{◌≡◌, ◌++◌, ◌∷◌, [], length, take, ap, sym, subst, ◌∙◌, arith}
 use Rattle.std.proofs.lemmas.Result.{IfOk-from_err}
 use Rattle.std.specs.Vec.Iter.{into_iter_items}
 use Rattle.dac_deltas.specs.BlockEnds.{AreJoined, deltas_of}
@@ -7,31 +7,13 @@ use Rattle.dac_deltas.proofs.Copying.{copied_whole}
 use Rattle.dac_deltas.proofs.blocks.add_all.Goals as goal
 
 pub loop-delta-preserved : goal.loop-delta-preserved
-loop-delta-preserved g c = added_one g.L.Lattice.is_value g.L.Lattice.join c.args.base c.args.kept.now.items c.loop-delta.kept.items c.push_back.new.self.items c.args.deltas.items _ _ c.in-Some.delta c.in_ok-ending.ending c.loop-delta.invariant c.in-Some.ensures.steps.0 c.in_ok-ending.ensures.delta c.in_ok-ending.ensures.joins c.in_ok-push_back.ensures.items
+loop-delta-preserved g c = added_one g.L.Lattice.is_value g.L.Lattice.join c.args.kept.now.items c.loop-delta.kept.items c.push_back.new.self.items c.args.deltas.items _ _ c.in-Some.delta c.loop-delta.invariant c.in-Some.ensures.steps.0 c.tells_invariant.ensures (c.in_ok-push_back.ensures.items ∙ ap (λ e. c.loop-delta.kept.items ++ e ∷ []) c.new.ensures)
 
 pub returns-in_err-push_back-clause-joined : goal.returns-in_err-push_back-clause-joined
-returns-in_err-push_back-clause-joined g c = subst (AreJoined g.L.Lattice.is_value g.L.Lattice.join c.args.base) (sym c.in_err-push_back.ensures.items) c.loop-delta.invariant.joined
-
-pub next-requires-in-loop-delta-clause-joined : goal.next-requires-in-loop-delta-clause-joined
-next-requires-in-loop-delta-clause-joined g c = c.loop-delta.invariant.joined
-
-pub next-requires-in-loop-delta-clause-room : goal.next-requires-in-loop-delta-clause-room
-next-requires-in-loop-delta-clause-room g c =
-    let fewer = ap length c.in-Some.ensures.steps.0 in
-    let room = c.loop-delta.invariant.room in
-    omega arith
-
-pub returns-in_err-ending-clause-joined : goal.returns-in_err-ending-clause-joined
-returns-in_err-ending-clause-joined g c = c.loop-delta.invariant.joined
-
-pub returns-in_err-ending-clause-added : goal.returns-in_err-ending-clause-added
-returns-in_err-ending-clause-added g c = IfOk-from_err c.from_residual.result _ c.from_residual.ensures.0
-
-pub returns-in_err-ending-clause-before : goal.returns-in_err-ending-clause-before
-returns-in_err-ending-clause-before g c = c.loop-delta.invariant.before
+returns-in_err-push_back-clause-joined g c = subst (AreJoined g.L.Lattice.is_value g.L.Lattice.join) (sym c.in_err-push_back.ensures.items) c.loop-delta.invariant.joined
 
 pub returns-in_err-push_back-clause-added : goal.returns-in_err-push_back-clause-added
-returns-in_err-push_back-clause-added g c = IfOk-from_err c.from_residual-in_err-push_back.result _ c.from_residual-in_err-push_back.ensures.0
+returns-in_err-push_back-clause-added g c = IfOk-from_err c.from_residual.result _ c.from_residual.ensures.0
 
 pub returns-in_err-push_back-clause-before : goal.returns-in_err-push_back-clause-before
 returns-in_err-push_back-clause-before g c = ap (take (length c.args.kept.now.items)) c.in_err-push_back.ensures.items ∙ c.loop-delta.invariant.before

@@ -1,18 +1,11 @@
-use Rattle.std.proofs.Common.{◌+◌, ◌≤◌, ◌∷◌, [], refl, sym, ap, subst, ◌∙◌, arith}
+use Rattle.std.proofs.Common.{◌+◌, ◌≤◌, ◌++◌, ◌∷◌, [], refl, sym, ap, subst, ◌∙◌, arith}
 use Rattle.std.proofs.lemmas.Result.{IfOk-from_err}
 use Rattle.dac_base.specs.declared.limits.TheConstants.{MAX_COUNTER}
 use Rattle.dac_deltas.specs.KeptDeltas.{KeptDeltas, newest, pushed}
-use Rattle.dac_deltas.specs.BlockEnds.{AreJoined, IsHeld, deltas_of}
-use Rattle.dac_deltas.proofs.Keeping.{kept_added, shown_added, whole, base_is, joined_one}
+use Rattle.dac_deltas.specs.BlockEnds.{IsHeld, deltas_of}
+use Rattle.dac_deltas.proofs.Keeping.{kept_added, shown_added, joined_one}
 use Rattle.dac_deltas.proofs.Copying.{fails_so}
 use Rattle.dac_deltas.proofs.buffer.Buffer.push.Goals as goal
-
-pub next-requires-clause-joined : goal.next-requires-clause-joined
-next-requires-clause-joined g c =
-    let is_value = g.L.Lattice.is_value in
-    let join = g.L.Lattice.join in
-    let es = c.self.inside.kept.items in
-    subst (λ b. AreJoined is_value join b es) (sym (base_is is_value join c.self.inside.count es c.self.invariant.kept c.args.self.now c.base-base.result c.self.view_is c.base-base.ensures)) c.self.invariant.kept.joined
 
 pub invariant_of-self-2 : goal.invariant_of-self-2
 invariant_of-self-2 g c =
@@ -21,37 +14,19 @@ invariant_of-self-2 g c =
     let count = c.self.inside.count in
     let es = c.self.inside.kept.items in
     let mid = c.push_back.new.self.items in
-    let base = base_is is_value join count es c.self.invariant.kept c.args.self.now c.base-base.result c.self.view_is c.base-base.ensures in
-    let one = joined_one is_value join count es c.self.invariant.kept mid c.in_ok-ending.ending c.args.delta c.base-base.result base c.in_ok-ending.ensures.delta c.in_ok-ending.ensures.joins c.in_ok-push_back.ensures.items in
+    let one = joined_one is_value join count es c.self.invariant.kept mid c.args.delta c.tells_invariant.ensures (c.in_ok-push_back.ensures.items ∙ ap (λ e. es ++ e ∷ []) c.new.ensures) in
     let room : count + 1 ≤ MAX_COUNTER = let shown = ap (λ (k : KeptDeltas g.row.L.Denot). k.count) c.self.view_is in omega arith in
     record { kept = kept_added is_value join count es c.self.invariant.kept mid c.keep_newest.new.kept.items (c.args.delta ∷ []) room one.0 one.1 c.keep_newest.ensures; ready = tt }
-
-pub next-requires-clause-room : goal.next-requires-clause-room
-next-requires-clause-room g c =
-    let is_value = g.L.Lattice.is_value in
-    let join = g.L.Lattice.join in
-    let count = c.self.inside.count in
-    let es = c.self.inside.kept.items in
-    let base = base_is is_value join count es c.self.invariant.kept c.args.self.now c.base-base.result c.self.view_is c.base-base.ensures in
-    let all = whole is_value join count es c.self.invariant.kept in
-    let shown = ap (λ (k : KeptDeltas g.row.L.Denot). k.count) c.self.view_is in
-    omega arith
-
-pub returns-in_err-ending-clause-ok : goal.returns-in_err-ending-clause-ok
-returns-in_err-ending-clause-ok g c = IfOk-from_err c.from_residual.result _ c.from_residual.ensures.0
-
-pub returns-in_err-ending-clause-err : goal.returns-in_err-ending-clause-err
-returns-in_err-ending-clause-err g c = fails_so c.from_residual.result refl
 
 pub invariant_of-self : goal.invariant_of-self
 invariant_of-self g c = subst (λ es. IsHeld g.L.Lattice.is_value g.L.Lattice.join g.L.Bottom.bottom c.self.inside.count es c.self.inside.ready) (sym c.in_err-push_back.ensures.items) c.self.invariant
 
 pub returns-in_err-push_back-clause-ok : goal.returns-in_err-push_back-clause-ok
-returns-in_err-push_back-clause-ok g c = IfOk-from_err c.from_residual-in_err-push_back.result _ c.from_residual-in_err-push_back.ensures.0
+returns-in_err-push_back-clause-ok g c = IfOk-from_err c.from_residual.result _ c.from_residual.ensures.0
 
 pub returns-in_err-push_back-clause-err : goal.returns-in_err-push_back-clause-err
 returns-in_err-push_back-clause-err g c =
-    fails_so c.from_residual-in_err-push_back.result (ap (λ es. newest c.self.inside.count (deltas_of es)) c.in_err-push_back.ensures.items ∙ c.self.view_is)
+    fails_so c.from_residual.result (ap (λ es. newest c.self.inside.count (deltas_of es)) c.in_err-push_back.ensures.items ∙ c.self.view_is)
 
 pub returns-clause-ok : goal.returns-clause-ok
 returns-clause-ok g c =
@@ -60,6 +35,5 @@ returns-clause-ok g c =
     let count = c.self.inside.count in
     let es = c.self.inside.kept.items in
     let mid = c.push_back.new.self.items in
-    let base = base_is is_value join count es c.self.invariant.kept c.args.self.now c.base-base.result c.self.view_is c.base-base.ensures in
-    let one = joined_one is_value join count es c.self.invariant.kept mid c.in_ok-ending.ending c.args.delta c.base-base.result base c.in_ok-ending.ensures.delta c.in_ok-ending.ensures.joins c.in_ok-push_back.ensures.items in
+    let one = joined_one is_value join count es c.self.invariant.kept mid c.args.delta c.tells_invariant.ensures (c.in_ok-push_back.ensures.items ∙ ap (λ e. es ++ e ∷ []) c.new.ensures) in
     shown_added is_value join count es c.self.invariant.kept mid c.keep_newest.new.kept.items (c.args.delta ∷ []) one.1 c.keep_newest.ensures ∙ ap (λ k. pushed k c.args.delta) c.self.view_is

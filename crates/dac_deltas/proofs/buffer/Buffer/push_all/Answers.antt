@@ -1,16 +1,12 @@
 use Rattle.std.proofs.Common.{◌≡◌, ◌+◌, ◌≤◌, fold, length, take, sym, ap, subst, ◌∙◌, arith}
 use Rattle.dac_base.specs.declared.limits.TheConstants.{MAX_COUNTER}
 use Rattle.dac_deltas.specs.KeptDeltas.{KeptDeltas, newest, pushed}
-use Rattle.dac_deltas.specs.BlockEnds.{AreJoined, IsKept, IsHeld, deltas_of}
-use Rattle.dac_deltas.proofs.Keeping.{kept_added, shown_added, whole, base_is}
+use Rattle.dac_deltas.specs.BlockEnds.{IsKept, IsHeld, deltas_of}
+use Rattle.dac_deltas.proofs.Keeping.{kept_added, shown_added}
 use Rattle.dac_deltas.proofs.buffer.Buffer.push_all.Goals as goal
 
-pub add_all-requires-clause-joined : goal.add_all-requires-clause-joined
-add_all-requires-clause-joined g c =
-    let is_value = g.L.Lattice.is_value in
-    let join = g.L.Lattice.join in
-    let es = c.self.inside.kept.items in
-    subst (λ b. AreJoined is_value join b es) (sym (base_is is_value join c.self.inside.count es c.self.invariant.kept c.args.self.now c.base-base.result c.self.view_is c.base-base.ensures)) c.self.invariant.kept.joined
+pub add_all-requires : goal.add_all-requires
+add_all-requires g c = record { joined = c.self.invariant.kept.joined }
 
 pub invariant_of-self-2 : goal.invariant_of-self-2
 invariant_of-self-2 g c =
@@ -22,10 +18,8 @@ invariant_of-self-2 g c =
     let new = c.keep_newest.new.kept.items in
     let ds = c.args.deltas.items in
     let long : length ds ≡ c.len-added.result = sym (c.len-added.ensures ∙ c.args.deltas.ok.0) in
-    let base = base_is is_value join count es c.self.invariant.kept c.args.self.now c.base-base.result c.self.view_is c.base-base.ensures in
-    let joined = subst (λ b. AreJoined is_value join b mid) base c.in_default.ensures.joined in
     let room : count + length ds ≤ MAX_COUNTER = let shown = ap (λ (k : KeptDeltas g.row.L.Denot). k.count) c.self.view_is in omega arith in
-    record { kept = subst (λ n. IsKept is_value join (count + n) new) long (kept_added is_value join count es c.self.invariant.kept mid new ds room joined c.in_default.ensures.added c.keep_newest.ensures); ready = tt }
+    record { kept = subst (λ n. IsKept is_value join (count + n) new) long (kept_added is_value join count es c.self.invariant.kept mid new ds room c.in_default.ensures.joined c.in_default.ensures.added c.keep_newest.ensures); ready = tt }
 
 pub returns-clause-ok : goal.returns-clause-ok
 returns-clause-ok g c =
@@ -39,17 +33,6 @@ returns-clause-ok g c =
     ap (λ n. newest (count + n) (deltas_of new)) long
     ∙ (shown_added is_value join count es c.self.invariant.kept c.add_all.new.kept.items new ds c.in_default.ensures.added c.keep_newest.ensures
     ∙ ap (λ k. fold pushed k ds) c.self.view_is)
-
-pub add_all-requires-clause-room : goal.add_all-requires-clause-room
-add_all-requires-clause-room g c =
-    let is_value = g.L.Lattice.is_value in
-    let join = g.L.Lattice.join in
-    let count = c.self.inside.count in
-    let es = c.self.inside.kept.items in
-    let base = base_is is_value join count es c.self.invariant.kept c.args.self.now c.base-base.result c.self.view_is c.base-base.ensures in
-    let all = whole is_value join count es c.self.invariant.kept in
-    let shown = ap (λ (k : KeptDeltas g.row.L.Denot). k.count) c.self.view_is in
-    omega arith
 
 pub invariant_of-self : goal.invariant_of-self
 invariant_of-self g c =

@@ -1,0 +1,88 @@
+-- Where an application stays: what the marks of the nodes say of its holder, and of who may run it.
+use Rattle.std.proofs.Common.{◌≡◌, ◌∙◌, ℕ, ◌<◌, ◌==◌, Bool, true, false, cond, not, ◌&&◌, List, Option, None, Some, option_map, get_or, refl, sym, ap}
+use Rattle.std.specs.Option.{option_map_or}
+use Rattle.std.specs.FinMap as map
+use Rattle.std.proofs.lemmas.Bool.{false≢true, false_from_ne_true, eq-eqb}
+use Rattle.dac_base.specs.declared.limits.TheConstants.{MAX_NODES}
+use Rattle.dac_base.specs.declared.AppId.{AppId}
+use Rattle.dac_base.specs.declared.NodeId.{NodeId}
+use Rattle.dac_origins.specs.declared.dot.Origin.{Origin}
+use Rattle.dac_chains.specs.declared.claims.Claim.{Claim}
+use Rattle.dac_chains.specs.declared.lives.Life.{Life}
+use Rattle.dac_chains.specs.Lives.{live_at}
+use Rattle.dac_chains.specs.laws.Live.{live_is}
+use Rattle.dac_config.specs.Table.{Table, group_of, node_count}
+use Rattle.dac_meaning.specs.StateValue.{StateValue}
+use Rattle.dac_placement.specs.declared.standing.Standing.{Standing}
+use Rattle.dac_placement.specs.declared.standing.Standing.TheVariants.{Unclaimed, Lost, Stopped, Barred, Upheld}
+use Rattle.dac_placement.specs.declared.verdicts.Verdict.TheVariants.{Kept}
+use Rattle.dac_placement.specs.Placement.{EachEligible, IsEarlier, IsEligible, first_choice, is_drained_at, is_less, is_permitted_at, is_started_at, is_up, key_at, standing_at, standing_of, verdict_by, verdict_of}
+use Rattle.dac_placement.specs.laws.FirstChoice.{first_is}
+use Rattle.dac_placement.specs.laws.Judged.{kept_by}
+use Rattle.dac_placement.specs.laws.Tests.{drained_is, permitted_is, started_is}
+use Rattle.dac_status.specs.declared.marks.Mark.{Mark}
+use Rattle.dac_status.specs.declared.marks.Mark.TheVariants as mark
+use Rattle.dac_status.specs.Kept.{is_ok}
+use Rattle.dac_status.specs.Summaries.{lives_of, live_in, mark_at, mark_of, marks_of}
+use Rattle.dac_status.proofs.Places.{node_numbered, placed_at}
+
+-- what a mark says by three tests: permitted, drained and started
+abbrev marked : Bool → Bool → Bool → Mark
+marked permitted drained started = cond (not permitted) mark.Barred (cond drained mark.Drained (cond (not started) mark.Idle mark.Ok))
+
+-- what a standing at a live holder is by the same tests
+abbrev standing : NodeId → Bool → Bool → Bool → Standing
+standing node permitted drained started = cond (not started) (Stopped node) (cond (not (permitted && not drained)) Barred (Upheld node))
+
+upheld_if_ok : (node : NodeId) (permitted drained started : Bool) → is_ok (marked permitted drained started) ≡ true → standing node permitted drained started ≡ Upheld node
+upheld_if_ok node true false true e = refl
+upheld_if_ok node true false false e = absurd (false≢true e)
+upheld_if_ok node true true started e = absurd (false≢true e)
+upheld_if_ok node false drained started e = absurd (false≢true e)
+
+module _ (table : Table) (s : StateValue) (app : AppId) where
+  -- nothing keeps the application from an eligible node
+  ok_if_eligible : (node : NodeId) → IsEligible table s app node → is_ok (mark_of table s app node) ≡ true
+  ok_if_eligible node may =
+      let permitted : is_permitted_at table s (key_at app node may.inc) ≡ true = (permitted_is table s app node may.inc).1 may.allowed.0 in
+      let drained : is_drained_at s node may.inc ≡ false = false_from_ne_true (is_drained_at s node may.inc) (λ t. may.allowed.1 ((drained_is table s node may.inc).0 t)) in
+      let started : is_started_at s (key_at app node may.inc) ≡ true = (started_is table s app node may.inc).1 may.started in
+      ap (λ live. is_ok (mark_at table s app node live)) ((live_is s.lives node may.inc).1 may.live)
+      ∙ (λ i. is_ok (marked (permitted i) (drained i) (started i)))
+
+  -- the mark at the place of a node
+  mark_placed : (marks : List Mark) (n : ℕ) → marks ≡ marks_of table s app → n < node_count table → get_or marks n mark.Down ≡ mark_of table s app (node_numbered n)
+  mark_placed marks n are lt = ap (λ ms. get_or ms n mark.Down) are ∙ placed_at MAX_NODES mark.Down node_numbered (mark_of table s app) (node_count table) n lt
+
+  -- the life at the place of a node
+  life_placed : (lives : List (Option Life)) (n : ℕ) → lives ≡ lives_of table s → n < node_count table → live_in (get_or lives n None) ≡ live_at s.lives (node_numbered n)
+  life_placed lives n are lt = ap (λ ls. live_in (get_or ls n None)) are ∙ ap live_in (placed_at MAX_NODES None node_numbered (map.get s.lives) (node_count table) n lt)
+
+  -- the holder is live at the incarnation that claimed the application, and nothing keeps it from there
+  pub upheld_is : (claim : Claim) (lives : List (Option Life)) (marks : List Mark) (inc : ℕ) → Some claim ≡ map.get s.claims app → lives ≡ lives_of table s → marks ≡ marks_of table s app
+      → claim.origin.node.0 < node_count table → live_in (get_or lives claim.origin.node.0 None) ≡ Some inc → inc ≡ claim.origin.inc → is_ok (get_or marks claim.origin.node.0 mark.Down) ≡ true
+      → standing_of table s app ≡ Upheld claim.origin.node
+  upheld_is claim lives marks inc claimed are also lt live same ok =
+      let o : Origin = claim.origin in
+      let node = o.node in
+      let lives_at : live_at s.lives node ≡ Some o.inc = sym (life_placed lives node.0 are lt) ∙ live ∙ ap (λ n. Some n) same in
+      let permitted = is_permitted_at table s (key_at app node o.inc) in
+      let drained = is_drained_at s node o.inc in
+      let started = is_started_at s (key_at app node o.inc) in
+      let up : is_up s o ≡ true = ap (λ l. option_map_or (λ i. i == o.inc) l false) lives_at ∙ eq-eqb o.inc o.inc refl in
+      let fine : is_ok (marked permitted drained started) ≡ true = sym (ap (λ m. is_ok m) (mark_placed marks node.0 also lt) ∙ ap (λ l. is_ok (mark_at table s app node l)) lives_at) ∙ ok in
+      ap (λ c. option_map_or (standing_at table s app) (option_map (λ (k : Claim). k.origin) c) Unclaimed) (sym claimed)
+      ∙ ap (λ b. cond (not b) Lost (standing node permitted drained started)) up
+      ∙ upheld_if_ok node permitted drained started fine
+
+  -- where an application stands so and nobody of an earlier group may run it, it stays
+  pub stays : (holder : NodeId) → standing_of table s app ≡ Upheld holder → EachEligible table s app (λ m. ¬ IsEarlier table app m holder) → Kept holder ≡ verdict_of table s app
+  stays holder upheld none =
+      let first = first_choice table s app in
+      sym (ap (λ standing. verdict_by table app standing first) upheld ∙ kept_by table s app holder first (first_is table s app) none)
+
+  -- a node that isn't before some group, and is eligible, is of no earlier one
+  pub none_before : (marks : List Mark) (late : ℕ) (n : ℕ) → marks ≡ marks_of table s app → n < node_count table → IsEligible table s app (node_numbered n)
+      → (is_ok (get_or marks n mark.Down) && is_less (group_of table app (node_numbered n)) (Some late)) ≡ false → is_less (group_of table app (node_numbered n)) (Some late) ≡ false
+  none_before marks late n are lt may not =
+      sym (ap (λ b. b && is_less (group_of table app (node_numbered n)) (Some late)) (ap is_ok (mark_placed marks n are lt) ∙ ok_if_eligible (node_numbered n) may)) ∙ not

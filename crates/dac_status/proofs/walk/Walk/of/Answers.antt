@@ -1,0 +1,12 @@
+use Rattle.std.proofs.Common.{subst, sym}
+use Rattle.dac_lattice.specs.Search.{IsInOrder}
+use Rattle.dac_wishes.specs.Keys.{key_cmp}
+use Rattle.dac_wishes.specs.laws.PermitsByKey.{are_permits}
+use Rattle.dac_wishes.specs.laws.StartsByKey.{are_starts}
+use Rattle.dac_status.proofs.walk.Walk.of.Goals as goal
+
+pub invariant_of-result : goal.invariant_of-result
+invariant_of-result c = (
+  subst (IsInOrder key_cmp) (sym c.entries.ensures) (are_permits c.permissions.result.now.standing).in_order,
+  subst (IsInOrder key_cmp) (sym c.entries-2.ensures) (are_starts c.wishes.result.now.standing).in_order,
+)

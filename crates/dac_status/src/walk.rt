@@ -1,0 +1,159 @@
+//! Permits and start wishes of a state, asked for in the order of their keys.
+ghost use Rattle.std.specs.Prelude.{◌≡◌, ◌<◌, Some};
+ghost use Rattle.std.specs.List.{list_all};
+ghost use Rattle.std.specs.Option.{option_copied};
+ghost use Rattle.std.specs.FinMap.{find};
+ghost use Rattle.dac_origins.specs.declared.dot.Dot.{Dot as DotValue};
+ghost use Rattle.dac_lattice.specs.declared.flags.Flag.{Flag as FlagValue};
+ghost use Rattle.dac_lattice.specs.Search.{IsInOrder};
+ghost use Rattle.dac_store.specs.Parts.{HasSameFrom};
+ghost use Rattle.dac_wishes.specs.Keys.{key_cmp};
+ghost use Rattle.dac_wishes.specs.PermissionsValue.{says_true, is_permitted_by};
+ghost use Rattle.dac_config.specs.Table.{app_count};
+ghost use Rattle.dac_placement.specs.Placement.{is_drained_at, is_permitted_at, is_started_at};
+ghost use Rattle.dac_status.specs.Summaries.{mark_at};
+ghost use Rattle.dac_status.specs.Walks.{IsBefore, first_key};
+
+use crate::marks::Mark;
+use dac_config::Config;
+use dac_lattice::Flag;
+use dac_origins::Dot;
+use dac_state::{Key, State};
+use dac_store::{DotFun, DotSet, DotStore, Entries};
+use std::cmp::Ordering;
+use std::marker::Model;
+
+/// A state, and what is left of its permits and start wishes to one who asks for them in the order of their keys. All
+/// answers together pass each entry once, where a search would start anew at each key.
+#[derive(Drop)]
+pub(crate) struct Walk<'a> {
+    state: &'a State,
+    permits: Entries<'a, Key, DotFun<Flag>>,
+    starts: Entries<'a, Key, DotSet>,
+}
+
+impl<'a> Model for Walk<'a> {
+    ghost use Rattle.dac_lattice.specs.Search.{IsInOrder};
+    ghost use Rattle.dac_wishes.specs.Keys.{key_cmp};
+    ghost use Rattle.dac_status.specs.Walks.{WalkValue, coded_walk};
+
+    ghost Value = { WalkValue };
+
+    ghost coded = { coded_walk };
+
+    ghost view = { λ a. record { state = a.state.now; permits = a.permits; starts = a.starts } };
+
+    ghost invariant = { λ a. IsInOrder key_cmp a.permits × IsInOrder key_cmp a.starts };
+}
+
+impl<'a> Walk<'a> {
+    /// The walk that starts before all keys.
+    pub(crate) fn of(state: &'a State) -> Self
+        ensures state { result.state ≡ state.now }
+        ensures before { IsBefore (first_key 0 0) result }
+    {
+        Walk {
+            state,
+            permits: state.permissions().entries(),
+            starts: state.wishes().entries(),
+        }
+    }
+
+    /// The state.
+    pub(crate) fn state(&self) -> &'a State
+        ensures { result.now ≡ self.now.state }
+    {
+        self.state
+    }
+
+    /// How a live node stands for an application, where it is drained or not. Entries below the key are passed.
+    pub(crate) fn mark(&mut self, config: &Config, key: Key, drained: bool) -> Mark
+        requires app { key.app.0 < app_count config.now }
+        requires drained { drained ≡ is_drained_at self.old.state key.node key.inc }
+        requires before { IsBefore key self.old }
+        ensures value { result ≡ mark_at config.now self.old.state key.app key.node (Some key.inc) }
+        ensures state { self.new.state ≡ self.old.state }
+        ensures before { IsBefore key self.new }
+    {
+        if !self.is_permitted(config, key) {
+            return Mark::Barred;
+        }
+        if drained {
+            return Mark::Drained;
+        }
+        if !self.is_started(key) {
+            return Mark::Idle;
+        }
+        Mark::Ok
+    }
+
+    /// Whether the application is permitted at this incarnation. Permits below the key are passed.
+    fn is_permitted(&mut self, config: &Config, key: Key) -> bool
+        requires app { key.app.0 < app_count config.now }
+        requires before { IsBefore key self.old }
+        ensures value { result ≡ is_permitted_at config.now self.old.state key }
+        ensures state { self.new.state ≡ self.old.state }
+        ensures before { IsBefore key self.new }
+    {
+        let default = config.default_permission(key.app);
+        match store_from(&mut self.permits, key) {
+            Some(permits) => permitted_by(default, permits.entries()),
+            None => default,
+        }
+    }
+
+    /// Whether a start of the application stands at this incarnation. Start wishes below the key are passed.
+    fn is_started(&mut self, key: Key) -> bool
+        requires before { IsBefore key self.old }
+        ensures value { result ≡ is_started_at self.old.state key }
+        ensures state { self.new.state ≡ self.old.state }
+        ensures before { IsBefore key self.new }
+    {
+        store_from(&mut self.starts, key).is_some()
+    }
+}
+
+/// The store at a key, if there is one. Entries below the key are passed.
+fn store_from<'a, S: DotStore>(left: &mut Entries<'a, Key, S>, key: Key) -> Option<&'a S>
+    requires { IsInOrder key_cmp left.old }
+    ensures found { option_copied result ≡ find key_cmp key left.old }
+    ensures in_order { IsInOrder key_cmp left.new }
+    ensures same { HasSameFrom key_cmp key left.old left.new }
+{
+    while let Some((other, store)) = left.first() {
+        match other.cmp(&key) {
+            Ordering::Less => left.pass(),
+            Ordering::Equal => return Some(store),
+            Ordering::Greater => return None,
+        }
+    }
+    None
+}
+
+/// Whether a permit says true.
+fn says_true(flag: Flag) -> bool
+    ensures { result ≡ says_true flag }
+{
+    match flag {
+        Flag::Up => true,
+        Flag::Down => false,
+    }
+}
+
+/// Whether each permit says true, or the default where there is none.
+fn permitted_by(default: bool, permits: &[(Dot, Flag)]) -> bool
+    ensures { result ≡ is_permitted_by default permits.now }
+{
+    if permits.is_empty() {
+        default
+    } else {
+        all_say_true(permits)
+    }
+}
+
+/// Whether each permit says true.
+fn all_say_true(permits: &[(Dot, Flag)]) -> bool
+    ensures { result ≡ list_all (λ (p : DotValue × FlagValue). says_true p.1) permits.now }
+{
+    permits.iter().all(|permit| says_true(permit.1))
+}
