@@ -246,6 +246,11 @@ class RecordTest(unittest.TestCase):
         self.assertEqual(self.record.known("dac_top"), {"first.edit": REFUSED, "second.edit": MISSED})
         self.assertEqual(Record(self.root, "another one").known("dac_top"), {})
 
+    def test_what_is_added_is_known_where_the_logic_is_the_same(self) -> None:
+        Record(self.root, "kit-1 logic 0a1b").add("dac_top", self.copy, {"first.edit": REFUSED})
+        for toolchain, found in (("kit-2 logic 0a1b", {"first.edit": REFUSED}), ("kit-1 logic 0a1c", {}), ("kit-1", {})):
+            self.assertEqual(Record(self.root, toolchain).known("dac_top"), found, toolchain)
+
     def test_rows_of_other_texts_are_not_known(self) -> None:
         self.write(self.copy, "crates/dac_top/src/lib.rt", "as it was when the copy was made")
         self.record.add("dac_top", self.copy, {"first.edit": REFUSED})

@@ -7,6 +7,7 @@ changes. A row is the word of whoever committed it.
 
 import hashlib
 import pathlib
+import re
 from typing import Dict, Iterable, Iterator, List, Mapping, NamedTuple, Tuple
 
 from tools.contracts import SourceFile, without_comments
@@ -18,6 +19,9 @@ PARTS = ("src", "specs", "proofs")
 # What a line of a comment begins with.
 COMMENTS = {".rt": "//", ".antt": "--"}
 LAWS = "laws"
+# The sum of the toolchain's logic in its line, as `logic dac8208d650f15bf`. Hosts have kits of other names with the same logic, and
+# a verdict of one of them counts on all.
+LOGIC = re.compile(r"\blogic \w+")
 
 
 class Row(NamedTuple):
@@ -28,7 +32,7 @@ class Row(NamedTuple):
 
 
 class Record:
-    """The record in a repository, as it counts for this toolchain."""
+    """The record in a repository, as it counts for this toolchain, which is named by its line."""
 
     def __init__(self, root: pathlib.Path, toolchain: str) -> None:
         """Nothing is read before it is asked for."""
@@ -64,18 +68,24 @@ class Record:
 def checksums(root: pathlib.Path, crate: str, toolchain: str, mutants: Iterable[pathlib.Path]) -> Dict[str, str]:
     """The checksums of what the verdicts on a crate's mutants rest on, by the mutants' names.
 
-    They are of the mutant itself, its crate's code, definitions and proofs, the toolchain, and the definitions and public
-    contracts of the crates that crates.txt lists for it. So neither a new proof further down makes a row old, nor a comment on
-    lines of its own. The types and laws of those crates aren't seen, nor are crates that aren't listed: what contracts cite of
-    the latter, listed ones pass on by its name alone.
+    They are of the mutant itself, its crate's code, definitions and proofs, the toolchain's logic, and the definitions and
+    public contracts of the crates that crates.txt lists for it. So neither a new proof further down makes a row old, nor a
+    comment on lines of its own. The types and laws of those crates aren't seen, nor are crates that aren't listed: what contracts
+    cite of the latter, listed ones pass on by its name alone.
     """
-    basis = hashlib.sha256(repr((toolchain, list(basis_of(root, crate)))).encode("utf-8"))
+    basis = hashlib.sha256(repr((logic_of(toolchain), list(basis_of(root, crate)))).encode("utf-8"))
     found = {}
     for mutant in mutants:
         whole = basis.copy()
         whole.update(mutant.read_bytes())
         found[mutant.name] = whole.hexdigest()[:16]
     return found
+
+
+def logic_of(toolchain: str) -> str:
+    """The sum of the logic in a toolchain's line, or all of the line if it has none."""
+    found = LOGIC.search(toolchain)
+    return found[0] if found else toolchain
 
 
 def basis_of(root: pathlib.Path, crate: str) -> Iterator[Tuple[str, object]]:

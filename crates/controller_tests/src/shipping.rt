@@ -1,4 +1,5 @@
-//! What nodes ship once deltas are dropped, and which acknowledgements and messages they pass over or refuse.
+//! What nodes ship once deltas are dropped or they are made ready for a ship, and which acknowledgements and messages they pass
+//! over or refuse.
 use crate::nodes::{FIRST, ONE, SECOND, boot_second, hears_starts, message, step};
 use crate::steps::dot;
 use dac_base::NodeId;
@@ -28,6 +29,14 @@ fn node_after_ack(alloc: Global, config: &Config, number: u64) -> Option<Node> {
     Some(node)
 }
 
+/// The message that the second node ships to the first.
+fn ship(config: &Config, node: &mut Node) -> Option<Message> {
+    match step(config, node, Event::Ship { to: FIRST }).ok()? {
+        Reply::Shipped(message) => Some(message),
+        _ => None,
+    }
+}
+
 /// Whether the second node ships its whole state to the first. The first acknowledged so many deltas before the
 /// second heard of each of its starts below this counter.
 fn ships_whole(alloc: Global, number: u64, end: u64) -> Option<bool> {
@@ -36,16 +45,33 @@ fn ships_whole(alloc: Global, number: u64, end: u64) -> Option<bool> {
     if !hears_starts(alloc, &config, &mut node, end) {
         return None;
     }
-    match step(&config, &mut node, Event::Ship { to: FIRST }).ok()? {
-        Reply::Shipped(message) => Some(matches!(message.body, Body::Whole(_))),
-        _ => None,
-    }
+    let message = ship(&config, &mut node)?;
+    Some(matches!(message.body, Body::Whole(_)))
 }
 
 #[test]
 fn whole_once_the_oldest_of_256_deltas_is_dropped(rt: HostRuntime) {
     assert!(rt; ships_whole(rt.alloc(), 2, 2 + 256) == Some(false));
     assert!(rt; ships_whole(rt.alloc(), 2, 2 + 257) == Some(true));
+}
+
+/// Whether a copy of the second node that is made ready for it ships the same interval of nine starts as the node itself.
+fn ships_the_same_once_ready(alloc: Global) -> Option<bool> {
+    let config = read_config(alloc, ONE).ok()?;
+    let mut node = node_after_ack(alloc, &config, 2)?;
+    if !hears_starts(alloc, &config, &mut node, 2 + 9) {
+        return None;
+    }
+    let mut ready = node.copy().ok()?;
+    ready.warm(&Event::Ship { to: FIRST });
+    let message = ship(&config, &mut ready)?;
+    let other = ship(&config, &mut node)?;
+    Some(matches!(message.body, Body::Interval(_)) && message.equal(&other))
+}
+
+#[test]
+fn a_node_that_is_made_ready_ships_the_same(rt: HostRuntime) {
+    assert!(rt; ships_the_same_once_ready(rt.alloc()) == Some(true));
 }
 
 #[test]
@@ -61,10 +87,8 @@ fn acknowledges(alloc: Global, up_to: u64) -> Option<Option<u64>> {
     let mut sent = message(alloc)?;
     sent.up_to = up_to;
     let _heard = step(&config, &mut node, Event::Hear(sent)).ok()?;
-    match step(&config, &mut node, Event::Ship { to: FIRST }).ok()? {
-        Reply::Shipped(answer) => Some(number_of(answer.ack)),
-        _ => None,
-    }
+    let answer = ship(&config, &mut node)?;
+    Some(number_of(answer.ack))
 }
 
 /// How many deltas were got.
@@ -106,10 +130,7 @@ fn messages_for_others_are_refused(rt: HostRuntime) {
 fn ship_whole(alloc: Global, config: &Config, last: u64) -> Option<Message> {
     let mut node = Node::off(alloc, last);
     let _up = step(config, &mut node, Event::Boot { now: 0 }).ok()?;
-    match step(config, &mut node, Event::Ship { to: FIRST }).ok()? {
-        Reply::Shipped(message) => Some(message),
-        _ => None,
-    }
+    ship(config, &mut node)
 }
 
 /// Whether that message is of this incarnation, and is read from its bytes again.

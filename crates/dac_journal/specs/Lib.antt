@@ -5,6 +5,7 @@ pub use Rattle.dac_node.specs.Changes
 pub use Rattle.dac_model_world.specs.Converges
 pub use Rattle.dac_model_world.specs.EveryList
 pub use Rattle.dac_model_world.specs.Histories
+pub use Rattle.dac_model_world.specs.Keeping
 pub use Rattle.dac_model_world.specs.ModelNode
 pub use Rattle.dac_model_world.specs.ModelWorld
 pub use Rattle.dac_model_world.specs.NodeValue

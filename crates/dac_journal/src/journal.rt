@@ -1,11 +1,10 @@
 //! The journal of a node, with the node.
 
-ghost use Rattle.std.specs.Prelude.{◌≡◌, ◌≢◌, ◌≤◌, ◌<◌, ◌++◌, ◌∷◌, [], length, true, false, IfOk, IfErr, OnErr};
+ghost use Rattle.std.specs.Prelude.{◌≡◌, ◌≢◌, ◌≤◌, ◌<◌, ◌++◌, ◌∷◌, [], length, true, false, IfOk, IfErr, OnOk, OnErr};
 ghost use Rattle.dac_model_world.specs.Step.{Steps};
 ghost use Rattle.dac_journal.specs.declared.limits.TheConstants.{MAX_RECORDS as MOST};
-ghost use Rattle.dac_node.specs.Changes.{changed, Fits};
 ghost use Rattle.dac_journal.specs.Journals.{beginning_of, EndsAt};
-ghost use Rattle.dac_journal.specs.Going.{GoesTo};
+ghost use Rattle.dac_journal.specs.Going.{FitsBy, GoesOnBy, GoesTo, node_by};
 
 use crate::closed::Closed;
 use crate::limits::MAX_RECORDS;
@@ -131,8 +130,28 @@ impl Journal {
         &self.node
     }
 
-    /// What asking the node for this seat would do. Nothing changes yet. [`NoMemory`] is the only error.
-    pub fn prepare(&self, seat: u16, event: Event) -> Result<Next, NoMemory>
+    /// What asking the node for this seat would do. Contracts see no change: what the event takes is made ready, and nothing
+    /// happens yet. [`NoMemory`] is the only error.
+    pub fn prepare(&mut self, seat: u16, event: Event) -> Result<Next, NoMemory>
+        requires { length self.old.records < MOST }
+        ensures goes { IfOk result (GoesTo self.old seat event) }
+        ensures answered { IfOk result
+            (λ next. IfErr next.entry.answer (λ why. why ≢ Refusal.NoMemory)) }
+        ensures unchanged { self.new ≡ self.old }
+    {
+        self.warm(&event);
+        self.prepare_next(seat, event)
+    }
+
+    /// Makes ready what an event takes at the node.
+    fn warm(&mut self, event: &Event)
+        ensures { self.new ≡ self.old }
+    {
+        self.node.warm(event);
+    }
+
+    /// What asking the node for this seat would do. [`NoMemory`] is the only error.
+    fn prepare_next(&self, seat: u16, event: Event) -> Result<Next, NoMemory>
         requires { length self.now.records < MOST }
         ensures goes { IfOk result (GoesTo self.now seat event) }
         ensures answered { IfOk result
@@ -140,7 +159,8 @@ impl Journal {
     {
         let place = self.records.len() as u64 + 1;
         let kept = event.copy()?;
-        let (node, answer, second, third) = step_copy(&self.config, self.me, &self.node, &event)?;
+        let (change, answer, second, third) =
+            prepare_node(&self.config, self.me, &self.node, &event)?;
         Ok(Next {
             entry: Record {
                 seat,
@@ -153,7 +173,7 @@ impl Journal {
                 answer: second,
             },
             answer: third,
-            node,
+            change,
         })
     }
 
@@ -161,8 +181,7 @@ impl Journal {
     /// the answer. [`NoMemory`] is the only error, and leaves all as it was.
     pub fn commit(&mut self, next: Next) -> Result<(Call, Answer), NoMemory>
         requires room { length self.old.records < MOST }
-        requires follows { EndsAt self.old.beginning (self.old.records ++ next.entry ∷ [])
-            next.node }
+        requires follows { GoesOnBy self.old.beginning self.old.records next.entry next.change }
         ensures beginning { self.new.beginning ≡ self.old.beginning }
         ensures ok { IfOk result (λ _. self.new.records ≡ self.old.records ++ next.entry ∷ []) }
         ensures said { IfOk result (λ r. (r.0 ≡ next.call) × (r.1 ≡ next.entry.answer)) }
@@ -177,76 +196,61 @@ impl Journal {
             node,
         } = self;
         records.reserve(1)?;
-        let (entry, call, answer, after) = next.into_parts();
+        let (entry, call, answer, change) = next.into_parts();
+        apply_change(node, change)?;
         records.push_reserved(entry);
-        *node = after;
         Ok((call, answer))
     }
 }
 
-/// The node after its answer, and the answer, three times. The node that is lent stays as it is.
-fn step_copy(
+/// What an event does to a node, if it isn't refused, and the answer, three times.
+fn prepare_node(
     config: &Config,
     me: NodeId,
     node: &Node,
     event: &Event,
-) -> Result<(Node, Answer, Answer, Answer), NoMemory>
-    ensures steps { IfOk result (λ r. Steps config.now me node.now event.now r.0 r.1) }
+) -> Result<(Option<Change>, Answer, Answer, Answer), NoMemory>
+    ensures steps { IfOk result
+        (λ r. Steps config.now me node.now event.now (node_by r.0 node.now) r.1) }
+    ensures fits { IfOk result (λ r. FitsBy r.0 node.now) }
     ensures same { IfOk result (λ r. (r.2 ≡ r.1) × (r.3 ≡ r.1)) }
     ensures answered { IfOk result (λ r. IfErr r.1 (λ why. why ≢ Refusal.NoMemory)) }
 {
-    let mut after = node.copy()?;
-    after.warm(event);
-    let (answer, second, third) = ask_node(config, me, &mut after, event)?;
-    Ok((after, answer, second, third))
-}
-
-/// The answer of the node, three times. At `Err` it is as before.
-fn ask_node(
-    config: &Config,
-    me: NodeId,
-    node: &mut Node,
-    event: &Event,
-) -> Result<(Answer, Answer, Answer), NoMemory>
-    ensures steps { IfOk result (λ a. Steps config.now me node.old event.now node.new a.0) }
-    ensures same { IfOk result (λ a. (a.1 ≡ a.0) × (a.2 ≡ a.0)) }
-    ensures answered { IfOk result (λ a. IfErr a.0 (λ why. why ≢ Refusal.NoMemory)) }
-    ensures unchanged { OnErr result (node.new ≡ node.old) }
-{
     match node.prepare(config, me, event) {
         Ok(change) => {
-            let (reply, second, third) = apply_change(node, change)?;
-            Ok((Ok(reply), Ok(second), Ok(third)))
+            let (reply, second, third) = three_copies(change.reply())?;
+            Ok((Some(change), Ok(reply), Ok(second), Ok(third)))
         }
         Err(why) => {
             if is_no_memory(why) {
                 return Err(NoMemory);
             }
-            Ok((Err(why), Err(why), Err(why)))
+            Ok((None, Err(why), Err(why), Err(why)))
         }
     }
 }
 
-/// Does what was prepared. It gives the reply, three times. At `Err` the node is as before.
-fn apply_change(node: &mut Node, change: Change) -> Result<(Reply, Reply, Reply), NoMemory>
-    requires { Fits node.old change }
-    ensures new { IfOk result (λ _. node.new ≡ changed node.old change) }
-    ensures reply { IfOk result (λ r. r.0 ≡ change.reply) }
-    ensures same { IfOk result (λ r. (r.1 ≡ change.reply) × (r.2 ≡ change.reply)) }
-    ensures unchanged { OnErr result (node.new ≡ node.old) }
+/// Does what was prepared of a node, if anything was. At `Err` the node is as before.
+fn apply_change(node: &mut Node, change: Option<Change>) -> Result<(), NoMemory>
+    requires { FitsBy change node.old }
+    ensures ok { OnOk result (node.new ≡ node_by change node.old) }
+    ensures err { OnErr result (node.new ≡ node.old) }
 {
-    let (second, third) = two_copies(change.reply())?;
-    let reply = node.apply(change)?;
-    Ok((reply, second, third))
+    if let Some(change) = change {
+        let _reply = node.apply(change)?;
+    }
+    Ok(())
 }
 
-/// Two copies of a reply.
-fn two_copies(reply: &Reply) -> Result<(Reply, Reply), NoMemory>
-    ensures { IfOk result (λ r. (r.0 ≡ reply.now) × (r.1 ≡ reply.now)) }
+/// Three copies of a reply.
+fn three_copies(reply: &Reply) -> Result<(Reply, Reply, Reply), NoMemory>
+    ensures { IfOk result
+        (λ r. (r.0 ≡ reply.now) × (r.1 ≡ reply.now) × (r.2 ≡ reply.now)) }
 {
     let one = reply.copy()?;
-    let other = reply.copy()?;
-    Ok((one, other))
+    let second = reply.copy()?;
+    let third = reply.copy()?;
+    Ok((one, second, third))
 }
 
 /// Whether memory was refused, so that nothing was answered.

@@ -5,7 +5,7 @@
 
 pub use closed::Closed;
 pub use dac_model_world::laws::every_list_converges;
-pub use dac_node::Node;
+pub use dac_node::{Change, Node};
 pub use journal::Journal;
 pub use limits::MAX_RECORDS;
 pub use next::Next;

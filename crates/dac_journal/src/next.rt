@@ -1,19 +1,20 @@
 //! What a journal goes on to.
 
 ghost use Rattle.std.specs.Prelude.{◌≡◌};
+ghost use Rattle.std.specs.Option.{option_copied};
 
 use crate::record::{Answer, Call, Record};
-use dac_node::Node;
+use dac_node::Change;
 use std::marker::Model;
 
-/// What a journal goes on to when its node is asked: the record, what the seat keeps, the answer, and the node after it.
+/// What a journal goes on to when its node is asked: the record, what the seat keeps, the answer, and what happens to the node.
 ///
 /// [`Journal::prepare`](crate::Journal::prepare) makes it, and [`Journal::commit`](crate::Journal::commit) goes on to it.
 pub struct Next {
     pub(crate) entry: Record,
     pub(crate) call: Call,
     pub(crate) answer: Answer,
-    pub(crate) node: Node,
+    pub(crate) change: Option<Change>,
 }
 
 /// Written out: a drop is one call for a proof, wherever it stands.
@@ -23,7 +24,7 @@ impl Drop for Next {
             entry: _entry,
             call: _call,
             answer: _answer,
-            node: _node,
+            change: _change,
         } = self;
     }
 }
@@ -32,35 +33,44 @@ impl Model for Next {
     ghost use Rattle.std.specs.Prelude.{◌≡◌};
     ghost use Rattle.dac_journal.specs.contracts.record.Call as call_row;
     ghost use Rattle.dac_journal.specs.contracts.record.Record as record_row;
+    ghost use Rattle.dac_node.specs.contracts.change.Change as change_row;
     ghost use Rattle.dac_journal.specs.Going.{NextValue, coded_next};
 
     ghost Value = { NextValue };
 
-    ghost coded = { coded_next record_row.the_row.coded call_row.the_row.coded };
+    ghost coded = { coded_next record_row.the_row.coded call_row.the_row.coded
+        change_row.the_row.coded };
 
-    ghost view = { λ n. record { entry = n.entry; call = n.call; node = n.node } };
+    ghost view = { λ n. record { entry = n.entry; call = n.call; change = n.change } };
 
     ghost invariant = { λ n. n.answer ≡ n.entry.answer };
 }
 
 impl Next {
-    /// The node after the record.
-    pub fn node(&self) -> &Node
-        ensures { result.now ≡ self.now.node }
+    /// What the node answers.
+    pub fn answer(&self) -> &Answer
+        ensures { result.now ≡ self.now.entry.answer }
     {
-        &self.node
+        &self.entry.answer
     }
 
-    /// Its parts: the record, what the seat keeps, the answer, and the node.
-    pub(crate) fn into_parts(self) -> (Record, Call, Answer, Node)
-        ensures { result ≡ (self.entry, self.call, self.entry.answer, self.node) }
+    /// What happens to the node. Nothing does if it refuses the event.
+    pub fn change(&self) -> Option<&Change>
+        ensures { option_copied result ≡ self.now.change }
+    {
+        self.change.as_ref()
+    }
+
+    /// Its parts: the record, what the seat keeps, the answer, and what happens to the node.
+    pub(crate) fn into_parts(self) -> (Record, Call, Answer, Option<Change>)
+        ensures { result ≡ (self.entry, self.call, self.entry.answer, self.change) }
     {
         let Next {
             entry,
             call,
             answer,
-            node,
+            change,
         } = self;
-        (entry, call, answer, node)
+        (entry, call, answer, change)
     }
 }

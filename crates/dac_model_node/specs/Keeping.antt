@@ -1,5 +1,5 @@
 -- What an accepted event leaves of a node.
-use Rattle.std.specs.Prelude.{◌≡◌, ℕ, ◌+◌, ◌-◌, min, max, Bool, true, false, cond, List, [], ◌∷◌, ◌++◌, length, drop, fold, map as list_map, Option, Some, None, unwrap_or}
+use Rattle.std.specs.Prelude.{◌≡◌, ℕ, ◌+◌, ◌-◌, min, max, Bool, true, false, not, cond, ◌==◌, List, [], ◌∷◌, ◌++◌, length, drop, fold, map as list_map, Option, Some, None, unwrap_or, Result, Ok, Err}
 use Rattle.dac_base.specs.declared.NodeId.{NodeId}
 use Rattle.dac_origins.specs.declared.dot.Origin.{Origin}
 use Rattle.dac_operations.specs.Operations.{Operation}
@@ -14,7 +14,8 @@ use Rattle.dac_messages.specs.Bodies.{content_of}
 use Rattle.dac_messages.specs.declared.event.Event.{Event}
 use Rattle.dac_messages.specs.declared.event.Event.TheVariants.{Boot, Tick, Ship, Hear, HearOp}
 use Rattle.dac_messages.specs.declared.reply.Reply.{Reply}
-use Rattle.dac_messages.specs.declared.reply.Reply.TheVariants.{Booted, Crashed, Issued, Ticked, GaveUp, Heard}
+use Rattle.dac_messages.specs.declared.reply.Reply.TheVariants.{Booted, Crashed, Issued, Ticked, Held, GaveUp, Shipped, Heard}
+use Rattle.dac_events.specs.declared.refusal.Refusal.{Refusal}
 use Rattle.dac_model_node.specs.NodeValue.{NodeValue, RunningValue}
 use Rattle.dac_model_node.specs.Refused.{tick_in, Some! }
 use Rattle.dac_deltas.specs.declared.buffer.TheConstants.{MAX_DELTAS}
@@ -67,6 +68,20 @@ kept_after k deltas had =
     let count = k.count + length deltas in
     let base = max (max k.base (count - MAX_DELTAS)) (min had count) in
     record { count = count; base = base; deltas = drop (base - k.base) (k.deltas ++ deltas) }
+
+-- A reply that says so leaves the state, and what runs runs on: a ship, a tick that claims nothing, and what comes
+-- and isn't new.
+abbrev pub says_it_stays : Reply → Bool
+says_it_stays (Ticked ops passed) = length ops == 0
+says_it_stays Held = true
+says_it_stays (Shipped m) = true
+says_it_stays (Heard fresh) = not fresh
+says_it_stays _ = false
+
+-- so does a refusal
+abbrev pub leaves_state : Result Reply Refusal → Bool
+leaves_state (Ok reply) = says_it_stays reply
+leaves_state (Err why) = true
 
 -- ---- what runs
 

@@ -8,6 +8,7 @@ pub mod Counters
 pub mod Numbers
 pub mod Writing
 pub mod Keeping
+pub mod Staying
 pub mod Effect
 pub mod Shipping
 pub mod Again

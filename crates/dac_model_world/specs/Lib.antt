@@ -19,6 +19,7 @@ pub mod EveryList
 pub mod laws
 pub use Rattle.dac_model_node.specs.Deeds
 pub use Rattle.dac_model_node.specs.EventRefusals
+pub use Rattle.dac_model_node.specs.Keeping
 pub use Rattle.dac_model_node.specs.ModelNode
 pub use Rattle.dac_model_node.specs.NodeValue
 pub use Rattle.dac_model_node.specs.Step

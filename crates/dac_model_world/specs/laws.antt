@@ -29,4 +29,5 @@ pub mod Records
 pub mod EveryList
 pub mod Follow
 pub use Rattle.dac_model_node.specs.laws.Options
+pub use Rattle.dac_model_node.specs.laws.Staying
 pub use Rattle.dac_model_node.specs.laws.Steps

@@ -3,6 +3,7 @@
 ghost use Rattle.std.specs.Prelude.{◌≡◌, ◌↔◌, ◌<◌, length, IsTrue};
 
 use crate::knowledge::Knowledge;
+use dac_origins::Origin;
 use dac_state::State;
 use std::marker::Model;
 
@@ -43,6 +44,20 @@ impl Model for Advance {
 }
 
 impl Advance {
+    /// The incarnation that goes on.
+    pub(crate) fn origin(&self) -> Origin
+        ensures { result ≡ self.now.knowledge.origin }
+    {
+        self.knowledge.origin
+    }
+
+    /// The state by then.
+    pub(crate) fn state(&self) -> &State
+        ensures { result.now ≡ self.now.knowledge.state }
+    {
+        &self.knowledge.state
+    }
+
     /// What the controller knows by then, the deltas that come, and the number below which none is kept any more.
     pub(crate) fn into_parts(self) -> (Knowledge, Vec<State>, u64)
         ensures knowledge { result.0 ≡ self.knowledge }

@@ -280,6 +280,34 @@ impl Node {
         Ok(reply)
     }
 
+    /// The state once it does what was prepared, if it runs then.
+    pub fn state_after<'a>(&self, change: &'a Change) -> Option<&'a State>
+        ensures { option_copied result ≡ state_of (changed self.now change.now) }
+    {
+        match &change.after {
+            After::Off => None,
+            After::Boots(running) => Some(running.state()),
+            After::GoesOn(next) => match &self.running {
+                None => None,
+                Some(_running) => Some(next.state()),
+            },
+        }
+    }
+
+    /// The incarnation once it does what was prepared, if it runs then.
+    pub fn origin_after(&self, change: &Change) -> Option<Origin>
+        ensures { result ≡ origin_of (changed self.now change.now) }
+    {
+        match &change.after {
+            After::Off => None,
+            After::Boots(running) => Some(running.origin()),
+            After::GoesOn(next) => match &self.running {
+                None => None,
+                Some(_running) => Some(next.origin()),
+            },
+        }
+    }
+
     /// Nothing runs any more.
     fn go_off(&mut self)
         ensures { self.new ≡ record { last = self.old.last; running = None } }

@@ -54,6 +54,16 @@ impl Pages {
         }
     }
 
+    /// The page that readers take.
+    pub fn shown(&self) -> &Page
+        ensures { result.now ≡ self.now.shown }
+    {
+        match &self.writer {
+            Some(writer) => writer.published(),
+            None => unreachable!(),
+        }
+    }
+
     /// Lays a page ready, so that it can be published without memory. Readers take what they took. [`NoMemory`] is the only
     /// error, and leaves all as it was.
     pub fn prepare(&mut self, page: Page) -> Result<(), NoMemory>

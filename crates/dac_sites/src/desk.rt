@@ -1,14 +1,17 @@
 //! A journal with its pages.
 
-ghost use Rattle.std.specs.Prelude.{◌≡◌, ◌^◌, ◌<◌, [], IfOk};
+ghost use Rattle.std.specs.Prelude.{◌≡◌, ◌^◌, ◌<◌, ◌++◌, ◌∷◌, [], IfOk};
 ghost use Rattle.std.specs.Option.{option_copied};
 ghost use Rattle.dac_status.specs.Summaries.{summary_of};
+ghost use Rattle.dac_journal.specs.Keeping.{leaves_state};
+ghost use Rattle.dac_journal.specs.Going.{GoesOnBy, node_by};
 ghost use Rattle.dac_sites.specs.Paged.{page_after, page_of, known_in};
 
 use dac_base::NoMemory;
 use dac_config::Config;
-use dac_journal::{Journal, Node};
+use dac_journal::{Answer, Change, Journal, Next, Node};
 use dac_lattice::Bottom;
+use dac_messages::Reply;
 use dac_pages::{Page, Pages, RawReader};
 use dac_state::State;
 use dac_status::Summary;
@@ -24,6 +27,59 @@ pub fn page_of(alloc: Global, config: &Config, place: u64, node: &Node) -> Page
         place,
         origin: node.origin(),
         summary: summary_of(alloc, config, node.state()),
+    }
+}
+
+/// The page once a journal goes on to what was prepared of it, where this is the page before. Its summary is made anew only if
+/// the state may be another one. It takes no memory.
+pub(crate) fn next_page(alloc: Global, journal: &Journal, shown: &Page, next: &Next) -> Page
+    requires goes { GoesOnBy journal.now.beginning journal.now.records next.now.entry
+        next.now.change }
+    requires shown { shown.now ≡ page_after journal.now.beginning journal.now.records }
+    ensures { result
+        ≡ page_after journal.now.beginning (journal.now.records ++ next.now.entry ∷ []) }
+{
+    let node = journal.node();
+    let place = journal.records().len() as u64 + 1;
+    if leaves_state(next.answer()) {
+        return Page {
+            place,
+            origin: shown.origin,
+            summary: shown.summary,
+        };
+    }
+    page_by(alloc, journal.config(), place, node, next.change())
+}
+
+/// Whether an answer says that the state and the incarnation stay.
+fn leaves_state(answer: &Answer) -> bool
+    ensures { result ≡ leaves_state answer.now }
+{
+    match answer {
+        Ok(Reply::Ticked { ops, passed: _ }) => ops.as_slice().is_empty(),
+        Ok(Reply::Heard(fresh)) => !fresh,
+        Ok(Reply::Held | Reply::Shipped(_)) | Err(_) => true,
+        Ok(Reply::Booted(_) | Reply::Crashed | Reply::Issued(_) | Reply::GaveUp) => false,
+    }
+}
+
+/// The page of a node once so much happens to it, with so many records.
+fn page_by(
+    alloc: Global,
+    config: &Config,
+    place: u64,
+    node: &Node,
+    change: Option<&Change>,
+) -> Page
+    ensures { result ≡ page_of config.now place (node_by (option_copied change.entry) node.now) }
+{
+    match change {
+        None => page_of(alloc, config, place, node),
+        Some(change) => Page {
+            place,
+            origin: node.origin_after(change),
+            summary: summary_of(alloc, config, node.state_after(change)),
+        },
     }
 }
 

@@ -8,7 +8,7 @@ ghost use Rattle.dac_journal.specs.declared.limits.TheConstants.{MAX_RECORDS};
 ghost use Rattle.dac_journal.specs.Journals.{AreHistory, call_of, calls_of, record_of, DifferAt};
 ghost use Rattle.dac_sites.specs.Paged.{page_after};
 
-use crate::desk::{Desk, page_of};
+use crate::desk::{Desk, next_page};
 use crate::faults::LiveFault;
 use crate::same::is_record;
 use dac_events::Refusal;
@@ -52,9 +52,8 @@ pub fn add_record<R: Wait>(
         journal,
         pages,
     } = desk;
-    let place = journal.records().len() as u64 + 1;
     let next = journal.prepare(seat, event)?;
-    pages.prepare(page_of(*alloc, journal.config(), place, next.node()))?;
+    pages.prepare(next_page(*alloc, journal, pages.shown(), &next))?;
     let said = journal.commit(next)?;
     pages.publish(rt);
     Ok(said)

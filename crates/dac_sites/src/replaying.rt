@@ -35,6 +35,7 @@ fn go_on(config: &Config, me: NodeId, node: &mut Node, event: &Event) -> Result<
     ensures { OnOk result (GoesOn config.now me node.old event.now node.new) }
 {
     let event = event.copy()?;
+    node.warm(&event);
     let answer = node.step(config, me, event);
     is_answered(&answer)?;
     Ok(())

@@ -42,6 +42,7 @@ fn is_no_memory(why: Refusal) -> bool
 fn repeat(config: &Config, me: NodeId, node: &mut Node, entry: &Record) -> Result<bool, NoMemory>
     ensures { IfOk result (λ same. Repeats config.now me node.old entry.now node.new same) }
 {
+    node.warm(&entry.event);
     match node.prepare(config, me, &entry.event) {
         Ok(change) => {
             let reply = node.apply(change)?;

@@ -107,6 +107,7 @@ pub const CALLS: &[(&str, Call)] = &[
     ("Buffer::push", Call::Buffer(OfBuffer::Push)),
     ("Buffer::push_all", Call::Buffer(OfBuffer::PushAll)),
     ("Buffer::interval", Call::Buffer(OfBuffer::Interval)),
+    ("Buffer::warm", Call::Buffer(OfBuffer::Warm)),
     ("Buffer::blocks", Call::Buffer(OfBuffer::Blocks)),
     ("Buffer::copy", Call::Buffer(OfBuffer::Copy)),
     ("Acks::raise", Call::Buffer(OfBuffer::Raise)),
@@ -245,6 +246,10 @@ pub const CALLS: &[(&str, Call)] = &[
     ("World::step:start", Call::World(OfWorld::Start)),
     ("World::step:tick", Call::World(OfWorld::Tick)),
     ("World::step:ship", Call::World(OfWorld::Ship)),
+    (
+        "World::step:ship-interval",
+        Call::World(OfWorld::ShipInterval),
+    ),
     ("World::step:ship-equal", Call::World(OfWorld::ShipEqual)),
     ("World::step:deliver", Call::World(OfWorld::Deliver)),
     ("World::step:hand", Call::World(OfWorld::Hand)),

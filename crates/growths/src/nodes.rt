@@ -93,7 +93,8 @@ fn hand(alloc: Global, does: Does) -> Option<Event> {
 fn before(alloc: Global, happens: Happens) -> Option<Option<Event>> {
     match happens {
         Happens::Takeover => Some(Some(hand(alloc, Does::Claim)?)),
-        Happens::ShipInterval => Some(Some(Event::Hear(message(Body::Nothing, 2)))),
+        // (it acknowledges the first of four deltas: for two of them no blocks would be joined)
+        Happens::ShipInterval => Some(Some(Event::Hear(message(Body::Nothing, 1)))),
         Happens::ShipNothing => {
             let body = Body::Whole(meaning(alloc, OTHER, Does::Up)?);
             Some(Some(Event::Hear(message(body, 4))))

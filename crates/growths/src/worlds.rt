@@ -20,6 +20,7 @@ pub enum OfWorld {
     Start,
     Tick,
     Ship,
+    ShipInterval,
     ShipEqual,
     Deliver,
     Hand,
@@ -105,18 +106,23 @@ fn acknowledged(alloc: Global) -> Option<Vec<WorldEvent>> {
     Some(events)
 }
 
-/// What comes before equal intervals of two nodes. The first node wishes three times for a start. It tells the second each
-/// time, so that both have three deltas more, which join to the same. Then it ships the third their join.
-fn shipped_once(alloc: Global) -> Option<Vec<WorldEvent>> {
+/// The first node wishes for a start at a node, and tells the second by the message of this number.
+fn wish(events: &mut Vec<WorldEvent>, at: NodeId, number: u64) -> Option<()> {
+    let start = Command::Start { app: APP, node: at };
+    let what = What::Command(start);
+    events.push(WorldEvent { node: ME, what }).ok()?;
+    tell(events, ME, OTHER, number)
+}
+
+/// What comes before equal intervals of two nodes. The first node wishes twice for a start. It tells the second each time, so
+/// that both have two deltas more, which join to the same. Then it ships the third their join. Before an interval for which
+/// joins of blocks are made, it wishes once more.
+fn shipped_once(alloc: Global, asked: OfWorld) -> Option<Vec<WorldEvent>> {
     let mut events = acknowledged(alloc)?;
-    for i in 0..NODES.len() {
-        let start = Command::Start {
-            app: APP,
-            node: NODES[i],
-        };
-        let what = What::Command(start);
-        events.push(WorldEvent { node: ME, what }).ok()?;
-        tell(&mut events, ME, OTHER, i as u64 + 13)?;
+    wish(&mut events, ME, 13)?;
+    wish(&mut events, OTHER, 14)?;
+    if asked == OfWorld::ShipInterval {
+        wish(&mut events, THIRD, 15)?;
     }
     let what = What::Ship { to: THIRD };
     events.push(WorldEvent { node: ME, what }).ok()?;
@@ -125,10 +131,9 @@ fn shipped_once(alloc: Global) -> Option<Vec<WorldEvent>> {
 
 /// What has happened before what is asked.
 fn events_before(alloc: Global, asked: OfWorld) -> Option<Vec<WorldEvent>> {
-    if asked == OfWorld::ShipEqual {
-        shipped_once(alloc)
-    } else {
-        events(alloc)
+    match asked {
+        OfWorld::ShipInterval | OfWorld::ShipEqual => shipped_once(alloc, asked),
+        _ => events(alloc),
     }
 }
 
@@ -160,7 +165,7 @@ fn next(asked: OfWorld) -> WorldEvent {
             }),
         ),
         OfWorld::Ship => (ME, What::Ship { to: THIRD }),
-        OfWorld::ShipEqual => (OTHER, What::Ship { to: THIRD }),
+        OfWorld::ShipInterval | OfWorld::ShipEqual => (OTHER, What::Ship { to: THIRD }),
         OfWorld::Deliver => (OTHER, What::Deliver(1)),
         OfWorld::Hand => (OTHER, What::Hand(1)),
         _ => (ME, What::Tick { now: 9 }),

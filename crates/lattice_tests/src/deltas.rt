@@ -134,24 +134,40 @@ fn push_token(buffer: &mut Buffer<Token>) -> Result<(), NoMemory> {
     Ok(())
 }
 
-/// Whether the interval from a delta on is a copy, where it has blocks to be joined.
-fn is_copied(buffer: &Buffer<Token>, from: u64) -> Result<Option<bool>, NoMemory> {
+/// So many tokens.
+fn tokens(alloc: Global, count: u64) -> Result<Buffer<Token>, NoMemory> {
+    let mut buffer = Buffer::new(alloc);
+    for _ in 0..count {
+        push_token(&mut buffer)?;
+    }
+    Ok(buffer)
+}
+
+/// By how many joins the interval from a delta on is made.
+fn joins(buffer: &Buffer<Token>, from: u64) -> Result<Option<u64>, NoMemory> {
     buffer.tells_invariant();
     if from > buffer.count() {
         return Ok(None);
     }
     match buffer.interval(from)? {
-        Some(token) => Ok(Some(token.is_copy)),
+        Some(token) => Ok(Some(token.joins)),
         None => Ok(None),
     }
 }
 
+/// By how many joins the interval from a delta on is made, and by how many once one delta more came.
+fn joins_and_next(
+    mut buffer: Buffer<Token>,
+    from: u64,
+) -> Result<(Option<u64>, Option<u64>), NoMemory> {
+    let before = joins(&buffer, from)?;
+    push_token(&mut buffer)?;
+    Ok((before, joins(&buffer, from)?))
+}
+
 /// Nine tokens, of which the interval from the fourth on is remembered.
 fn remembering(alloc: Global) -> Result<Buffer<Token>, NoMemory> {
-    let mut buffer = Buffer::new(alloc);
-    for _ in 0..9 {
-        push_token(&mut buffer)?;
-    }
+    let mut buffer = tokens(alloc, 9)?;
     if 3 <= buffer.count() {
         if let Some(joined) = buffer.interval(3)? {
             buffer.remember(3, joined);
@@ -160,20 +176,86 @@ fn remembering(alloc: Global) -> Result<Buffer<Token>, NoMemory> {
     Ok(buffer)
 }
 
-/// Whether the interval from a delta on is a copy where that from the fourth on is remembered, and once one delta more
+/// By how many joins the interval from a delta on is made where that from the fourth on is remembered, and once one delta more
 /// came.
-fn copied(alloc: Global, from: u64) -> Result<(Option<bool>, Option<bool>), NoMemory> {
-    let mut buffer = remembering(alloc)?;
-    let before = is_copied(&buffer, from)?;
-    push_token(&mut buffer)?;
-    Ok((before, is_copied(&buffer, from)?))
+fn beside_remembered(alloc: Global, from: u64) -> Result<(Option<u64>, Option<u64>), NoMemory> {
+    joins_and_next(remembering(alloc)?, from)
 }
 
-/// The interval that is remembered is no longer joined from its blocks, but copied.
+/// The interval that is remembered is no longer joined, but copied.
 #[test]
 fn remembered_interval_is_copied(rt: HostRuntime) {
-    assert!(rt; copied(rt.alloc(), 3) == Ok((Some(true), Some(false))));
-    assert!(rt; copied(rt.alloc(), 2) == Ok((Some(false), Some(false))));
+    assert!(rt; beside_remembered(rt.alloc(), 3) == Ok((Some(0), Some(6))));
+    assert!(rt; beside_remembered(rt.alloc(), 2) == Ok((Some(6), Some(7))));
+}
+
+/// By how many joins the interval from a delta on is made of so many tokens, where joins of blocks are made for that from
+/// another delta on. Then the same once one delta more came.
+fn warmed(
+    alloc: Global,
+    count: u64,
+    to_warm: u64,
+    from: u64,
+) -> Result<(Option<u64>, Option<u64>), NoMemory> {
+    let mut buffer = tokens(alloc, count)?;
+    buffer.warm(to_warm)?;
+    joins_and_next(buffer, from)
+}
+
+/// How many tokens, for the interval from which delta on joins of blocks are made, and from which one it is asked for. Then by
+/// how many joins that one is made, before and after one delta more. For two deltas no joins of blocks are made.
+const WARMED: &[(u64, u64, u64, u64, u64)] = &[
+    (9, 7, 0, 8, 9),
+    (9, 6, 0, 1, 2),
+    (9, 0, 3, 2, 3),
+    (300, 298, 45, 254, 255),
+    (300, 0, 45, 7, 8),
+];
+
+#[test]
+fn blocks_are_joined_once_for_all_intervals(rt: HostRuntime) {
+    for (count, to_warm, from, before, after) in WARMED {
+        let answer = warmed(rt.alloc(), *count, *to_warm, *from);
+        assert!(rt; answer == Ok((Some(*before), Some(*after))), "{count}, {to_warm}, {from}");
+    }
+}
+
+/// The greatest of nine numbers and two more from a delta on, where the joins of the nine's blocks are made and then the oldest
+/// numbers trimmed. Then the same once the joins of all blocks are made.
+fn greatest_warmed(
+    alloc: Global,
+    to: u64,
+    from: u64,
+) -> Result<(Option<u64>, Option<u64>), NoMemory> {
+    let mut buffer = Buffer::new(alloc);
+    for number in [5u64, 9, 2, 7, 1, 8, 3, 6, 4] {
+        push(&mut buffer, number)?;
+    }
+    buffer.warm(0)?;
+    push(&mut buffer, 2)?;
+    push(&mut buffer, 5)?;
+    buffer.trim(to);
+    let before = greatest(&buffer, from)?;
+    buffer.warm(to)?;
+    Ok((before, greatest(&buffer, from)?))
+}
+
+/// Below which number deltas are trimmed, and from which the greatest is wanted.
+const GREATEST: &[(u64, u64, Option<u64>)] = &[
+    (0, 0, Some(9)),
+    (0, 2, Some(8)),
+    (0, 8, Some(5)),
+    (3, 2, None),
+    (3, 3, Some(8)),
+    (3, 6, Some(6)),
+];
+
+#[test]
+fn joins_of_blocks_stay_as_deltas_come_and_go(rt: HostRuntime) {
+    for (to, from, wanted) in GREATEST {
+        let answer = greatest_warmed(rt.alloc(), *to, *from);
+        assert!(rt; answer == Ok((*wanted, *wanted)), "trimmed to {to}, from {from}");
+    }
 }
 
 /// The blocks from a delta on.

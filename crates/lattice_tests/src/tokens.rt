@@ -1,4 +1,4 @@
-//! A lattice of one value, whose copies tests tell apart.
+//! A lattice of one value, whose joins tests count.
 ghost use Rattle.std.specs.Prelude.{refl};
 
 use dac_base::NoMemory;
@@ -6,10 +6,10 @@ use dac_lattice::{Bottom, Lattice};
 use std::alloc::Global;
 use std::marker::Model;
 
-/// A token equals each other one. Unseen by contracts it says whether it was copied or made anew.
+/// A token equals each other one. Unseen by contracts it counts the joins by which it was made of a new one or of a copy.
 #[derive(Drop)]
 pub struct Token {
-    pub is_copy: bool,
+    pub joins: u64,
 }
 
 impl Model for Token {
@@ -19,9 +19,9 @@ impl Model for Token {
 }
 
 impl Token {
-    /// A token that is no copy.
+    /// A token that isn't joined of others.
     pub fn new() -> Self {
-        Token { is_copy: false }
+        Token { joins: 0 }
     }
 }
 
@@ -45,7 +45,9 @@ impl Lattice for Token {
     fn tells_invariant(&self) {}
 
     fn join(&self, _other: &Self) -> Result<Self, NoMemory> {
-        Ok(Token::new())
+        Ok(Token {
+            joins: self.joins.wrapping_add(1),
+        })
     }
 
     fn leq(&self, _other: &Self) -> bool {
@@ -57,7 +59,7 @@ impl Lattice for Token {
     }
 
     fn copy(&self) -> Result<Self, NoMemory> {
-        Ok(Token { is_copy: true })
+        Ok(Token::new())
     }
 }
 

@@ -266,6 +266,7 @@ pub enum OfBuffer {
     Push,
     PushAll,
     Interval,
+    Warm,
     Blocks,
     Copy,
     Raise,
@@ -275,7 +276,7 @@ pub enum OfBuffer {
 /// A number at a key.
 type Delta = MapOf<u64, Max<u64>>;
 
-/// A buffer of 31 deltas, with more to be pushed, and sixteen acknowledgements.
+/// A buffer of 31 deltas or 32, with more to be pushed, and sixteen acknowledgements.
 #[derive(Drop)]
 pub struct BufferBench {
     alloc: Global,
@@ -322,12 +323,29 @@ fn full_acks(alloc: Global) -> Option<Acks> {
     Some(acks)
 }
 
-/// The bench of a call.
-pub fn buffers(alloc: Global, asked: OfBuffer) -> Option<BufferBench> {
+/// So many deltas.
+fn deltas(alloc: Global, count: u64) -> Option<Buffer<Delta>> {
     let mut buffer = Buffer::new(alloc);
-    for number in 0..31u64 {
+    for number in 0..count {
         push(alloc, &mut buffer, number).ok()?;
     }
+    Some(buffer)
+}
+
+/// The deltas of a bench, with the joins of their blocks, unless these are asked for. A push finds as many deltas as there is
+/// room for. Of several pushes the first one finds room, and the second one none.
+fn deltas_for(alloc: Global, asked: OfBuffer) -> Option<Buffer<Delta>> {
+    let count: u64 = if asked == OfBuffer::Push { 32 } else { 31 };
+    let mut buffer = deltas(alloc, count)?;
+    if asked != OfBuffer::Warm {
+        buffer.warm(0).ok()?;
+    }
+    Some(buffer)
+}
+
+/// The bench of a call.
+pub fn buffers(alloc: Global, asked: OfBuffer) -> Option<BufferBench> {
+    let buffer = deltas_for(alloc, asked)?;
     Some(BufferBench {
         alloc,
         asked,
@@ -370,6 +388,7 @@ impl Bench for BufferBench {
             OfBuffer::Push => of_any(push(self.alloc, &mut self.buffer, 99)),
             OfBuffer::PushAll => self.push_three(),
             OfBuffer::Interval | OfBuffer::Blocks => self.join_from_third(),
+            OfBuffer::Warm => of_any(self.buffer.warm(3)),
             OfBuffer::Copy => of_any(self.buffer.copy()),
             OfBuffer::Raise => of_any(self.acks.raise(origin(OTHER), 4)),
             OfBuffer::CopyAcks => of_any(self.acks.copy()),

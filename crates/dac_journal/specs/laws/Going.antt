@@ -1,9 +1,12 @@
 -- A journal goes on by one record.
-use Rattle.std.proofs.Common.{◌≡◌, ℕ, List, [], ◌∷◌, ◌++◌, map, Result, refl, sym, ap, subst}
+use Rattle.std.proofs.Common.{◌≡◌, ℕ, List, [], ◌∷◌, ◌++◌, map, Result, refl, sym, ap, subst, ◌∙◌}
 use Rattle.dac_messages.specs.declared.reply.Reply.{Reply}
 use Rattle.dac_messages.specs.declared.event.Event.{Event}
 use Rattle.dac_events.specs.declared.refusal.Refusal.{Refusal}
+use Rattle.dac_base.specs.declared.NodeId.{NodeId}
+use Rattle.dac_config.specs.Table.{Table}
 use Rattle.dac_model_world.specs.NodeValue.{NodeValue}
+use Rattle.dac_model_world.specs.ModelNode.{ModelNode, shown}
 use Rattle.dac_model_world.specs.Step.{Steps, model_step}
 use Rattle.dac_model_world.specs.Histories.{Entry, IsHistory, off_after}
 use Rattle.dac_model_world.specs.laws.Histories.{IsHistory-push}
@@ -29,3 +32,11 @@ goes_on o rs old new seat event answer ends step =
 -- where a journal ends it is a history
 pub is_history : (o : Beginning) (rs : List Record) (v : NodeValue) → EndsAt o rs v → AreHistory o rs
 is_history o rs v ends = record { final = ends.final; history = ends.history }
+
+-- a history comes to one model node alone, and what shows as it is one node of the program's
+histories_alike : (t : Table) (me : NodeId) (d x y : ModelNode) (es : List Entry) → IsHistory t me d es x → IsHistory t me d es y → x ≡ y
+histories_alike t me d x y [] h k = h ∙ sym k
+histories_alike t me d x y (e ∷ es) h k = histories_alike t me (model_step t me d e.event).node x y es h.1 k.1
+
+pub ends_alike : (o : Beginning) (rs : List Record) (v w : NodeValue) → EndsAt o rs v → EndsAt o rs w → v ≡ w
+ends_alike o rs v w a b = sym a.shows ∙ (ap (shown o.table) (histories_alike o.table o.node (off_after o.last) a.final b.final (map entry_of rs) a.history b.history) ∙ b.shows)

@@ -1,14 +1,18 @@
 -- The page of a journal's node is the page after its records.
-use Rattle.std.proofs.Common.{◌≡◌, List, [], ◌∷◌, length, map, sym, ap, ◌∙◌}
+use Rattle.std.proofs.Common.{◌≡◌, ◌+◌, true, List, [], ◌∷◌, ◌++◌, length, map, refl, sym, ap, ◌∙◌, length-append}
 use Rattle.dac_base.specs.declared.NodeId.{NodeId}
 use Rattle.dac_config.specs.Table.{Table}
+use Rattle.dac_status.specs.Summaries.{summary_of}
 use Rattle.dac_journal.specs.NodeValue.{NodeValue}
 use Rattle.dac_journal.specs.ModelNode.{ModelNode, shown}
 use Rattle.dac_journal.specs.Step.{model_step}
 use Rattle.dac_journal.specs.Histories.{IsHistory, off_after}
+use Rattle.dac_journal.specs.Keeping.{leaves_state}
+use Rattle.dac_journal.specs.laws.Staying.{state_stays}
 use Rattle.dac_journal.specs.declared.record.Record.{Record}
 use Rattle.dac_journal.specs.Journals.{Beginning, EndsAt, entry_of}
-use Rattle.dac_sites.specs.Paged.{page_of, brought, node_after, page_after}
+use Rattle.dac_pages.specs.declared.page.Page.{Page}
+use Rattle.dac_sites.specs.Paged.{known_in, page_of, brought, node_after, page_after}
 
 brought_is : (t : Table) (me : NodeId) (d final : ModelNode) (rs : List Record) → IsHistory t me d (map entry_of rs) final → final ≡ brought t me d rs
 brought_is t me d final [] h = h
@@ -20,3 +24,25 @@ ends_after o rs v ends = ap (shown o.table) (sym (brought_is o.table o.node (off
 
 pub page_there : (o : Beginning) (rs : List Record) (v : NodeValue) → EndsAt o rs v → page_of o.table (length rs) v ≡ page_after o rs
 page_there o rs v ends = ap (page_of o.table (length rs)) (sym (ends_after o rs v ends))
+
+-- ---- one record more
+
+brought_push : (t : Table) (me : NodeId) (d : ModelNode) (rs : List Record) (r : Record) → brought t me d (rs ++ r ∷ []) ≡ (model_step t me (brought t me d rs) r.event).node
+brought_push t me d [] r = refl
+brought_push t me d (x ∷ rs) r = brought_push t me (model_step t me d x.event).node rs r
+
+last_answer : (t : Table) (me : NodeId) (d final : ModelNode) (rs : List Record) (r : Record) → IsHistory t me d (map entry_of (rs ++ r ∷ [])) final → (model_step t me (brought t me d rs) r.event).answer ≡ r.answer
+last_answer t me d final [] r h = h.0
+last_answer t me d final (x ∷ rs) r h = last_answer t me (model_step t me d x.event).node final rs r h.1
+
+-- where its answer leaves the state, the page is the one before, but for its place
+pub page_stays : (o : Beginning) (rs : List Record) (r : Record) (v : NodeValue) → EndsAt o (rs ++ r ∷ []) v → leaves_state r.answer ≡ true
+    → ◌≡◌ {A = Page} (record { place = length rs + 1; origin = (page_after o rs).origin; summary = (page_after o rs).summary }) (page_after o (rs ++ r ∷ []))
+page_stays o rs r v ends leaves =
+    let before = node_after o rs in
+    let said = last_answer o.table o.node (off_after o.last) ends.final rs r ends.history in
+    let stays = state_stays o.table o.node before r.event (ap leaves_state said ∙ leaves) in
+    let count : length rs + 1 ≡ length (rs ++ r ∷ []) = sym (length-append rs (r ∷ [])) in
+    let alike : ◌≡◌ {A = Page} (record { place = length rs + 1; origin = (page_after o rs).origin; summary = (page_after o rs).summary }) (page_of o.table (length (rs ++ r ∷ [])) (shown o.table (model_step o.table o.node before r.event).node)) =
+    λ i. record { place = count i; origin = sym stays.0 i; summary = summary_of o.table (known_in (sym stays.1 i)) } in
+    alike ∙ ap (λ d. page_of o.table (length (rs ++ r ∷ [])) (shown o.table d)) (sym (brought_push o.table o.node (off_after o.last) rs r))

@@ -1,17 +1,16 @@
-use Rattle.std.proofs.Common.{Ok, sym, subst}
+use Rattle.std.proofs.Common.{Ok, sym, subst, ◌∙◌}
 use Rattle.dac_messages.specs.declared.reply.Reply.{Reply}
-use Rattle.dac_model_world.specs.NodeValue.{NodeValue}
 use Rattle.dac_model_world.specs.Step.{Steps}
 use Rattle.dac_model_world.specs.laws.Steps.{steps, answered_steps}
 use Rattle.dac_node.specs.Changes.{changed}
-use Rattle.dac_journal.proofs.journal.ask_node.Goals as goal
+use Rattle.dac_journal.proofs.journal.prepare_node.Goals as goal
 
 pub returns-in_ok-reply-in-Ok-clause-steps : goal.returns-in_ok-reply-in-Ok-clause-steps
 returns-in_ok-reply-in-Ok-clause-steps c =
     let t = c.args.config.now in
     let old = c.args.node.now in
     let change = c.in-Ok.change in
-    subst (λ (x : NodeValue × Reply). Steps t c.args.me old c.args.event.now x.0 (Ok x.1)) (λ i. (sym c.in_ok-reply-in-Ok.ensures.new i, sym c.in_ok-reply-in-Ok.ensures.reply i))
+    subst (λ (r : Reply). Steps t c.args.me old c.args.event.now (changed old change) (Ok r)) (sym (c.in_ok-reply.ensures.0 ∙ c.reply.ensures))
     (steps t c.args.me old c.args.event.now (changed old change) change.reply c.in-Ok.ensures.ok)
 
 pub returns-else-is_no_memory-clause-steps : goal.returns-else-is_no_memory-clause-steps

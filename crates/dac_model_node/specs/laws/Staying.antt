@@ -1,0 +1,99 @@
+-- An event that is answered so leaves the state and the incarnation of a node.
+use Rattle.std.proofs.Common.{◌≡◌, ℕ, Bool, true, false, not, cond, ◌==◌, List, [], ◌∷◌, ◌++◌, length, Option, Some, None, Result, Ok, Err, refl, ap, ◌∙◌, append-nil}
+use Rattle.std.specs.Option.{option_map}
+use Rattle.std.proofs.lemmas.Bool.{false≢true}
+use Rattle.dac_base.specs.declared.NodeId.{NodeId}
+use Rattle.dac_operations.specs.Operations.{Operation}
+use Rattle.dac_meaning.specs.StateValue.{StateValue}
+use Rattle.dac_meaning.specs.Meaning.{meaning_of}
+use Rattle.dac_meaning.specs.Below.{is_below}
+use Rattle.dac_config.specs.Table.{Table}
+use Rattle.dac_decide.specs.declared.start_gate.Opening.{Opening}
+use Rattle.dac_decide.specs.declared.start_gate.Opening.TheVariants.{Shut, Opened, GiveUp}
+use Rattle.dac_decide.specs.declared.waits.Noted.{Noted}
+use Rattle.dac_decide.specs.FailoverWait.{waits_of}
+use Rattle.dac_ticks.specs.Ticks.{turn_of}
+use Rattle.dac_messages.specs.Bodies.{content_of}
+use Rattle.dac_messages.specs.declared.event.Event.{Event}
+use Rattle.dac_messages.specs.declared.event.Event.TheVariants.{Boot, Crash, Command as Commanded, Tick, Ship, Hear, HearOp}
+use Rattle.dac_events.specs.declared.refusal.Refusal.{Refusal}
+use Rattle.dac_model_node.specs.NodeValue.{NodeValue, RunningValue, origin_of, state_of}
+use Rattle.dac_model_node.specs.ModelNode.{ModelNode, ModelRunning, base_after, joined, running_shown, shown}
+use Rattle.dac_model_node.specs.EventRefusals.{refusal_by, refusal_of, refusal_on}
+use Rattle.dac_model_node.specs.Deeds.{Deed, deed_of, meanings, note_of, opening_at, ticks_by}
+use Rattle.dac_model_node.specs.Step.{accepted, deed_on, model_step, step_by}
+use Rattle.dac_model_node.specs.Keeping.{leaves_state, says_it_stays}
+use Rattle.dac_model_node.specs.laws.Writing.{no_on}
+
+-- ---- what a deed adds
+
+-- what isn't new isn't added
+adds_no_more : (below : Bool) (body : StateValue) → not (not below) ≡ true → cond below [] (body ∷ []) ≡ []
+adds_no_more true body says = refl
+adds_no_more false body says = absurd (false≢true says)
+
+-- no operation means nothing
+no_meanings : (os : List Operation) → (length os == 0) ≡ true → meanings os ≡ []
+no_meanings [] says = refl
+no_meanings (o ∷ os) says = absurd (false≢true says)
+
+-- the node doesn't go off, and adds nothing
+abbrev AddsNothing : Deed → Type 0
+AddsNothing deed = (deed.goes_off ≡ false) × (deed.adds ≡ [])
+
+module _ (t : Table) (r : RunningValue) (noted : List (Option Noted)) where
+  tick_adds_nothing : (opening : Opening) (now : ℕ) → says_it_stays (ticks_by opening t r noted now).reply ≡ true → AddsNothing (ticks_by opening t r noted now)
+  tick_adds_nothing Shut now says = (refl, refl)
+  tick_adds_nothing GiveUp now says = absurd (false≢true says)
+  tick_adds_nothing Opened now says = (refl, no_meanings (turn_of t r.origin noted now r.state).ops says)
+
+  adds_nothing : (e : Event) → refusal_on t r e ≡ None → says_it_stays (deed_of t r noted e).reply ≡ true → AddsNothing (deed_of t r noted e)
+  adds_nothing (Boot now) none says = no_on none
+  adds_nothing Crash none says = absurd (false≢true says)
+  adds_nothing (Commanded c) none says = absurd (false≢true says)
+  adds_nothing (Tick now) none says = tick_adds_nothing (opening_at t r now) now says
+  adds_nothing (Ship to) none says = (refl, refl)
+  adds_nothing (Hear m) none says = (refl, adds_no_more (is_below (content_of m.body) r.state) (content_of m.body) says)
+  adds_nothing (HearOp o) none says = (refl, adds_no_more (is_below (meaning_of (o ∷ [])) r.state) (meaning_of (o ∷ [])) says)
+
+-- ---- what is shown after it
+
+-- the incarnation and the state are shown as before
+abbrev AreShownAlike : NodeValue → NodeValue → Type 0
+AreShownAlike old new = (origin_of new ≡ origin_of old) × (state_of new ≡ state_of old)
+
+-- what runs after a deed that adds nothing
+module _ (t : Table) (last : ℕ) (r : ModelRunning) (e : Event) where
+  abbrev after : Bool → List StateValue → NodeValue
+  after off adds =
+      let deed = deed_on t r e in
+      shown t (record { last = last; running = cond off None (Some (record {
+        origin = r.origin;
+        moments = record { booted = r.moments.booted; last = deed.last };
+        is_open = deed.is_open;
+        notes = cond deed.notes (note_of (joined r.log) e ∷ r.notes) r.notes;
+        log = r.log ++ adds;
+        base = base_after r.base (length (r.log ++ deed.adds)) deed.trim;
+        peers = deed.peers;
+      })) })
+
+  runs_alike : AddsNothing (deed_on t r e) → AreShownAlike (shown t (record { last = last; running = Some r })) (after (deed_on t r e).goes_off (deed_on t r e).adds)
+  runs_alike stays = (
+    ap (λ off. origin_of (after off (deed_on t r e).adds)) stays.0,
+    ap (λ (off : Bool). state_of (after off (deed_on t r e).adds)) stays.0 ∙ (ap (λ adds. state_of (after false adds)) stays.1 ∙ ap (λ log. Some (joined log)) (append-nil r.log)),
+  )
+
+module _ (t : Table) (me : NodeId) (e : Event) where
+  accepted_alike : (last : ℕ) (running : Option ModelRunning) → refusal_by t last (option_map (running_shown t) running) e ≡ None → leaves_state (accepted t me last running e).answer ≡ true
+      → AreShownAlike (shown t (record { last = last; running = running })) (shown t (accepted t me last running e).node)
+  accepted_alike last None none says = absurd (false≢true says)
+  accepted_alike last (Some r) none says = runs_alike t last r e (adds_nothing t (running_shown t r) (waits_of t (note_of (joined r.log) e ∷ r.notes)) e none says)
+
+  step_alike : (d : ModelNode) (why : Option Refusal) → refusal_of t (shown t d) e ≡ why → leaves_state (step_by why t me d e).answer ≡ true → AreShownAlike (shown t d) (shown t (step_by why t me d e).node)
+  step_alike d (Some why) is says = (refl, refl)
+  step_alike d None is says = accepted_alike d.last d.running is says
+
+-- an answer that says so leaves the incarnation and the state of a model node as they are shown
+pub state_stays : (t : Table) (me : NodeId) (d : ModelNode) (e : Event) → leaves_state (model_step t me d e).answer ≡ true
+    → (origin_of (shown t (model_step t me d e).node) ≡ origin_of (shown t d)) × (state_of (shown t (model_step t me d e).node) ≡ state_of (shown t d))
+state_stays t me d e says = step_alike t me e d (refusal_of t (shown t d) e) refl says
