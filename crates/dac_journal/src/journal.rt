@@ -159,8 +159,12 @@ impl Journal {
     {
         let place = self.records.len() as u64 + 1;
         let kept = event.copy()?;
-        let (change, answer, second, third) =
-            prepare_node(&self.config, self.me, &self.node, &event)?;
+        let (change, answer, second, third) = prepare_node(
+            &self.config,
+            self.me,
+            &self.node,
+            &event,
+        )?;
         Ok(Next {
             entry: Record {
                 seat,

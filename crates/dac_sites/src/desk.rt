@@ -64,13 +64,7 @@ fn leaves_state(answer: &Answer) -> bool
 }
 
 /// The page of a node once so much happens to it, with so many records.
-fn page_by(
-    alloc: Global,
-    config: &Config,
-    place: u64,
-    node: &Node,
-    change: Option<&Change>,
-) -> Page
+fn page_by(alloc: Global, config: &Config, place: u64, node: &Node, change: Option<&Change>) -> Page
     ensures { result ≡ page_of config.now place (node_by (option_copied change.entry) node.now) }
 {
     match change {

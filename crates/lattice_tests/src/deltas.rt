@@ -216,7 +216,10 @@ const WARMED: &[(u64, u64, u64, u64, u64)] = &[
 fn blocks_are_joined_once_for_all_intervals(rt: HostRuntime) {
     for (count, to_warm, from, before, after) in WARMED {
         let answer = warmed(rt.alloc(), *count, *to_warm, *from);
-        assert!(rt; answer == Ok((Some(*before), Some(*after))), "{count}, {to_warm}, {from}");
+        assert!(rt;
+            answer == Ok((Some(*before), Some(*after))),
+            "{count}, {to_warm}, {from}"
+        );
     }
 }
 
@@ -254,7 +257,10 @@ const GREATEST: &[(u64, u64, Option<u64>)] = &[
 fn joins_of_blocks_stay_as_deltas_come_and_go(rt: HostRuntime) {
     for (to, from, wanted) in GREATEST {
         let answer = greatest_warmed(rt.alloc(), *to, *from);
-        assert!(rt; answer == Ok((*wanted, *wanted)), "trimmed to {to}, from {from}");
+        assert!(rt;
+            answer == Ok((*wanted, *wanted)),
+            "trimmed to {to}, from {from}"
+        );
     }
 }
 

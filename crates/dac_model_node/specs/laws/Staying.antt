@@ -67,15 +67,18 @@ module _ (t : Table) (last : ℕ) (r : ModelRunning) (e : Event) where
   abbrev after : Bool → List StateValue → NodeValue
   after off adds =
       let deed = deed_on t r e in
-      shown t (record { last = last; running = cond off None (Some (record {
-        origin = r.origin;
-        moments = record { booted = r.moments.booted; last = deed.last };
-        is_open = deed.is_open;
-        notes = cond deed.notes (note_of (joined r.log) e ∷ r.notes) r.notes;
-        log = r.log ++ adds;
-        base = base_after r.base (length (r.log ++ deed.adds)) deed.trim;
-        peers = deed.peers;
-      })) })
+      shown t (record {
+        last = last;
+        running = cond off None (Some (record {
+          origin = r.origin;
+          moments = record { booted = r.moments.booted; last = deed.last };
+          is_open = deed.is_open;
+          notes = cond deed.notes (note_of (joined r.log) e ∷ r.notes) r.notes;
+          log = r.log ++ adds;
+          base = base_after r.base (length (r.log ++ deed.adds)) deed.trim;
+          peers = deed.peers;
+        }));
+      })
 
   runs_alike : AddsNothing (deed_on t r e) → AreShownAlike (shown t (record { last = last; running = Some r })) (after (deed_on t r e).goes_off (deed_on t r e).adds)
   runs_alike stays = (
