@@ -1,7 +1,7 @@
 -- An event that is answered so leaves the state and the incarnation of a node.
-use Rattle.std.proofs.Common.{◌≡◌, ℕ, Bool, true, false, not, cond, ◌==◌, List, [], ◌∷◌, ◌++◌, length, Option, Some, None, Result, Ok, Err, refl, ap, ◌∙◌, append-nil}
+use Rattle.std.proofs.Common.{◌≡◌, ℕ, Bool, true, false, not, cond, ◌==◌, List, [], ◌∷◌, ◌++◌, length, Option, Some, None, Result, Ok, Err, refl, ap, ◌∙◌, append-nil, arith}
 use Rattle.std.specs.Option.{option_map}
-use Rattle.std.proofs.lemmas.Bool.{false≢true}
+use Rattle.std.proofs.lemmas.Bool.{false≢true, eqb-true}
 use Rattle.dac_base.specs.declared.NodeId.{NodeId}
 use Rattle.dac_operations.specs.Operations.{Operation}
 use Rattle.dac_meaning.specs.StateValue.{StateValue}
@@ -35,7 +35,7 @@ adds_no_more false body says = absurd (false≢true says)
 -- no operation means nothing
 no_meanings : (os : List Operation) → (length os == 0) ≡ true → meanings os ≡ []
 no_meanings [] says = refl
-no_meanings (o ∷ os) says = absurd (false≢true says)
+no_meanings (o ∷ os) says = absurd (omega (arith, eqb-true (length (o ∷ os)) 0 says))
 
 -- the node doesn't go off, and adds nothing
 abbrev AddsNothing : Deed → Type 0
