@@ -6,14 +6,6 @@ use Rattle.dac_journal.specs.Going.{FitsBy, GoesOnBy, node_by}
 use Rattle.dac_journal.specs.laws.Going.{is_history}
 use Rattle.dac_journal.proofs.journal.Journal.commit.Goals as goal
 
-pub requires-apply_change : goal.requires-apply_change
-requires-apply_change c =
-    let old = c.self.inside in
-    let o = beginning_of old.config old.me old.last in
-    let goes : GoesOnBy o old.records.items c.args.next.entry c.args.next.change =
-    subst (λ (j : JournalValue). GoesOnBy j.beginning j.records c.args.next.entry c.args.next.change) (sym c.self.view_is) c.requires.follows in
-    subst (λ change. FitsBy change old.node) (sym (c.into_parts-entry.ensures).3) (goes old.node c.self.invariant.0).0
-
 pub invariant_of-self-2 : goal.invariant_of-self-2
 invariant_of-self-2 c =
     let old = c.self.inside in
@@ -24,7 +16,7 @@ invariant_of-self-2 c =
     let room : length old.records.items < 65536 = subst (λ (j : JournalValue). length j.records < 65536) (sym c.self.view_is) c.requires.room in
     let goes : GoesOnBy o old.records.items c.args.next.entry c.args.next.change =
     subst (λ (j : JournalValue). GoesOnBy j.beginning j.records c.args.next.entry c.args.next.change) (sym c.self.view_is) c.requires.follows in
-    let after : c.in_ok-apply_change.new.node ≡ node_by c.args.next.change old.node = c.in_ok-apply_change.ensures.ok ∙ (λ i. node_by (c.into_parts-entry.ensures i).3 old.node) in (
+    let after : c.apply_change.new.node ≡ node_by c.args.next.change old.node = c.in_ok-apply_change.ensures.ok ∙ (λ i. node_by (c.into_parts-entry.ensures i).3 old.node) in (
       subst (λ (x : List Record × NodeValue). EndsAt o x.0 x.1) (λ i. (sym now i, sym after i)) (goes old.node c.self.invariant.0).1,
       omega (arith, len, room),
     )
