@@ -49,21 +49,25 @@ class Body(NamedTuple):
         return self.line <= line <= self.last
 
 
-def edit_in(file: pathlib.Path) -> Optional[Edit]:
-    """The edit that a file has, if it changes one file of code."""
-    files: List[str] = []
-    changes: List[Change] = []
-    old = ""
+def changes_in(file: pathlib.Path) -> Iterator[Tuple[str, Change]]:
+    """The changes that the file of an edit has, in turn, each with the file that it is of."""
+    name, old = "", ""
     for line in file.read_text(encoding="utf-8").split("\n"):
         if line.startswith("file: "):
-            files.append(line[len("file: ") :].strip())
+            name = line[len("file: ") :].strip()
         elif line.startswith("old: "):
             old = line[len("old: ") :]
         elif line.startswith("new:"):
-            changes.append(Change(old, re.sub(r"^ ", "", line[len("new:") :])))
+            yield name, Change(old, re.sub(r"^ ", "", line[len("new:") :]))
             old = ""
-    is_code = len(set(files)) == 1 and files[0].startswith("src/") and files[0].endswith(".rt")
-    return Edit(file.name, files[0], tuple(changes)) if is_code and changes else None
+
+
+def edit_in(file: pathlib.Path) -> Optional[Edit]:
+    """The edit that a file has, if it changes one file of code."""
+    found = list(changes_in(file))
+    names = sorted({name for name, _ in found})
+    is_code = len(names) == 1 and names[0].startswith("src/") and names[0].endswith(".rt")
+    return Edit(file.name, names[0], tuple(change for _, change in found)) if is_code else None
 
 
 def applied(edit: Edit, text: str) -> Optional[str]:

@@ -1,8 +1,9 @@
 """Checks a crate of a copy of the repository, with texts of its own in place of some files, as `rt ci` does for one edit.
 
 No command of `rt` does that over the libraries that `rt ci` proves and says of each function whether it is proved. So this calls
-the tool that `rt ci` calls, rattle. What is presumed of the toolchain's parts stands in this file, and what is presumed of the
-words that the tool says in `rounds.py`. Where it isn't so, nothing is checked here, or nothing counts.
+the tool that `rt ci` calls, rattle. The libraries are those that a gate has left in a repository, if they are of the texts of the
+copy. Otherwise `rt ci` proves the copy first. What is presumed of the toolchain's parts stands in this file, and what is presumed
+of the words that the tool says in `rounds.py` and `judging.py`. Where it isn't so, nothing is checked here, or nothing counts.
 """
 
 import pathlib
@@ -10,10 +11,13 @@ import shutil
 from typing import Callable, Dict, List, Mapping, NamedTuple, Optional, Sequence, Tuple
 
 from tools.crates import Crates, read_crates
-from tools.verdicts import PARTS
+from tools.verdicts import PARTS, files_in
 
 # How a command ends that is run in a folder, and the lines that it says.
 Run = Callable[[Sequence[str], pathlib.Path], Tuple[int, List[str]]]
+# What is written last of a library, and what a check says last of a crate that is proved.
+LAST_PART = pathlib.Path("toolchain", "checked.a")
+PROVED = "logic=proved"
 KIT_PARTS = ("bin/rattle", "rattle/logic/antt-project.json", "logic_built", "rlibs/std.rlib")
 
 
@@ -26,33 +30,58 @@ class Toolchain(NamedTuple):
 
 
 class JointChecks:
-    """Checks of one crate. The first is from nothing. Each further one takes what no change since has touched from those before."""
+    """Checks of one crate. The first is of the crate as it stands, from nothing. Each further one takes what no change since has
+    touched from those before."""
 
-    def __init__(self, tools: Toolchain, root: pathlib.Path, crate: str) -> None:
-        """Nothing is proved before `begins` is asked."""
-        self.tools, self.root, self.crate = tools, root, crate
+    def __init__(self, tools: Toolchain, root: pathlib.Path, crate: str, home: pathlib.Path) -> None:
+        """Nothing is proved before `begins` is asked. At home a gate may have left libraries."""
+        self.tools, self.root, self.crate, self.home = tools, root, crate, home
         self.folder = root / "crates" / crate
         # (beside the copy, which has nothing but what a proof reads)
         self.room = root.parent / "joint"
         self.kept = root.parent / "kept"
 
     def begins(self) -> bool:
-        """Whether all that is presumed is so: that `rt ci` proves the crates of the copy and leaves the libraries where they are
-        read."""
+        """Whether the crate is proved as it stands, over the libraries at home, or where these don't serve, over those of the
+        copy."""
         if not (self.folder / "src" / "lib.rt").is_file():
             return False
+        return (self.serves() or self.is_made()) and self.is_sound()
+
+    def serves(self) -> bool:
+        """Whether the libraries of all crates below are at home, whole, and of the texts of the copy."""
+        ours, theirs = read_crates(self.root), read_crates(self.home)
+        below = ours.below(self.crate)
+        return all(ours.listed[one] == theirs.listed.get(one) for one in below) and all(map(self.is_of_copy, below))
+
+    def is_of_copy(self, crate: str) -> bool:
+        """Whether the library of a crate is whole and no older than what it is proved from, and the crate has the texts of the
+        copy."""
+        whole = self.library(crate) / LAST_PART
+        if not whole.is_file() or bytes_of(self.home, crate) != bytes_of(self.root, crate):
+            return False
+        read = [file for one in (crate, *read_crates(self.home).below(crate)) for file in texts_of(self.home, one)]
+        return all(file.stat().st_mtime <= whole.stat().st_mtime for file in (self.home / "crates.txt", *read))
+
+    def is_made(self) -> bool:
+        """Whether `rt ci` proves the crates of the copy, and leaves the libraries where they are read."""
+        self.home = self.root
         # (the copy is the top of a repository, wherever it stands)
         (self.root / ".git").mkdir(exist_ok=True)
         status, _ = self.tools.run(["env", f"RT_JOBS={self.tools.jobs}", "rt", "ci"], self.root)
-        crates = read_crates(self.root)
-        return status == 0 and all(self.library(one).is_dir() for one in crates.below(self.crate))
+        return status == 0 and all(self.library(one).is_dir() for one in read_crates(self.root).below(self.crate))
 
     def library(self, crate: str) -> pathlib.Path:
         """The library that `rt ci` leaves of a crate."""
-        return self.root / "crates" / crate / "out" / "rlib" / f"{crate}.rlib"
+        return self.home / "crates" / crate / "out" / "rlib" / f"{crate}.rlib"
 
-    def check(self, texts: Mapping[str, str]) -> Tuple[int, List[str]]:
-        """How a check of the crate with these texts ends, and what it says."""
+    def is_sound(self) -> bool:
+        """Whether the crate is proved as it stands, over what earlier checks have kept."""
+        status, said = self.check({})
+        return status == 0 and bool(said) and said[-1].startswith(PROVED)
+
+    def check(self, texts: Mapping[str, str], is_from_nothing: bool = False) -> Tuple[int, List[str]]:
+        """How a check of the crate with these texts ends, and what it says, over what earlier checks have kept or from nothing."""
         shutil.rmtree(self.room, ignore_errors=True)
         for part in PARTS:
             if (self.folder / part).is_dir():
@@ -60,7 +89,8 @@ class JointChecks:
         for name, text in texts.items():
             (self.room / name).write_text(text, encoding="utf-8")
         self.kept.mkdir(exist_ok=True)
-        return self.tools.run([*self.words(read_crates(self.root)), "--incremental", str(self.kept)], self.room)
+        kept = [] if is_from_nothing else ["--incremental", str(self.kept)]
+        return self.tools.run([*self.words(read_crates(self.root)), *kept], self.room)
 
     def words(self, crates: Crates) -> List[str]:
         """The command that checks the crate: with the toolchain's libraries that it lists, its own, and all of those below."""
@@ -77,6 +107,16 @@ class JointChecks:
             words += ["-L", f"dependency={self.library(one).parent}"]
         words += ["--antt-project", str(kit / "rattle" / "logic" / "antt-project.json"), "--logic-built", str(kit / "logic_built")]
         return words + ["--jobs", str(self.tools.jobs), "--links", f"{self.crate}="]
+
+
+def texts_of(root: pathlib.Path, crate: str) -> List[pathlib.Path]:
+    """The files of a crate that its proof reads."""
+    return [file for part in PARTS for file in files_in(root / "crates" / crate / part)]
+
+
+def bytes_of(root: pathlib.Path, crate: str) -> Dict[pathlib.Path, bytes]:
+    """The contents of these files, by their paths."""
+    return {file.relative_to(root): file.read_bytes() for file in texts_of(root, crate)}
 
 
 def toolchain_by(run: Run) -> Optional[Toolchain]:

@@ -2,19 +2,22 @@
 
 import contextlib
 import io
+import os
 import pathlib
 import runpy
 import tempfile
 import unittest
 from typing import Dict, Iterator, List, Sequence, Tuple
 
+from tools import judging
 from tools.bodies import Body, Code, Edit, edit_in
 from tools.code_types import declarations_in
 from tools.contracts import Sources, clauses_of, head_of
-from tools.crates import HERE
+from tools.crates import HERE, read_crates
 from tools.definition_page import by_hand, equations_of, list_of, rows_of
 from tools.definition_sources import DefinitionSources, tags_of
-from tools.joint_checks import KIT_PARTS, Toolchain
+from tools.joint_checks import KIT_PARTS, LAST_PART, JointChecks, Toolchain
+from tools.judging import BadEdit, judged, texts_with
 from tools.modules import Definition, Module, Modules
 from tools.promises import Cited, Promises, promises_of
 from tools.resting import Resting
@@ -478,27 +481,112 @@ class RoundsTest(unittest.TestCase):
         script = runpy.run_path(str(HERE / "mutants"), run_name="mutants")
         (self.root / "crates.txt").write_text("# Each crate.\n# Base: all.\ndac_a:\n", encoding="utf-8")
         (self.root / "HANDLES").write_text("Handles allowed: none.\n", encoding="utf-8")
-        singly: List[str] = []
         commands: List[Sequence[str]] = []
+        texts: List[str] = []
 
         def run(words: Sequence[str], folder: pathlib.Path) -> Tuple[int, List[str]]:
             commands.append(words)
-            is_first = (folder / "src" / "lib.rt").exists() and "b + 2" in (folder / "src" / "lib.rt").read_text(encoding="utf-8")
-            return (0, []) if "ci" in words else (1, SAID_OF_A_ROUND) if is_first else (2, [])
+            texts.append((folder / "src" / "lib.rt").read_text(encoding="utf-8"))
+            if "b + 2" in texts[-1] and "made(n + 1)" in texts[-1]:
+                return 1, SAID_OF_A_ROUND
+            if texts[-1] == CODE or "std::result" in texts[-1]:
+                return 0, ["logic=proved functions=4"]
+            return (2, []) if "b + 3" in texts[-1] and "--incremental" in words else (1, SAID_OF_A_MUTANT)
 
-        def said_of(crate: str, copy: pathlib.Path, _jobs: int) -> List[str]:
-            singly.extend(sorted(one.name for one in (copy / "crates" / crate / "must-fail").iterdir()))
-            return [f"rt: must-fail dac_a/{name}: {REFUSED}" for name in singly]
-
-        script["try_crate"].__globals__.update(HERE=self.root, said_of=said_of)
+        script["try_crate"].__globals__.update(HERE=self.root)
         with contextlib.redirect_stdout(io.StringIO()):
-            together, record = Toolchain(pathlib.Path("/kit"), run, 1), Record(self.root, "a toolchain")
-            found = script["try_crate"]("dac_a", script["How"](1, record, 0, together)).verdicts
-        self.assertEqual(singly, [f"{name}.edit" for name in EDITS if name not in ("early", "from")])
-        self.assertEqual(len(found), len(EDITS))
+            how = script["How"](1, Record(self.root, "a toolchain"), 0, Toolchain(pathlib.Path("/kit"), run, 1), self.root)
+            found = script["try_crate"]("dac_a", how).verdicts
+        bad = "BAD EDIT: an 'old:' text is in src/lib.rt 0 times, and not once"
+        others = {"use.edit": judging.MISSED, "none.edit": bad, "early.edit": found["early.edit"], "from.edit": found["from.edit"]}
         self.assertIn("tried with 2 others", found["early.edit"])
-        self.assertEqual(record.known("dac_a"), found)
-        self.assertEqual(commands[1][0], str(pathlib.Path("/kit") / KIT_PARTS[0]))
+        self.assertEqual(found, {f"{name}.edit": others.get(f"{name}.edit", SINGLY) for name in EDITS})
+        self.assertEqual(how.record.known("dac_a"), found)
+        self.assertEqual({words[0] for words in commands}, {str(pathlib.Path("/kit") / KIT_PARTS[0])})
+        self.assertEqual((texts[0], texts[-1]), (CODE, CODE))
+        self.assertEqual(sum("--incremental" not in words for words in commands), 2)
+
+
+# What a check says of one mutant, and the verdict on it.
+SINGLY = f"{REFUSED}:5: it is not proved"
+SAID_OF_A_MUTANT = [SINGLY.partition("be: ")[2], "logic=not-proved"]
+NAMED = "./proofs/f/Answers.antt:1:2: error: `returns`: `Pair` has no field `left`"
+UNREAD = ("src/lib.rt:3:1: error: expected u8", "specs/A.antt:3:1: error: `x`: y is not in scope")
+FALSE = "specs/A.antt:3:1: error: `x`: no proof"
+LIMITED = "./proofs/f/Answers.antt:1:2: error: `returns`: antt ran out of the steps it may take"
+JUDGED: Sequence[Tuple[int, Sequence[str], str]] = (
+    (1, SAID_OF_A_MUTANT, SINGLY),
+    (1, ["logic=not-proved"], "refused, as it must be"),
+    (1, [NAMED, *SAID_OF_A_MUTANT], SINGLY),
+    (1, [NAMED, "logic=not-proved"], f"refused, as it must be{judging.BY_NAME}: {NAMED}"),
+    (1, [NAMED, LIMITED, "logic=not-proved"], f"refused, as it must be{judging.BY_LIMIT}: {LIMITED}"),
+    (0, ["logic=proved functions=4"], judging.MISSED),
+    (1, [UNREAD[0], *SAID_OF_A_MUTANT], judging.UNREAD + UNREAD[0]),
+    (1, [UNREAD[1], *SAID_OF_A_MUTANT], judging.UNREAD + UNREAD[1]),
+    (1, [FALSE, *SAID_OF_A_MUTANT], f"refused, as it must be: {FALSE}"),
+    (1, ["module `Rattle-dac_a-A`: Run the lower steps again", *SAID_OF_A_MUTANT], judging.STALE),
+    (3, ["rattle: no verdict", "it ended"], judging.NO_VERDICT + "rattle: no verdict | it ended"),
+)
+
+
+class JudgingTest(unittest.TestCase):
+    """What is said of one mutant by itself, and over which libraries."""
+
+    def setUp(self) -> None:
+        room = tempfile.TemporaryDirectory()
+        self.addCleanup(room.cleanup)
+        self.root, self.home = pathlib.Path(room.name) / "copy", pathlib.Path(room.name) / "home"
+        for name, text in FILES.items():
+            for root in (self.root, self.home):
+                (root / name).parent.mkdir(parents=True, exist_ok=True)
+                (root / name).write_text(text, encoding="utf-8")
+                os.utime(root / name, (100, 100))
+        self.tools = Toolchain(pathlib.Path("/kit"), self.run_none, 1)
+        for crate in ("dac_low", "dac_mid"):
+            part = self.checks().library(crate) / LAST_PART
+            part.parent.mkdir(parents=True)
+            part.touch()
+            os.utime(part, (200, 200))
+
+    def run_none(self, words: Sequence[str], _folder: pathlib.Path) -> Tuple[int, List[str]]:
+        """Runs nothing."""
+        raise AssertionError(words)
+
+    def checks(self) -> JointChecks:
+        """Checks of the last crate."""
+        return JointChecks(self.tools, self.root, "dac_top", self.home)
+
+    def test_libraries(self) -> None:
+        low, texts = self.checks().library("dac_low") / LAST_PART, FILES["crates.txt"]
+        self.assertTrue(self.checks().serves())
+        self.assertIn(f"dac_mid={self.checks().library('dac_mid')}", self.checks().words(read_crates(self.root)))
+        for file in ("crates.txt", "crates/dac_low/specs/Low.antt", "crates/dac_mid/proofs/Proof.antt"):
+            os.utime(self.home / file, (300, 300))
+            self.assertFalse(self.checks().serves(), file)
+            os.utime(self.home / file, (100, 100))
+        for root in (self.root, self.home):
+            for file, text in (("crates.txt", texts.replace(" thiserror", "")), ("crates/dac_low/specs/Low.antt", "changed")):
+                (root / file).write_text(text, encoding="utf-8")
+                os.utime(root / file, (100, 100))
+                self.assertFalse(self.checks().serves(), (root, file))
+                (root / file).write_text(FILES[file], encoding="utf-8")
+                os.utime(root / file, (100, 100))
+        self.assertTrue(self.checks().serves())
+        low.unlink()
+        self.assertFalse(self.checks().serves())
+
+    def test_judged(self) -> None:
+        for status, lines, verdict in JUDGED:
+            self.assertEqual(judged({"src/lib.rt": ""}, status, lines), verdict, lines)
+
+    def test_texts(self) -> None:
+        edit, folder = self.root / "one.edit", self.root / "crates" / "dac_mid"
+        mid, proof = "file: specs/Mid.antt\n", "file: proofs/Proof.antt\n"
+        edit.write_text(f"{mid}old: mid\nnew: mud\nold: mud\nnew:\n{proof}old: oo\nnew: o", encoding="utf-8")
+        self.assertEqual(texts_with(edit, folder), {"specs/Mid.antt": "", "proofs/Proof.antt": "prof"})
+        for text in ("", f"{mid}new: a", "file: src/../specs/Mid.antt\nold: mid\nnew: a", f"{mid}old: x\nnew: a"):
+            edit.write_text(text, encoding="utf-8")
+            self.assertRaises(BadEdit, texts_with, edit, folder)
 
 
 def faults_of_tests() -> Iterator[str]:

@@ -1,0 +1,88 @@
+"""Judges an edit of a crate by what a check with it says, as the toolchain judges a must-fail edit."""
+
+import pathlib
+import re
+from typing import Dict, Mapping, Sequence
+
+from tools.bodies import changes_in
+from tools.joint_checks import JointChecks
+from tools.rounds import NOT_PROVED, REFUSED
+
+BAD, MISSED = "BAD EDIT: ", "NOT REFUSED: the crate is still proved with this edit"
+UNREAD = BAD + "the prover cannot read the edited text, so no contract was tried: "
+STALE = BAD + "the kept work of a library could not be used"
+NO_VERDICT = BAD + "it did not reach the prover; the first lines of what it said: "
+BY_NAME = " (only because a proof file names what the edit took away, so this says little of the contract)"
+BY_LIMIT = " (only by a limit of the prover, which gave no verdict)"
+FOLDERS = ("src/", "specs/", "proofs/")
+# What a check says at a place of a file: of an error also what is wrong there, and the goal, if it is one's.
+PLACE = re.compile(r"(note: )?\S+:\d+:\d+:")
+FAULT = re.compile(r"(?:\./)?(?P<file>\S+?):\d+:\d+: error: (?:(?P<goal>`[^`]*`): )?(?P<said>.*)")
+QUOTED = re.compile(r"`[^`]*`")
+# What is said of a text that can't be read, of a proof that names what is gone or cites such a proof, and of a limit.
+NO_TEXT = re.compile(r"is not in scope|has no field|is no name|operand is missing|expected the end|cannot continue")
+NAMED = re.compile(r"(\./)?proofs/.*(has no field|is not in scope|has no `|was not admitted)")
+LIMIT = re.compile(r"(\./)?proofs/.*(ran out of (stack|the (steps|memory) )|outgrew the memory|stopped at the step limit)")
+LOWER_STEPS = re.compile(r"module .Rattle-\w+-.*Run the lower steps again")
+MOST_SIGNS, MOST_OF_A_FAULT, FIRST_LINES = 160, 200, 6
+
+
+class BadEdit(Exception):
+    """An edit that doesn't apply."""
+
+
+def verdict_on(edit: pathlib.Path, checks: JointChecks, is_from_nothing: bool) -> str:
+    """The verdict on an edit of a crate. What isn't refused over what earlier checks have kept is tried from nothing too."""
+    try:
+        texts = texts_with(edit, checks.folder)
+    except (BadEdit, OSError, UnicodeDecodeError) as fault:
+        return f"{BAD}{fault}"
+    verdict = "" if is_from_nothing else judged(texts, *checks.check(texts))
+    return verdict if verdict.startswith(REFUSED) else judged(texts, *checks.check(texts, is_from_nothing=True))
+
+
+def texts_with(edit: pathlib.Path, folder: pathlib.Path) -> Dict[str, str]:
+    """The texts of the files of a crate that an edit changes, with its changes in turn."""
+    texts: Dict[str, str] = {}
+    for name, change in changes_in(edit):
+        if not name.startswith(FOLDERS) or ".." in name:
+            raise BadEdit("a 'file:' line names no file below src/, specs/ or proofs/")
+        text = texts[name] if name in texts else (folder / name).read_text(encoding="utf-8")
+        count = text.count(change.old) if change.old else 0
+        if count != 1:
+            raise BadEdit(f"an 'old:' text is in {name} {count} times, and not once")
+        texts[name] = text.replace(change.old, change.new)
+    if not texts:
+        raise BadEdit("it has no 'old:' and 'new:' pair")
+    return texts
+
+
+def judged(texts: Mapping[str, str], status: int, lines: Sequence[str]) -> str:
+    """The verdict on an edit that makes these texts, by how a check with them ended and what it said."""
+    unread = next((line for line in lines if is_unread(line, texts)), "")
+    if unread:
+        return UNREAD + unread[:MOST_OF_A_FAULT]
+    if any(map(LOWER_STEPS.search, lines)):
+        return STALE
+    if status == 1 and lines and lines[-1].startswith(NOT_PROVED):
+        return refused_by(lines)
+    return MISSED if status == 0 else NO_VERDICT + " | ".join(lines[:FIRST_LINES])
+
+
+def refused_by(lines: Sequence[str]) -> str:
+    """The verdict on an edit that is refused, with the first line that says by what."""
+    told = [line for line in lines if PLACE.match(line)]
+    told = [line for line in told if ": error" in line or line.startswith("note: ")] or told
+    limits = [line for line in told if LIMIT.match(line)]
+    goals = [line for line in told if line not in limits and not NAMED.match(line)]
+    first = next(iter(goals or limits or told), "")
+    weak = "" if goals or not told else BY_LIMIT if limits else BY_NAME
+    return f"{REFUSED}{weak}: {first[:MOST_SIGNS]}" if first else REFUSED
+
+
+def is_unread(line: str, texts: Mapping[str, str]) -> bool:
+    """Whether a line says that a file of code or of definitions, or one that an edit changes, can't be read."""
+    match = FAULT.match(line)
+    if match is None or match["file"] not in texts and not match["file"].startswith(("src/", "specs/")):
+        return False
+    return match["goal"] is None or NO_TEXT.search(QUOTED.sub("", match["said"])) is not None
