@@ -90,7 +90,8 @@ class JointChecks:
             (self.room / name).write_text(text, encoding="utf-8")
         self.kept.mkdir(exist_ok=True)
         kept = [] if is_from_nothing else ["--incremental", str(self.kept)]
-        return self.tools.run([*self.words(read_crates(self.root)), *kept], self.room)
+        status, said = self.tools.run([*self.words(read_crates(self.root)), *kept], self.room)
+        return status, whole(said)
 
     def words(self, crates: Crates) -> List[str]:
         """The command that checks the crate: with the toolchain's libraries that it lists, its own, and all of those below."""
@@ -117,6 +118,17 @@ def texts_of(root: pathlib.Path, crate: str) -> List[pathlib.Path]:
 def bytes_of(root: pathlib.Path, crate: str) -> Dict[pathlib.Path, bytes]:
     """The contents of these files, by their paths."""
     return {file.relative_to(root): file.read_bytes() for file in texts_of(root, crate)}
+
+
+def whole(lines: Sequence[str]) -> List[str]:
+    """The lines of a check, each with those that go on with it: they begin with two spaces."""
+    found: List[str] = []
+    for line in lines:
+        if found and line.startswith("  "):
+            found[-1] = f"{found[-1]} {line.strip()}"
+        else:
+            found.append(line)
+    return found
 
 
 def toolchain_by(run: Run) -> Optional[Toolchain]:

@@ -16,7 +16,7 @@ from tools.contracts import Sources, clauses_of, head_of
 from tools.crates import HERE, read_crates
 from tools.definition_page import by_hand, equations_of, list_of, rows_of
 from tools.definition_sources import DefinitionSources, tags_of
-from tools.joint_checks import KIT_PARTS, LAST_PART, JointChecks, Toolchain
+from tools.joint_checks import KIT_PARTS, LAST_PART, JointChecks, Toolchain, whole
 from tools.judging import BadEdit, judged, texts_with
 from tools.modules import Definition, Module, Modules
 from tools.promises import Cited, Promises, promises_of
@@ -578,6 +578,11 @@ class JudgingTest(unittest.TestCase):
     def test_judged(self) -> None:
         for status, lines, verdict in JUDGED:
             self.assertEqual(judged({"src/lib.rt": ""}, status, lines), verdict, lines)
+
+    def test_a_long_line_goes_on(self) -> None:
+        name, _, gone = NAMED.partition(" has")
+        said = whole([name, f"  has{gone}", "logic=not-proved"])
+        self.assertEqual(said, [NAMED, "logic=not-proved"])
 
     def test_texts(self) -> None:
         edit, folder = self.root / "one.edit", self.root / "crates" / "dac_mid"
