@@ -1,5 +1,6 @@
 //! The tables of a configuration and its readers.
-ghost use Rattle.std.specs.Prelude.{◌≡◌, ◌<◌, ◌≤◌, Some, slice_get, length, All, IfOk};
+ghost use Rattle.std.specs.Prelude.{◌≡◌, ◌<◌, ◌≤◌, Some, slice_get, length, All, IfOk, true};
+ghost use Rattle.dac_base.specs.declared.NodeId.{NodeId as Member};
 ghost use Rattle.dac_config.specs.Table.{node_count, app_count};
 
 mod number;
@@ -159,6 +160,19 @@ impl Config {
         } else {
             None
         }
+    }
+
+    /// Whether two configurations keep the groups of an application alike. Then each node has the same group in both. They may have
+    /// the same groups also where the answer is no.
+    pub fn keeps_groups_of(&self, other: &Config, app: AppId) -> bool
+        requires one { app.0 < app_count self.now }
+        requires other { app.0 < app_count other.now }
+        ensures { result ≡ true
+            → (node : Member) → group_of self.now app node ≡ group_of other.now app node }
+    {
+        let (_, row) = self.entry(app);
+        let (_, other_row) = other.entry(app);
+        row.places == other_row.places
     }
 
     /// How long a failover of the application waits, in milliseconds: 0 where the file gives no time.

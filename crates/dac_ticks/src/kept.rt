@@ -92,6 +92,9 @@ fn are_alike_for(one: &Config, other: &Config, app: AppId) -> bool
     if one.default_permission(app) != other.default_permission(app) {
         return false;
     }
+    if one.keeps_groups_of(other, app) {
+        return true;
+    }
     for number in 0..one.nodes() {
         let node = NodeId(number);
         if one.group_of(app, node) != other.group_of(app, node) {
