@@ -188,6 +188,7 @@ fn join_part<K: MapKey, S: DotStore, C: Combine<K, S>>(
     ensures { OnOk result (IsMergedPart K.cmp (C.combined how.now) part.now built.old theirs.old
         built.new theirs.new) }
 {
+    built.make_room(part.len())?;
     for entry in part {
         put_below(how, built, theirs, entry.0)?;
         put_entry(how, built, entry, theirs)?;

@@ -135,6 +135,15 @@ impl<K: MapKey, S: DotStore> Parts<K, S> {
         Ok(())
     }
 
+    /// Makes room for so many entries more. [`NoMemory`] is the only error.
+    pub(crate) fn make_room(&mut self, more: usize) -> Result<(), NoMemory>
+        ensures { self.new ≡ self.old }
+    {
+        let free = MOST.saturating_sub(self.last.len());
+        self.last.reserve_exact(more.min(free))?;
+        Ok(())
+    }
+
     /// Puts an entry at the end, and makes a block of the first of the last entries where these are many. [`NoMemory`]
     /// is the only error, and may leave other entries.
     pub(crate) fn put(&mut self, key: K, store: S) -> Result<(), NoMemory>

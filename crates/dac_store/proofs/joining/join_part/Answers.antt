@@ -9,7 +9,7 @@ loop-entry-preserved g c =
     let part = c.args.part.now in
     let i = c.loop-entry.entry-index in
     let e = c.entry-item.result in
-    part_step g.met.K.Ord.total (g.C.Combine.combined c.args.how.now) (λ xs. c.args.built.now ++ merge_entries g.K.Ord.cmp (g.C.Combine.combined c.args.how.now) (part ++ xs) c.args.theirs.now)
+    part_step g.met.K.Ord.total (g.C.Combine.combined c.args.how.now) (λ xs. c.make_room.new.self ++ merge_entries g.K.Ord.cmp (g.C.Combine.combined c.args.how.now) (part ++ xs) c.args.theirs.now)
     (drop i part) (drop (i + 1) part) c.loop-entry.built c.put_below.new.built c.put_entry.new.built c.loop-entry.theirs c.put_below.new.theirs c.put_entry.new.theirs e
     (drop_more part i e c.loop-entry-test.true ∙ ap (λ d. d ∷ drop (i + 1) part) (sym c.entry-item.is)) c.in_ok-put_below.ensures c.in_ok-put_entry.ensures c.loop-entry.invariant
 
@@ -20,3 +20,4 @@ pub returns : goal.returns
 returns g c xs =
     ap (λ l. c.loop-entry.built ++ merge_entries g.K.Ord.cmp (g.C.Combine.combined c.args.how.now) (l ++ xs) c.loop-entry.theirs) (sym (drop_all c.loop-entry.entry-index c.args.part.now c.loop-entry-test.false))
     ∙ c.loop-entry.invariant xs
+    ∙ ap (λ l. l ++ merge_entries g.K.Ord.cmp (g.C.Combine.combined c.args.how.now) (c.args.part.now ++ xs) c.args.theirs.now) c.make_room.ensures
