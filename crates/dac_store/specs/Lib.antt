@@ -8,6 +8,5 @@ pub mod Parts
 pub mod Joining
 pub mod Few
 pub mod FewEntries
-pub mod Keeping
 pub mod SameDots
 pub mod laws

@@ -2,17 +2,14 @@
 ghost use Rattle.std.specs.Prelude.{◌≡◌, ◌↔◌, true, IsTrue, IfOk, IfErr};
 ghost use Rattle.std.specs.FinSet as set;
 ghost use Rattle.dac_origins.specs.Dots.{IsSubset};
-ghost use Rattle.dac_store.specs.Keeping.{kept_in};
 ghost use Rattle.dac_store.specs.Stores.{IsHeld, IsStoredBelow, IsUnheard, join_stored};
 
 use crate::DotStore;
-use crate::kept::KeptStore;
-use dac_dots::{Context, SharedContext};
+use dac_dots::{Context, FilteredContext, SharedContext};
 use dac_lattice::{Bottom, Lattice};
 use dac_origins::NoMemory;
 use std::alloc::Global;
 use std::marker::Model;
-use std::sync::Arc;
 
 /// The most dots that a join looks up in the other side's store, to see whether that store stays as it is.
 const MOST_LOOKED_UP: usize = 16;
@@ -20,11 +17,10 @@ const MOST_LOOKED_UP: usize = 16;
 /// A store beside the dots that it has heard of, among which are all that it holds. Its order is that of
 /// the contexts and of the stores under them.
 ///
-/// A store never changes, so copies share it, and so does a join that leaves one side's store as it is. Values whose
-/// contexts are equal may share one.
+/// A join that leaves one side's store as it is copies that store. Values whose contexts are equal may share one.
 #[derive(Drop)]
 pub struct Causal<S: DotStore> {
-    kept: KeptStore<S>,
+    store: S,
     context: SharedContext,
 }
 
@@ -34,16 +30,15 @@ impl<S: DotStore> Model for Causal<S> {
     ghost use Rattle.std.specs.FinSet as set;
     ghost use Rattle.dac_origins.specs.Dots.{Dots, coded_dot};
     ghost use Rattle.dac_store.specs.Stores.{IsStoreWithin, Stored};
-    ghost use Rattle.dac_store.specs.Keeping.{kept_in};
 
     ghost Value = { Stored S };
 
     ghost coded = { code_by (S × Dots) (coded× S.code (set.code coded_dot))
         (λ v. (v.store, v.context)) (λ p. record { store = p.0; context = p.1 }) (λ _. refl) };
 
-    ghost view = { λ a. record { store = kept_in a.kept; context = a.context } };
+    ghost view = { λ a. record { store = a.store; context = a.context } };
 
-    ghost invariant = { λ a. IsStoreWithin S.is_store S.has (kept_in a.kept) a.context };
+    ghost invariant = { λ a. IsStoreWithin S.is_store S.has a.store a.context };
 }
 
 impl<S: DotStore> Causal<S> {
@@ -57,10 +52,9 @@ impl<S: DotStore> Causal<S> {
     {
         store.tells_invariant();
         if store.within(&context) {
-            let kept = KeptStore::Here(store);
             let shared = SharedContext::of(context);
             Ok(Causal {
-                kept,
+                store,
                 context: shared,
             })
         } else {
@@ -78,8 +72,7 @@ impl<S: DotStore> Causal<S> {
     {
         store.tells_invariant();
         if store.within(context.context()) {
-            let kept = KeptStore::Here(store);
-            Ok(Causal { kept, context })
+            Ok(Causal { store, context })
         } else {
             Err((store, context))
         }
@@ -89,10 +82,7 @@ impl<S: DotStore> Causal<S> {
     pub fn store(&self) -> &S
         ensures { result.now ≡ self.now.store }
     {
-        match &self.kept {
-            KeptStore::Here(store) => store,
-            KeptStore::Shared(store) => store,
-        }
+        &self.store
     }
 
     /// The dots that have been heard of.
@@ -117,9 +107,9 @@ impl<S: DotStore> Causal<S> {
     {
         self.tells_invariant();
         other.tells_invariant();
-        let kept = self.join_kept(other)?;
+        let store = self.join_stores(other)?;
         let context = union.copy()?;
-        Ok(Causal { kept, context })
+        Ok(Causal { store, context })
     }
 
     /// Whether this value is below the other one, where the other has heard of each dot that this one has.
@@ -131,79 +121,43 @@ impl<S: DotStore> Causal<S> {
             .leq_in(self.context(), other.store(), other.context())
     }
 
-    /// Its store, shared with it where it can be.
-    fn shared_copy(&self) -> Result<KeptStore<S>, NoMemory>
-        ensures { IfOk result (λ kept. kept_in kept ≡ self.now.store) }
-    {
-        match &self.kept {
-            KeptStore::Here(store) => share_store(store.copy()?),
-            KeptStore::Shared(store) => Ok(KeptStore::Shared(Arc::try_clone(store)?)),
-        }
-    }
-
     /// Whether a join with this side surely leaves the other side's store as it is.
-    fn leaves(&self, other: &Self) -> Result<bool, NoMemory>
-        ensures nothing { IfOk result (λ leaves. leaves ≡ true → self.now.store ≡ S.nothing) }
-        ensures unheard { IfOk result
-            (λ leaves. leaves ≡ true → IsUnheard (S.has other.now.store) self.now.context) }
+    fn leaves(&self, other: &Self) -> bool
+        ensures nothing { result ≡ true → self.now.store ≡ S.nothing }
+        ensures unheard { result ≡ true → IsUnheard (S.has other.now.store) self.now.context }
     {
-        let store = self.store();
-        store.tells_invariant();
-        if !store.is_empty() {
-            return Ok(false);
+        self.store.tells_invariant();
+        if !self.store.is_empty() {
+            return false;
         }
-        let theirs = other.store();
-        theirs.tells_invariant();
-        if theirs.is_empty() {
-            return Ok(true);
+        other.store.tells_invariant();
+        if other.store.is_empty() {
+            return true;
         }
         let heard = self.context();
         if !heard.has_at_most(MOST_LOOKED_UP) {
-            return Ok(false);
+            return false;
         }
-        let none = holds_none(theirs, heard)?;
-        Ok(none)
+        let filtered = FilteredContext::of(heard, MOST_LOOKED_UP);
+        other.store.is_unheard(&filtered)
     }
 
     /// The store of the join.
-    fn join_kept(&self, other: &Self) -> Result<KeptStore<S>, NoMemory>
-        ensures { IfOk result (λ kept. kept_in kept
+    fn join_stores(&self, other: &Self) -> Result<S, NoMemory>
+        ensures { IfOk result (λ joined. joined
             ≡ S.join self.now.store self.now.context other.now.store other.now.context) }
     {
         self.tells_invariant();
         other.tells_invariant();
-        if other.leaves(self)? {
-            return self.shared_copy();
+        if other.leaves(self) {
+            return self.store.copy();
         }
-        if self.leaves(other)? {
-            return other.shared_copy();
+        if self.leaves(other) {
+            return other.store.copy();
         }
-        let store = self
-            .store()
-            .join_in(self.context(), other.store(), other.context())?;
-        share_store(store)
+        self.store
+            .join_in(self.context(), &other.store, other.context())
     }
-}
-
-/// A store that others may have too.
-fn share_store<S: DotStore>(store: S) -> Result<KeptStore<S>, NoMemory>
-    ensures { IfOk result (λ kept. kept_in kept ≡ store) }
-{
-    let shared = Arc::new(store.allocator(), store)?;
-    Ok(KeptStore::Shared(shared))
-}
-
-/// Whether a store holds none of these dots.
-fn holds_none<S: DotStore>(store: &S, heard: &Context) -> Result<bool, NoMemory>
-    ensures { IfOk result (λ none. IsTrue none ↔ IsUnheard (S.has store.now) heard.now) }
-{
-    let dots = heard.dots()?;
-    for dot in &dots {
-        if store.has(*dot) {
-            return Ok(false);
-        }
-    }
-    Ok(true)
 }
 
 impl<S: DotStore> Lattice for Causal<S> {
@@ -219,7 +173,7 @@ impl<S: DotStore> Lattice for Causal<S> {
     ghost laws = { causal_laws S.laws };
 
     fn tells_invariant(&self) {
-        let _kept = &self.kept;
+        let _store = &self.store;
     }
 
     fn join(&self, other: &Self) -> Result<Self, NoMemory> {
@@ -239,9 +193,9 @@ impl<S: DotStore> Lattice for Causal<S> {
     }
 
     fn copy(&self) -> Result<Self, NoMemory> {
-        let kept = self.shared_copy()?;
+        let store = self.store.copy()?;
         let context = self.context.copy()?;
-        Ok(Causal { kept, context })
+        Ok(Causal { store, context })
     }
 }
 
@@ -257,7 +211,7 @@ impl<S: DotStore> Bottom for Causal<S> {
 
     fn bottom(alloc: Global) -> Self {
         Causal {
-            kept: KeptStore::Here(S::empty(alloc)),
+            store: S::empty(alloc),
             context: SharedContext::of(Context::empty(alloc)),
         }
     }

@@ -7,8 +7,7 @@
 //! stores at keys ([`DotMap`]). A store beside a context that has all its dots ([`Causal`]) is then a lattice, for
 //! every value of the type.
 //!
-//! Stores ask mostly whether a context contains a dot. Two calls list the dots of a context, where it has few. One is
-//! the join of two sets. The other is a join beside contexts, which sees whether it leaves one side's store as it is.
+//! Stores ask mostly whether a context contains a dot. The join of two sets lists the dots of a context where it has few.
 //! Maps keep their entries in blocks, each beside a filter of its dots. A join shares the blocks that it surely leaves as
 //! they are, and no contract tells of blocks: the entries of a map come by a reader ([`Entries`]).
 #![tactic(auto)]
@@ -34,6 +33,5 @@ mod entries;
 mod few;
 mod few_entries;
 mod joining;
-mod kept;
 mod part;
 mod parts;
