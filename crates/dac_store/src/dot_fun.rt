@@ -166,9 +166,11 @@ impl<V: Lattice> DotStore for DotFun<V> {
     }
 
     fn copy(&self) -> Result<Self, NoMemory> {
-        let alloc = self.alloc;
-        let few = self.few.copy(alloc)?;
-        Ok(DotFun { alloc, few })
+        let few = self.few.copy()?;
+        Ok(DotFun {
+            alloc: self.alloc,
+            few,
+        })
     }
 
     fn join_in(

@@ -1,5 +1,6 @@
 //! Few values at dots, with little memory.
 ghost use Rattle.std.specs.Prelude.{◌≡◌, ◌++◌, [], ◌∷◌, IfOk, OnOk, OnErr};
+ghost use Rattle.std.specs.Arc.{arc_value};
 ghost use Rattle.std.specs.Option.{option_copied, option_to_list};
 ghost use Rattle.dac_origins.specs.Dots.{dot_cmp};
 ghost use Rattle.dac_lattice.specs.Entries.{merge_entries, keep};
@@ -8,11 +9,68 @@ ghost use Rattle.dac_store.specs.FewEntries.{entries_of};
 use dac_lattice::Lattice;
 use dac_lattice::merging::{Combine, merge};
 use dac_origins::{Dot, NoMemory};
-use std::alloc::Global;
+use std::alloc::{AllocError, Global};
 use std::cmp::Ordering;
-use std::mem::replace;
+use std::marker::Model;
+use std::sync::Arc;
 
-/// The dots of a store with their values, in the order of the dots. A single one takes no memory.
+/// Dots with their values, which stores may share. Contracts see the list of them.
+#[derive(Drop)]
+pub(crate) struct DotEntries<V: Lattice> {
+    entries: Vec<(Dot, V)>,
+}
+
+impl<V: Lattice> Model for DotEntries<V> {
+    ghost use Rattle.std.specs.Prelude.{List};
+    ghost use Rattle.dac_origins.specs.declared.Dot.{Dot};
+
+    ghost Value = { List (Dot × V) };
+
+    ghost view = { λ a. a.entries.items };
+}
+
+/// A clone is a copy, with memory of its own.
+impl<V: Lattice> Clone for DotEntries<V> {
+    ghost use Rattle.std.specs.Prelude.{◌≡◌};
+
+    ghost is_clone = { λ list copied. copied ≡ list };
+
+    fn clone(&self) -> Result<Self, AllocError> {
+        match copy_each(*self.entries.allocator(), &self.entries) {
+            Ok(entries) => Ok(DotEntries { entries }),
+            Err(_refused) => Err(AllocError),
+        }
+    }
+}
+
+impl<V: Lattice> DotEntries<V> {
+    /// This list, which others may share.
+    fn shared(alloc: Global, entries: Vec<(Dot, V)>) -> Result<Arc<Self, Global>, NoMemory>
+        ensures { IfOk result (λ shared. arc_value shared ≡ entries.items) }
+    {
+        let shared = Arc::new(alloc, DotEntries { entries })?;
+        Ok(shared)
+    }
+
+    /// The dots with their values.
+    fn as_slice(&self) -> &[(Dot, V)]
+        ensures { result.now ≡ self.now }
+    {
+        self.entries.as_slice()
+    }
+
+    /// Puts a dot with its value at the end. Where memory is refused the list stays as it was.
+    fn push(&mut self, dot: Dot, value: V) -> Result<(), NoMemory>
+        ensures ok { OnOk result (self.new ≡ self.old ++ (dot, value) ∷ []) }
+        ensures err { OnErr result (self.new ≡ self.old) }
+    {
+        self.entries.push((dot, value))?;
+        Ok(())
+    }
+}
+
+/// The dots of a store with their values, in the order of the dots. A single one takes no memory, and copies share a list
+/// of several.
 #[derive(Drop)]
 pub(crate) enum FewEntries<V: Lattice> {
     /// No dots.
@@ -20,7 +78,7 @@ pub(crate) enum FewEntries<V: Lattice> {
     /// A single dot with its value.
     One([(Dot, V); 1]),
     /// A list of dots with their values.
-    Sorted(Vec<(Dot, V)>),
+    Sorted(Arc<DotEntries<V>, Global>),
 }
 
 impl<V: Lattice> FewEntries<V> {
@@ -36,7 +94,7 @@ impl<V: Lattice> FewEntries<V> {
     }
 
     /// Equal values at the same dots.
-    pub(crate) fn copy(&self, alloc: Global) -> Result<Self, NoMemory>
+    pub(crate) fn copy(&self) -> Result<Self, NoMemory>
         ensures { IfOk result (λ copied. entries_of copied ≡ entries_of self.now) }
     {
         match self {
@@ -46,8 +104,8 @@ impl<V: Lattice> FewEntries<V> {
                 Ok(FewEntries::One([(*dot, copied)]))
             }
             FewEntries::Sorted(entries) => {
-                let copied = copy_each(alloc, entries)?;
-                Ok(FewEntries::Sorted(copied))
+                let shared = Arc::try_clone(entries)?;
+                Ok(FewEntries::Sorted(shared))
             }
         }
     }
@@ -59,21 +117,29 @@ impl<V: Lattice> FewEntries<V> {
     {
         match self {
             FewEntries::Empty => *self = FewEntries::One([(dot, value)]),
-            FewEntries::One(_) => {
-                let mut both = Vec::with_capacity(alloc, 2)?;
-                let first = match replace(self, FewEntries::Empty) {
-                    FewEntries::One([first]) => first,
-                    FewEntries::Empty => unreachable!(),
-                    FewEntries::Sorted(_entries) => unreachable!(),
-                };
-                both.push_reserved(first);
-                both.push_reserved((dot, value));
-                *self = FewEntries::Sorted(both);
-            }
-            FewEntries::Sorted(entries) => entries.push((dot, value))?,
+            FewEntries::One(single) => *self = two(alloc, single, dot, value)?,
+            FewEntries::Sorted(entries) => Arc::make_mut(entries)?.push(dot, value)?,
         }
         Ok(())
     }
+}
+
+/// Equal to a single entry, with another one behind it.
+fn two<V: Lattice>(
+    alloc: Global,
+    single: &[(Dot, V); 1],
+    dot: Dot,
+    value: V,
+) -> Result<FewEntries<V>, NoMemory>
+    ensures { IfOk result (λ both. entries_of both ≡ single.now ++ (dot, value) ∷ []) }
+{
+    let [(lower, first)] = single;
+    let copied = first.copy()?;
+    let mut both = Vec::with_capacity(alloc, 2)?;
+    both.push_reserved((*lower, copied));
+    both.push_reserved((dot, value));
+    let shared = DotEntries::shared(alloc, both)?;
+    Ok(FewEntries::Sorted(shared))
 }
 
 /// Equal values at the dots of a list.
@@ -102,7 +168,8 @@ pub(crate) fn merge_few<V: Lattice, C: Combine<Dot, V>>(
         return merge_singles(alloc, how, mine.first(), theirs.first());
     }
     let merged = merge(alloc, how, mine, theirs)?;
-    Ok(FewEntries::Sorted(merged))
+    let shared = DotEntries::shared(alloc, merged)?;
+    Ok(FewEntries::Sorted(shared))
 }
 
 /// At most one entry of each side, as `how` combines them.
