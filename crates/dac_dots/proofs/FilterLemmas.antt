@@ -19,7 +19,7 @@ use Rattle.dac_origins.specs.declared.dot.Origin.{Origin}
 use Rattle.dac_dots.specs.DotFilters.{slot_of, may_have, AreApart}
 use Rattle.dac_dots.specs.Rows.{Row, row_of, dots_in, any_row, has_counter, row_has}
 use Rattle.dac_dots.specs.Spans.{any_span, counters_in}
-use Rattle.dac_dots.specs.declared.counters.Span.{Span}
+use Rattle.dac_dots.specs.declared.spans.Span.{Span}
 use Rattle.dac_dots.proofs.PlaceLemmas.{contains_is}
 use Rattle.dac_dots.proofs.RowLemmas.{seen_counter}
 use Rattle.dac_dots.proofs.SpanLemmas.{has_counters}

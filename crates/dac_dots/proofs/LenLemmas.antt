@@ -20,12 +20,11 @@ use Rattle.dac_origins.specs.Dots.{Dots, dot, dot_cmp, origin_cmp}
 use Rattle.dac_origins.specs.laws.Dots.{dots_total, exact_dots, exact_origins}
 use Rattle.dac_origins.specs.declared.dot.Origin.{Origin}
 use Rattle.dac_origins.specs.declared.dot.Dot.{Dot}
-use Rattle.dac_dots.specs.laws.CounterLaws.{is_eq-then}
 use Rattle.dac_origins.specs.laws.KeyLaws.{has_is}
 use Rattle.dac_dots.specs.laws.RowSets.{has_one_to, has_dots, has_row, has_rows, absent}
 use Rattle.dac_dots.specs.Rows.{Row, row_of, reach_of, further_of, one_to, dots_in_row, dots_in, has_counter, row_has, any_row, origins, IsKept, HasSome, AreKept}
 use Rattle.dac_dots.proofs.PlaceLemmas.{contains_is}
-use Rattle.dac_dots.proofs.RowLemmas.{no_range, row_counter, row_kept, seen_counter}
+use Rattle.dac_dots.proofs.RowLemmas.{row_counter, row_kept}
 
 -- ---- lists without repeats
 
@@ -160,42 +159,6 @@ pub rows_within : (rows : List Row) (dots : Dots) → dots_in rows ≡ dots → 
 rows_within rows dots view kept = subst (λ n. length rows ≤ n) (len_is rows rows dots view kept refl (length rows) (sum_by row_len rows) (omega arith) (ap (sum_by row_len) (sym (take_all (length rows) rows (omega arith))))) (rows_count rows kept.each)
 
 -- ---- the dots in order
-
-start_dots : (e : Bool) (n : ℕ) (old : Bool) → old ≡ ((e && ((nat_le 1 n && nat_le n 0) || false)) || old)
-start_dots true n old = grind (arith, nat_tests)
-start_dots false n old = refl
-
--- no dot is put in yet
-pub none_put : (o : Origin) (old : List Dot) (q : Dot) → has_key dot_cmp old q ≡ ((eq_by_cmp origin_cmp q.origin o && ((nat_le 1 q.n && nat_le q.n 0) || false)) || has_key dot_cmp old q)
-none_put o old q = start_dots (eq_by_cmp origin_cmp q.origin o) q.n (has_key dot_cmp old q)
-
--- all dots of the row are put in
-pub row_put : (o : Origin) (ns counters : List ℕ) (row : Row) → row_of o ns ≡ row → counters ≡ ns → (i : ℕ) → length counters ≤ i → (old new : List Dot) → ((q : Dot) → has_key dot_cmp new q ≡ ((eq_by_cmp origin_cmp q.origin o && ((nat_le 1 q.n && nat_le q.n 0) || has_key nat_cmp (take i counters) q.n)) || has_key dot_cmp old q))
-    → (q : Dot) → has_key dot_cmp new q ≡ (row_has q row || has_key dot_cmp old q)
-row_put o ns counters row view is i end old new so_far q =
-    so_far q
-    ∙ ap (λ k. (eq_by_cmp origin_cmp q.origin o && k) || has_key dot_cmp old q) (no_range q.n (has_key nat_cmp (take i counters) q.n) ∙ ap (λ l. has_key nat_cmp l q.n) (take_all i counters end ∙ is) ∙ sym (seen_counter o ns row view q.n))
-    ∙ ap (λ p. (eq_by_cmp origin_cmp q.origin p && has_counter row q.n) || has_key dot_cmp old q) (ap (λ (r : Row). r.origin) view)
-
-regroup : (e t x k old : Bool) → ((e && t) || ((e && (x || k)) || old)) ≡ ((e && (x || (k || t))) || old)
-regroup true true true k old = refl
-regroup true true false true old = refl
-regroup true true false false old = refl
-regroup true false true k old = refl
-regroup true false false true old = refl
-regroup true false false false old = refl
-regroup false t x k old = refl
-
-pub further_more : (o : Origin) (u : ℕ) (ns : List ℕ) (i : ℕ) (old mid new : List Dot) → i < length ns
-    → ((q : Dot) → has_key dot_cmp mid q ≡ ((eq_by_cmp origin_cmp q.origin o && ((nat_le 1 q.n && nat_le q.n u) || has_key nat_cmp (take i ns) q.n)) || has_key dot_cmp old q))
-    → ((q : Dot) → has_key dot_cmp new q ≡ (eq_by_cmp dot_cmp q (dot o (get_or ns i 0)) || has_key dot_cmp mid q))
-    → (q : Dot) → has_key dot_cmp new q ≡ ((eq_by_cmp origin_cmp q.origin o && ((nat_le 1 q.n && nat_le q.n u) || has_key nat_cmp (take (i + 1) ns) q.n)) || has_key dot_cmp old q)
-further_more o u ns i old mid new p so_far one q =
-    let e = eq_by_cmp origin_cmp q.origin o in
-    let x = nat_le 1 q.n && nat_le q.n u in
-    one q ∙ (λ k. is_eq-then (origin_cmp q.origin o) (nat_cmp q.n (get_or ns i 0)) k || so_far q k)
-    ∙ regroup e (eq_by_cmp nat_cmp q.n (get_or ns i 0)) x (has_key nat_cmp (take i ns) q.n) (has_key dot_cmp old q)
-    ∙ ap (λ k. (e && (x || k)) || has_key dot_cmp old q) (sym (list_any_more (eq_by_cmp nat_cmp q.n) ns i 0 p))
 
 pub dots_more : (s : List Row) (i : ℕ) (r : Row) (mid new : List Dot) → i < length s → r ≡ get_or s i r → ((q : Dot) → has_key dot_cmp mid q ≡ any_row (take i s) q) → ((q : Dot) → has_key dot_cmp new q ≡ (row_has q r || has_key dot_cmp mid q))
     → (q : Dot) → has_key dot_cmp new q ≡ any_row (take (i + 1) s) q

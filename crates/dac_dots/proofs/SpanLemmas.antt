@@ -15,7 +15,7 @@ use Rattle.dac_origins.specs.laws.InOrder.{or_swap, same_rising}
 use Rattle.dac_dots.specs.laws.CounterLaws.{is_less, on_the_way, ends_there, rising_filter, has_key-filter}
 use Rattle.dac_dots.specs.Rows.{IsGreatest, further_of, reach_of}
 use Rattle.dac_dots.specs.Spans.{from_on, counters_of_span, counters_in, span_has, any_span, any_past, are_apart, AreSpans, HaveEnded, IsPlaceFor, hull, absorbed}
-use Rattle.dac_dots.specs.declared.counters.Span.{Span}
+use Rattle.dac_dots.specs.declared.spans.Span.{Span}
 use Rattle.dac_dots.proofs.PlaceLemmas.{or_assoc}
 
 -- ---- which counters spans have
@@ -420,6 +420,33 @@ put_alone span spans place v at h is n e =
     ap (λ l. any_span l n) (sym (take-append-drop place spans))
     ∙ apart_middle 0 (take place spans) span (drop place spans) (ap (λ l. are_apart 0 (take place spans ++ l)) (sym is) ∙ put_apart span spans place 0 v (omega arith) at h) n e
 
+-- ---- one span, or two
+
+pub one_apart : (span : Span) → span.first ≤ span.last → are_apart 0 (span ∷ []) ≡ true
+one_apart span v = apart_from 0 span [] (omega arith) v refl
+
+pub two_apart : (a b : Span) → a.first ≤ a.last → b.first ≤ b.last → nat_lt (a.last + 1) b.first ≡ true → are_apart 0 (a ∷ b ∷ []) ≡ true
+two_apart a b v w far = apart_from 0 a (b ∷ []) (omega arith) v (apart_from (a.last + 2) b [] (is_far a.last b.first far) w refl)
+
+-- no counter of a later span is in a span that ends far before
+pub none_earlier : (a b : Span) → nat_lt (a.last + 1) b.first ≡ true → (n : ℕ) → span_has n b ≡ true → any_span (a ∷ []) n ≡ false
+none_earlier a b far n e = apart a.first a.last b.first b.last n far e
+  where
+    apart : (f l g m n : ℕ) → nat_lt (l + 1) g ≡ true → (nat_le g n && nat_le n m) ≡ true → ((nat_le f n && nat_le n l) || false) ≡ false
+    apart f l g m n far e = grind (arith, nat_tests)
+
+pub second_put : (a b : Span) (n : ℕ) → any_span (a ∷ b ∷ []) n ≡ (span_has n b || any_span (a ∷ []) n)
+second_put a b n = turn (span_has n a) (span_has n b)
+  where
+    turn : (a b : Bool) → (a || (b || false)) ≡ (b || (a || false))
+    turn true true = refl
+    turn true false = refl
+    turn false true = refl
+    turn false false = refl
+
+pub hull_valid : (a b : Span) → a.first ≤ a.last → b.first ≤ b.last → (hull a b).first ≤ (hull a b).last
+hull_valid a b v w = omega arith
+
 -- ---- the last counter, and how far they go
 
 last_holds : (low : ℕ) (spans : List Span) → are_apart low spans ≡ true → (i : ℕ) (d : Span) → suc i ≡ length spans → (n : ℕ) → any_span spans n ≡ true → n ≤ (get_or spans i d).last
@@ -667,21 +694,6 @@ merged_both xs ys i j both mid new so_far first second n =
     second n ∙ ap (λ b. any_span (drop j ys) n || b) (first n ∙ ap (λ b. any_span (drop i xs) n || b) (so_far n))
     ∙ regroup (any_span (drop j ys) n) (any_span (drop i xs) n) (any_span (take j ys) n) (any_span (take i xs) n)
     ∙ (λ k. sym (any_parts ys j n) k || sym (any_parts xs i n) k)
-
-pub list_more : (spans : List Span) (i : ℕ) (d : Span) → i < length spans → (mid new : List ℕ) → ((n : ℕ) → has_key nat_cmp mid n ≡ any_span (take i spans) n) → ((n : ℕ) → has_key nat_cmp new n ≡ (span_has n (get_or spans i d) || has_key nat_cmp mid n))
-    → (n : ℕ) → has_key nat_cmp new n ≡ any_span (take (i + 1) spans) n
-list_more spans i d p mid new so_far one n =
-    one n ∙ ap (λ b. span_has n (get_or spans i d) || b) (so_far n) ∙ turn (span_has n (get_or spans i d)) (any_span (take i spans) n) ∙ sym (any_more spans i d p n)
-  where
-    turn : (a b : Bool) → (a || b) ≡ (b || a)
-    turn true true = refl
-    turn true false = refl
-    turn false true = refl
-    turn false false = refl
-
--- a list that rises and has the counters of all spans is that of the set
-pub listed : (spans : List Span) → are_apart 0 spans ≡ true → (now : List ℕ) → counters_in spans ≡ now → (i : ℕ) → length spans ≤ i → (ns : List ℕ) → IsRising nat_cmp ns → ((n : ℕ) → has_key nat_cmp ns n ≡ any_span (take i spans) n) → ns ≡ now
-listed spans h now view i end ns rising so_far = same_rising nat_cmp_total exact_unsigned ns now rising (rising_now spans h now view) (λ n. so_far n ∙ ap (λ l. any_span l n) (take_all i spans end) ∙ sym (has_now spans h now view n))
 
 take_rest : (spans : List Span) (i : ℕ) → take (length spans - i) (drop i spans) ≡ drop i spans
 take_rest spans i = take_all (length spans - i) (drop i spans) (let left = length-drop i spans in omega arith)

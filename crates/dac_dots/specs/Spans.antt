@@ -1,7 +1,9 @@
 -- Counters as spans: numbers that follow one another without a gap.
 use Rattle.std.specs.Prelude.{◌≡◌, ℕ, zero, suc, ◌+◌, ◌-◌, ◌≤◌, min, max, nat_le, nat_lt, ◌&&◌, Bool, true, false, cond, List, [], ◌∷◌, length}
 use Rattle.std.specs.List.{flat_map, list_any, AllByRecursion, AllWithin}
-use Rattle.dac_dots.specs.declared.counters.Span.{Span}
+use Rattle.dac_dots.specs.declared.spans.Span.{Span}
+use Rattle.dac_dots.specs.declared.spans.Spans.{Spans}
+use Rattle.dac_dots.specs.declared.spans.Spans.TheVariants.{Empty, One, Listed}
 
 -- so many numbers, from the first on
 unfoldable pub from_on : ℕ → ℕ → List ℕ
@@ -56,3 +58,9 @@ hull a b = record { first = min a.first b.first; last = max a.last b.last }
 abbrev pub absorbed : Span → List Span → List Span
 absorbed span [] = span ∷ []
 absorbed span (next ∷ spans) = cond (nat_le next.first (span.last + 1)) (absorbed (hull span next) spans) (span ∷ next ∷ spans)
+
+-- the spans of a set, wherever it keeps them
+abbrev pub spans_of : Spans → List Span
+spans_of Empty = []
+spans_of (One span) = span ∷ []
+spans_of (Listed spans) = spans.items

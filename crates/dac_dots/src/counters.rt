@@ -1,14 +1,15 @@
 //! Sets of counters, kept as spans of counters that follow one another.
-ghost use Rattle.std.specs.Prelude.{◌≡◌, ◌↔◌, ◌+◌, ◌-◌, ◌^◌, ◌<◌, ◌≤◌, ◌⊎◌, ◌||◌, ◌&&◌, ◌∷◌, [], false, true, length, nat_le, nat_lt, take, drop, vec_capacity, IfOk, IsTrue, OnErr, OnOk};
+ghost use Rattle.std.specs.Prelude.{◌≡◌, ◌↔◌, ◌^◌, ◌<◌, ◌≤◌, ◌||◌, ◌&&◌, [], false, true, length, nat_le, IfOk, IsTrue, OnErr, OnOk};
 ghost use Rattle.std.specs.Ordering.{eq_by_cmp, nat_cmp};
-ghost use Rattle.dac_origins.specs.Dots.{dot};
+ghost use Rattle.dac_origins.specs.Dots.{dot, dot_cmp, origin_cmp};
 ghost use Rattle.dac_origins.specs.Keys.{IsRising, has_key};
 ghost use Rattle.dac_origins.specs.declared.dot.Dot.{Dot};
 ghost use Rattle.dac_dots.specs.DotFilters.{may_have};
 ghost use Rattle.dac_dots.specs.Rows.{IsGreatest, further_of, reach_of};
-ghost use Rattle.dac_dots.specs.Spans.{AreSpans, HaveEnded, IsPlaceFor, any_past, any_span, are_apart, hull, span_has, absorbed};
+ghost use Rattle.dac_dots.specs.Spans.{AreSpans, HaveEnded, any_past, any_span, are_apart, counters_in, span_has};
 
 use crate::filter::DotFilter;
+use crate::spans::{Span, Spans};
 use dac_base::NoMemory;
 use dac_origins::keys::insert_key;
 use dac_origins::{Dot, Origin};
@@ -17,62 +18,6 @@ use std::marker::Model;
 
 /// How many spans of another set are put in one by one. Where there are more, both sets are gone through.
 const FEW: usize = 8;
-
-/// Counters that follow one another: `first`, the one after it, and so on to `last`.
-#[derive(Clone, Copy, Debug)]
-pub(crate) struct Span {
-    pub(crate) first: u64,
-    pub(crate) last: u64,
-}
-
-impl Span {
-    /// Whether this span ends so far before the other that a counter lies between them.
-    fn ends_before(self, other: Span) -> bool
-        ensures { result ≡ nat_lt (self.last + 1) other.first }
-    {
-        self.last < other.first && other.first - self.last > 1
-    }
-
-    /// Whether the other span begins in this one, before it, or right after it.
-    fn reaches(self, other: Span) -> bool
-        ensures { result ≡ nat_le other.first (self.last + 1) }
-    {
-        other.first <= self.last || other.first - self.last == 1
-    }
-
-    /// How many counters there are.
-    fn len(self) -> u128
-        requires { self.first ≤ self.last }
-        ensures value { result ≡ self.last + 1 - self.first }
-        ensures bound { self.last < 2 ^ 64 }
-    {
-        u128::from(self.last - self.first) + 1
-    }
-
-    /// From where the first of both begins to where the last of both ends.
-    fn hull(self, other: Span) -> Span
-        ensures { result ≡ hull self other }
-    {
-        Span {
-            first: self.first.min(other.first),
-            last: self.last.max(other.last),
-        }
-    }
-}
-
-/// Takes the spans from a place on out that reach on from this span, and answers the span of all of them.
-fn take_touched(spans: &mut Vec<Span>, place: usize, span: Span) -> Span
-    ensures front { take place spans.new.items ≡ take place spans.old.items }
-    ensures value { absorbed span (drop place spans.old.items) ≡ result ∷ drop place spans.new.items }
-    ensures room { ((spans.new.items ≡ spans.old.items) × (result ≡ span))
-        ⊎ (length spans.new.items < vec_capacity spans.new) }
-{
-    let mut joined = span;
-    while place < spans.len() && joined.reaches(spans[place]) {
-        joined = joined.hull(spans.remove(place));
-    }
-    joined
-}
 
 /// Puts the counters of a span into a list that rises.
 fn list_span(counters: &mut Vec<u64>, span: Span) -> Result<(), NoMemory>
@@ -122,14 +67,38 @@ fn fill_span(origin: Origin, span: Span, filter: &mut DotFilter)
     });
 }
 
-/// For how many spans a copy of so many has room. A set without a gap mostly grows without one, so it gets no
-/// more room. None take no memory.
-fn room_for(spans: usize) -> usize {
-    if spans <= 1 {
-        spans
-    } else {
-        spans.saturating_add(1)
+/// Puts the dots of an origin whose counters are in a span into a list of dots that rise.
+fn put_span_dots(origin: Origin, span: Span, dots: &mut Vec<Dot>) -> Result<(), NoMemory>
+    requires valid { span.first ≤ span.last }
+    requires rising { IsRising dot_cmp dots.old.items }
+    ensures rising { IsRising dot_cmp dots.new.items }
+    ensures ok { OnOk result ((q : Dot)
+        → has_key dot_cmp dots.new.items q
+        ≡ ((eq_by_cmp origin_cmp q.origin origin && span_has q.n span)
+        || has_key dot_cmp dots.old.items q)) }
+{
+    for n in span.first..span.last {
+        put_dot(dots, Dot { origin, n })?;
     }
+    let n = span.last;
+    put_dot(dots, Dot { origin, n })?;
+    Ok(())
+}
+
+/// Puts a dot in its place in a list of dots that rise, unless it is there. Most dots come behind all of the
+/// list, so its end is looked at first.
+fn put_dot(dots: &mut Vec<Dot>, dot: Dot) -> Result<(), NoMemory>
+    requires { IsRising dot_cmp dots.old.items }
+    ensures rising { IsRising dot_cmp dots.new.items }
+    ensures ok { OnOk result ((q : _)
+        → has_key dot_cmp dots.new.items q
+        ≡ (eq_by_cmp dot_cmp q dot || has_key dot_cmp dots.old.items q)) }
+{
+    match dots.last() {
+        Some(last) if last.cmp(&dot).is_lt() => dots.push(dot)?,
+        _ => insert_key(dots, dot)?,
+    }
+    Ok(())
 }
 
 /// How many of the spans end before a counter. A set without a gap is one span, so the first is looked at first.
@@ -143,38 +112,36 @@ fn ended_before(spans: &[Span], n: u64) -> usize
     }
 }
 
-/// Where a span is put: how many of the spans end so far before it that a counter lies between. Most spans are
-/// put behind the last one, or lengthen it, so that is looked at first.
-fn place_for(spans: &[Span], span: Span) -> usize
-    requires { are_apart 0 spans.now ≡ true }
-    ensures { IsPlaceFor spans.now result span.first }
-{
-    match spans.last() {
-        Some(last) if last.ends_before(span) => spans.len(),
-        Some(last) if last.first <= span.first => spans.len() - 1,
-        _ => spans.partition_point(|before| before.ends_before(span)),
-    }
+/// A set of counters. It costs by gaps and not by counters: each span is as long as it can be.
+#[derive(Debug)]
+pub(crate) struct Counters {
+    alloc: Global,
+    spans: Spans,
 }
 
-/// A set of counters. It costs by gaps and not by counters: each span is as long as it can be.
-#[derive(Debug, Drop)]
-pub(crate) struct Counters {
-    spans: Vec<Span>,
+/// Written out: a drop is one call for a proof, wherever it stands.
+impl Drop for Counters {
+    fn drop(self) {
+        let Counters {
+            alloc: _alloc,
+            spans: _spans,
+        } = self;
+    }
 }
 
 impl Model for Counters {
     ghost use Rattle.std.specs.Prelude.{ℕ, List, ◌≡◌, true};
     ghost use Rattle.std.specs.Coded.{coded_ℕ, coded_list};
-    ghost use Rattle.dac_dots.specs.Spans.{are_apart, counters_in};
+    ghost use Rattle.dac_dots.specs.Spans.{are_apart, counters_in, spans_of};
 
     // The counters in rising order.
     ghost Value = { List ℕ };
 
     ghost coded = { coded_list coded_ℕ };
 
-    ghost view = { λ a. counters_in a.spans.items };
+    ghost view = { λ a. counters_in (spans_of a.spans) };
 
-    ghost invariant = { λ a. are_apart 0 a.spans.items ≡ true };
+    ghost invariant = { λ a. are_apart 0 (spans_of a.spans) ≡ true };
 }
 
 impl Counters {
@@ -183,24 +150,32 @@ impl Counters {
         ensures { result ≡ [] }
     {
         Counters {
-            spans: Vec::new(alloc),
+            alloc,
+            spans: Spans::Empty,
         }
     }
 
-    /// An equal set, with memory of its own. Where there are gaps it has room for one span more.
+    /// The spans in rising order.
+    fn spans(&self) -> &[Span]
+        ensures value { counters_in result.now ≡ self.now }
+        ensures apart { are_apart 0 result.now ≡ true }
+    {
+        self.spans.as_slice()
+    }
+
+    /// An equal set. Without a gap it takes no memory, and otherwise it has room for one span more.
     pub(crate) fn copy(&self, alloc: Global) -> Result<Self, NoMemory>
         ensures { IfOk result (λ copied. copied ≡ self.now) }
     {
-        let mut spans = Vec::with_capacity(alloc, room_for(self.spans.len()))?;
-        spans.extend_from_slice(&self.spans)?;
-        Ok(Counters { spans })
+        let spans = self.spans.copy(alloc)?;
+        Ok(Counters { alloc, spans })
     }
 
     /// Whether there are no counters.
     pub(crate) fn is_empty(&self) -> bool
         ensures { IsTrue result ↔ (self.now ≡ []) }
     {
-        self.spans.is_empty()
+        self.spans().is_empty()
     }
 
     /// Whether the set has each counter of a span.
@@ -209,8 +184,8 @@ impl Counters {
         ensures { IsTrue result
             ↔ ((n : _) → span_has n span ≡ true → has_key nat_cmp self.now n ≡ true) }
     {
-        let place = ended_before(&self.spans, span.first);
-        match self.spans.get(place) {
+        let spans = self.spans();
+        match spans.get(ended_before(spans, span.first)) {
             Some(found) => found.first <= span.first && span.last <= found.last,
             None => false,
         }
@@ -233,10 +208,7 @@ impl Counters {
         ensures first { OnErr result
             ((n : _) → span_has n span ≡ true → has_key nat_cmp self.old n ≡ false) }
     {
-        let place = place_for(&self.spans, span);
-        let joined = take_touched(&mut self.spans, place, span);
-        self.spans.insert(place, joined)?;
-        Ok(())
+        self.spans.put(self.alloc, span)
     }
 
     /// Puts a counter into the set. One that is there takes no memory.
@@ -284,7 +256,7 @@ impl Counters {
 
     /// Whether so few spans are best put in one by one.
     pub(crate) fn are_few(&self) -> bool {
-        self.spans.len() <= FEW
+        self.spans().len() <= FEW
     }
 
     /// Puts the counters of the other set into this one. [`NoMemory`] is the only error, and may leave some
@@ -297,7 +269,7 @@ impl Counters {
         ensures err { OnErr result
             ((n : _) → has_key nat_cmp self.old n ≡ true → has_key nat_cmp self.new n ≡ true) }
     {
-        self.put_all(&other.spans)
+        self.put_all(other.spans())
     }
 
     /// The counters of both sets.
@@ -307,7 +279,7 @@ impl Counters {
             → has_key nat_cmp both n
             ≡ (has_key nat_cmp other.now n || has_key nat_cmp self.now n))) }
     {
-        merge_spans(alloc, &self.spans, &other.spans)
+        merge_spans(alloc, self.spans(), other.spans())
     }
 
     /// Whether the other set has each counter of this one.
@@ -315,7 +287,7 @@ impl Counters {
         ensures { IsTrue result
             ↔ ((n : _) → has_key nat_cmp self.now n ≡ true → has_key nat_cmp other.now n ≡ true) }
     {
-        for span in &self.spans {
+        for span in self.spans() {
             if !other.has_span(*span) {
                 return false;
             }
@@ -327,7 +299,7 @@ impl Counters {
     pub(crate) fn last(&self) -> u64
         ensures { IsGreatest self.now result }
     {
-        match self.spans.last() {
+        match self.spans().last() {
             Some(span) => span.last,
             None => 0,
         }
@@ -337,7 +309,7 @@ impl Counters {
     pub(crate) fn upto(&self) -> u64
         ensures { result ≡ reach_of self.now }
     {
-        match self.spans.first() {
+        match self.spans().first() {
             Some(span) if span.first <= 1 => span.last,
             _ => 0,
         }
@@ -349,7 +321,7 @@ impl Counters {
         ensures bound { result < 2 ^ 65 }
     {
         let mut len = 0;
-        for span in &self.spans {
+        for span in self.spans() {
             len += span.len();
         }
         len
@@ -363,7 +335,7 @@ impl Counters {
         if self.contains(0) {
             insert_key(&mut further, 0)?;
         }
-        list_past(&mut further, self.upto(), &self.spans)?;
+        list_past(&mut further, self.upto(), self.spans())?;
         Ok(further)
     }
 
@@ -374,20 +346,24 @@ impl Counters {
         ensures more { (q : Dot) → may_have filter.old.slots q ≡ true
             → may_have filter.new.slots q ≡ true }
     {
-        for span in &self.spans {
+        for span in self.spans() {
             fill_span(origin, *span, filter);
         }
     }
 
-    /// The counters in rising order.
-    pub(crate) fn list(&self, alloc: Global) -> Result<Vec<u64>, NoMemory>
-        ensures { IfOk result (λ counters. counters.items ≡ self.now) }
+    /// Puts the dots of an origin whose counters are in the set into a list of dots that rise.
+    pub(crate) fn put_dots(&self, origin: Origin, dots: &mut Vec<Dot>) -> Result<(), NoMemory>
+        requires { IsRising dot_cmp dots.old.items }
+        ensures rising { IsRising dot_cmp dots.new.items }
+        ensures ok { OnOk result ((q : Dot)
+            → has_key dot_cmp dots.new.items q
+            ≡ ((eq_by_cmp origin_cmp q.origin origin && has_key nat_cmp self.now q.n)
+            || has_key dot_cmp dots.old.items q)) }
     {
-        let mut counters = Vec::new(alloc);
-        for span in &self.spans {
-            list_span(&mut counters, *span)?;
+        for span in self.spans() {
+            put_span_dots(origin, *span, dots)?;
         }
-        Ok(counters)
+        Ok(())
     }
 }
 

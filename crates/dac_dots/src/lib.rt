@@ -23,3 +23,4 @@ mod filtered;
 mod row;
 mod rows;
 mod shared;
+mod spans;

@@ -10,7 +10,6 @@ ghost use Rattle.dac_origins.specs.Keys.{IsRising, has_key};
 use crate::counters::Counters;
 use crate::filter::DotFilter;
 use dac_base::NoMemory;
-use dac_origins::keys::insert_key;
 use dac_origins::{Dot, Origin};
 use std::alloc::Global;
 use std::marker::Model;
@@ -196,19 +195,14 @@ impl OriginRow {
     }
 
     /// Puts the dots of the row into a list of dots that rise.
-    pub(crate) fn put_dots(&self, alloc: Global, dots: &mut Vec<Dot>) -> Result<(), NoMemory>
+    pub(crate) fn put_dots(&self, dots: &mut Vec<Dot>) -> Result<(), NoMemory>
         requires { IsRising dot_cmp dots.old.items }
         ensures rising { IsRising dot_cmp dots.new.items }
         ensures ok { OnOk result ((q : Dot)
             → has_key dot_cmp dots.new.items q
             ≡ (row_has q self.now || has_key dot_cmp dots.old.items q)) }
     {
-        let origin = self.origin;
-        let counters = self.counters.list(alloc)?;
-        for n in &counters {
-            insert_key(dots, Dot { origin, n: *n })?;
-        }
-        Ok(())
+        self.counters.put_dots(self.origin, dots)
     }
 
     /// Sets the slot of each dot of the row.

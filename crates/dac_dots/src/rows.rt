@@ -239,7 +239,7 @@ impl OriginRows {
         let alloc = *self.rows.allocator();
         let mut dots = Vec::new(alloc);
         for row in &self.rows {
-            row.put_dots(alloc, &mut dots)?;
+            row.put_dots(&mut dots)?;
         }
         Ok(dots)
     }

@@ -1,11 +1,29 @@
 -- What was heard is what is known, where no more is known.
-use Rattle.std.specs.Prelude.{◌≡◌}
+use Rattle.std.specs.Prelude.{◌≡◌, List, []}
+use Rattle.std.proofs.Common.{refl, ap}
 use Rattle.std.specs.FinSet as set
 use Rattle.dac_origins.specs.Dots.{Dots, IsSubset}
+use Rattle.dac_origins.specs.declared.dot.Dot.{Dot}
+use Rattle.dac_wishes.specs.Replacing.{named_by}
+use Rattle.dac_wishes.specs.WishMeaning.{over_of}
 use Rattle.dac_wishes.specs.laws.Stores.{same_context, subset_left, subset_right, subset_union}
+use Rattle.dac_operations.specs.Operations.{over_list}
+use Rattle.dac_operations.specs.Seen.{seen_wish}
+use Rattle.dac_operations.specs.declared.act.Act.{Act}
+use Rattle.dac_operations.specs.declared.act.Act.TheVariants.{Up, Down, Permit, Start, Stop, Drain, Claim}
 
 -- where one side or the other heard each dot that either knows, what either heard is what either knows
 pub all_heard : (h g k m : Dots) → IsSubset h k → IsSubset g m → IsSubset k (set.union h g) → IsSubset m (set.union h g) → set.union h g ≡ set.union k m
 all_heard h g k m p q a b = same_context (set.union h g) (set.union k m)
     (subset_union h g (set.union k m) (λ x e. subset_left k m x (p x e)) (λ x e. subset_right k m x (q x e)))
     (subset_union k m (set.union h g) a b)
+
+-- an act that replaces nothing names the dot that it has alone
+pub names_itself : (d : Dot) (a : Act) → over_list a ≡ [] → named_by over_of d (seen_wish d a) ≡ set.insert set.empty d
+names_itself d Up e = refl
+names_itself d (Down node inc) e = refl
+names_itself d (Permit key value over) e = ap (λ (l : List Dot). named_by over_of d (seen_wish d (Permit key value l))) e
+names_itself d (Start key over) e = ap (λ (l : List Dot). named_by over_of d (seen_wish d (Start key l))) e
+names_itself d (Stop key over) e = ap (λ (l : List Dot). named_by over_of d (seen_wish d (Stop key l))) e
+names_itself d (Drain node inc value over) e = ap (λ (l : List Dot). named_by over_of d (seen_wish d (Drain node inc value l))) e
+names_itself d (Claim app term how from) e = refl

@@ -1,6 +1,7 @@
 //! The parts of a state.
 ghost use Rattle.std.specs.Prelude.{◌≡◌, ◌↔◌, IsTrue, IfOk};
 ghost use Rattle.dac_meaning.specs.StateValue.{IsState, IsBelow, drains_of, join, permissions_of, wishes_of};
+ghost use Rattle.dac_state.specs.Heard.{heard_beside};
 ghost use Rattle.dac_state.specs.Parts.{AreParts, state_of_parts};
 
 use crate::heard::Heard;
@@ -55,6 +56,25 @@ impl Parts {
         ensures { result ≡ state_of_parts heard permissions wishes lives claims drains }
     {
         let heard = Heard::of(heard, wishes.context());
+        Parts::beside(alloc, heard, permissions, wishes, lives, claims, drains)
+    }
+
+    /// These parts, where the dots heard are kept beside those that the wishes know. It takes no memory.
+    pub(crate) fn beside(
+        alloc: Global,
+        heard: Heard,
+        permissions: Permissions,
+        wishes: Wishes,
+        lives: Lives,
+        claims: Claims,
+        drains: Drains,
+    ) -> Self
+        requires { AreParts (heard_beside heard wishes.known) permissions wishes lives claims
+            drains }
+        ensures { result
+            ≡ state_of_parts (heard_beside heard wishes.known) permissions wishes lives claims
+            drains }
+    {
         Parts {
             alloc,
             heard,

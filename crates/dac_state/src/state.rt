@@ -2,7 +2,9 @@
 ghost use Rattle.std.specs.Prelude.{◌≡◌, ◌∷◌, [], IfOk};
 ghost use Rattle.dac_meaning.specs.StateValue.{drains_of, permissions_of, wishes_of};
 ghost use Rattle.dac_meaning.specs.Meaning.{meaning_of};
+ghost use Rattle.dac_state.specs.Heard.{heard_beside};
 
+use crate::heard::Heard;
 use crate::parts::Parts;
 use dac_base::NoMemory;
 use dac_chains::{Claims, Lives};
@@ -61,13 +63,13 @@ impl State {
         ensures { IfOk result (λ state. state ≡ meaning_of (op.now ∷ [])) }
     {
         laws::parts_of_meaning();
-        let heard = heard_by(alloc, op)?;
         let wishes = wishes_by(alloc, op)?;
+        let heard = heard_by(alloc, op, wishes.context())?;
         let permissions = permissions_by(alloc, op, wishes.shared_context())?;
         let lives = lives_by(alloc, op)?;
         let claims = claims_by(alloc, op)?;
         let drains = drains_by(alloc, op, wishes.shared_context())?;
-        let parts = Parts::new(alloc, heard, permissions, wishes, lives, claims, drains);
+        let parts = Parts::beside(alloc, heard, permissions, wishes, lives, claims, drains);
         let state = State::of(parts)?;
         Ok(state)
     }
@@ -218,14 +220,19 @@ impl Bottom for State {
     }
 }
 
-/// The dot of an operation.
-fn heard_by(alloc: Global, op: &Op) -> Result<Context, NoMemory>
-    ensures { IfOk result (λ heard. heard ≡ (meaning_of (op.now ∷ [])).heard) }
+/// The dot of an operation, beside the dots that it knows. It knows no other where it replaces none.
+fn heard_by(alloc: Global, op: &Op, known: &Context) -> Result<Heard, NoMemory>
+    requires { known.now ≡ (meaning_of (op.now ∷ [])).known }
+    ensures { IfOk result
+        (λ heard. heard_beside heard known.now ≡ (meaning_of (op.now ∷ [])).heard) }
 {
     laws::delta_is_meaning();
+    if op.act().over().is_empty() {
+        return Ok(Heard::All);
+    }
     let mut heard = Context::empty(alloc);
     heard.insert(op.dot())?;
-    Ok(heard)
+    Ok(Heard::These(heard))
 }
 
 /// What an operation permits, where these are the dots that it knows.

@@ -1,6 +1,6 @@
 use Rattle.std.proofs.Common.{nat_lt, rules}
 use Rattle.std.proofs.lemmas.List.Sorted.{IsPartitionPoint-from_clause}
-use Rattle.dac_dots.specs.declared.counters.Span.{Span}
+use Rattle.dac_dots.specs.declared.spans.Span.{Span}
 use Rattle.dac_dots.proofs.SpanLemmas.{none_ended, parted_by_end}
 use Rattle.dac_dots.proofs.counters.ended_before.Goals as goal
 

@@ -7,15 +7,15 @@ use Rattle.dac_dots.proofs.SpanLemmas.{apart_at}
 use Rattle.dac_dots.proofs.counters.Counters.fill.Goals as goal
 
 pub fill_span-requires : goal.fill_span-requires
-fill_span-requires c = (apart_at 0 c.deref-span-items.result.now (rw c.deref-span-items.ensures.value c.self.invariant) c.loop-span.span-index (record { first = 0; last = 0 }) c.loop-span-test.true).1
+fill_span-requires c = (apart_at 0 c.spans-span-items.result.now (c.spans-span-items.ensures.apart) c.loop-span.span-index (record { first = 0; last = 0 }) c.loop-span-test.true).1
 
 pub loop-span-preserved : goal.loop-span-preserved
 loop-span-preserved c = record {
-  own = λ n. one_further (span_has n) c.deref-span-items.result.now c.loop-span.span-index (record { first = 0; last = 0 }) (may_have c.fill_span.new.filter.slots (dot c.args.origin n) ≡ true) c.loop-span-test.true
+  own = λ n. one_further (span_has n) c.spans-span-items.result.now c.loop-span.span-index (record { first = 0; last = 0 }) (may_have c.fill_span.new.filter.slots (dot c.args.origin n) ≡ true) c.loop-span-test.true
       (λ e. c.fill_span.ensures.more (dot c.args.origin n) (c.loop-span.invariant.own n e)) (c.fill_span.ensures.own n);
   more = λ q e. c.fill_span.ensures.more q (c.loop-span.invariant.more q e);
 }
 
 pub returns-clause-own : goal.returns-clause-own
 returns-clause-own c n e =
-    c.loop-span.invariant.own n (in_spans c.deref-span-items.result.now c.args.self.now (rw c.deref-span-items.ensures.value c.self.view_is) c.loop-span.span-index c.loop-span-test.false n e)
+    c.loop-span.invariant.own n (in_spans c.spans-span-items.result.now c.args.self.now (c.spans-span-items.ensures.value) c.loop-span.span-index c.loop-span-test.false n e)

@@ -4,13 +4,13 @@ use Rattle.dac_dots.proofs.SpanLemmas.{apart_at, subset_whole, span_within}
 use Rattle.dac_dots.proofs.counters.Counters.is_subset.Goals as goal
 
 pub has_span-requires : goal.has_span-requires
-has_span-requires c = (apart_at 0 c.deref-span-items.result.now (rw c.deref-span-items.ensures.value c.self.invariant) c.loop-span.span-index (record { first = 0; last = 0 }) c.loop-span-test.true).1
+has_span-requires c = (apart_at 0 c.spans-span-items.result.now (c.spans-span-items.ensures.apart) c.loop-span.span-index (record { first = 0; last = 0 }) c.loop-span-test.true).1
 
 pub returns-then-not-has_span : goal.returns-then-not-has_span
 returns-then-not-has_span c = (
   λ e. absurd (false≢true e),
-  λ all. absurd (false≢true (sym c.if-not-has_span.true ∙ c.has_span.ensures.1 (λ n e. all n (span_within c.deref-span-items.result.now c.args.self.now (rw c.deref-span-items.ensures.value c.self.view_is) c.loop-span.span-index (record { first = 0; last = 0 }) c.loop-span-test.true n e)))),
+  λ all. absurd (false≢true (sym c.if-not-has_span.true ∙ c.has_span.ensures.1 (λ n e. all n (span_within c.spans-span-items.result.now c.args.self.now (c.spans-span-items.ensures.value) c.loop-span.span-index (record { first = 0; last = 0 }) c.loop-span-test.true n e)))),
 )
 
 pub returns : goal.returns
-returns c = (λ _. subset_whole c.self.inside.spans.items c.args.self.now c.self.view_is c.args.other.now c.loop-span.span-index (rw c.deref-span-items.ensures.value at c.loop-span-test.false) (rw c.deref-span-items.ensures.value at c.loop-span.invariant), λ _. refl)
+returns c = (λ _. subset_whole c.spans-span-items.result.now c.args.self.now c.spans-span-items.ensures.value c.args.other.now c.loop-span.span-index (c.loop-span-test.false) (c.loop-span.invariant), λ _. refl)

@@ -3,15 +3,15 @@ use Rattle.dac_dots.proofs.counters.Counters.upto.Goals as goal
 
 pub returns-in-Some : goal.returns-in-Some
 returns-in-Some c =
-    let item = rw c.deref.ensures.value at c.in-Some.ensures.item in
-    upto_first c.self.inside.spans.items c.self.invariant c.args.self.now c.self.view_is c.in-Some.span.now item.3.0 (item.3.1 c.in-Some.span.now) c.if-span-le1.true
+    let item = c.in-Some.ensures.item in
+    upto_first c.spans.result.now c.spans.ensures.apart c.args.self.now c.spans.ensures.value c.in-Some.span.now item.3.0 (item.3.1 c.in-Some.span.now) c.if-span-le1.true
 
 pub returns-in_default : goal.returns-in_default
 returns-in_default c =
-    let item = rw c.deref.ensures.value at c.in-Some.ensures.item in
-    upto_later c.self.inside.spans.items c.self.invariant c.args.self.now c.self.view_is c.in-Some.span.now item.3.0 (item.3.1 c.in-Some.span.now) c.if-span-le1.false
+    let item = c.in-Some.ensures.item in
+    upto_later c.spans.result.now c.spans.ensures.apart c.args.self.now c.spans.ensures.value c.in-Some.span.now item.3.0 (item.3.1 c.in-Some.span.now) c.if-span-le1.false
 
 pub returns-in_default-2 : goal.returns-in_default-2
 returns-in_default-2 c =
-    let item = rw (c.deref.ensures.value, c.in_default.is) at c.first.ensures.item in
-    upto_none c.self.inside.spans.items c.self.invariant c.args.self.now c.self.view_is item.3
+    let item = rw c.in_default.is at c.first.ensures.item in
+    upto_none c.spans.result.now c.spans.ensures.apart c.args.self.now c.spans.ensures.value item.3

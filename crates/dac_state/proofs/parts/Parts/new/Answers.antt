@@ -1,11 +1,12 @@
+use Rattle.std.proofs.Common.{◌∙◌}
 use Rattle.dac_state.specs.Parts.{state_of_parts}
 use Rattle.dac_state.proofs.parts.Parts.new.Goals as goal
 
 pub of-heard-requires : goal.of-heard-requires
 of-heard-requires c = rw c.context.ensures c.requires.state.heard
 
-pub invariant_of-result : goal.invariant_of-result
-invariant_of-result c = rw (rw c.context.ensures at c.of-heard.ensures) c.requires
+pub beside-requires : goal.beside-requires
+beside-requires c = rw (rw c.context.ensures at c.of-heard.ensures) c.requires
 
 pub returns : goal.returns
-returns c = λ i. state_of_parts ((rw c.context.ensures at c.of-heard.ensures) i) c.args.permissions c.args.wishes c.args.lives c.args.claims c.args.drains
+returns c = c.beside.ensures ∙ (λ i. state_of_parts ((rw c.context.ensures at c.of-heard.ensures) i) c.args.permissions c.args.wishes c.args.lives c.args.claims c.args.drains)

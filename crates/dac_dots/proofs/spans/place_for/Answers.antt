@@ -1,8 +1,8 @@
 use Rattle.std.proofs.Common.{◌+◌, nat_lt, rules, sym, ◌∙◌}
 use Rattle.std.proofs.lemmas.List.Sorted.{IsPartitionPoint-from_clause}
-use Rattle.dac_dots.specs.declared.counters.Span.{Span}
+use Rattle.dac_dots.specs.declared.spans.Span.{Span}
 use Rattle.dac_dots.proofs.SpanLemmas.{parted_by_gap, place_at_end, place_at_last}
-use Rattle.dac_dots.proofs.counters.place_for.Goals as goal
+use Rattle.dac_dots.proofs.spans.place_for.Goals as goal
 
 pub returns-in-Some : goal.returns-in-Some
 returns-in-Some c =

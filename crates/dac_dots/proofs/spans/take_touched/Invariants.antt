@@ -1,6 +1,6 @@
 use Rattle.std.proofs.Common.{◌≡◌, ◌<◌, ◌⊎◌, length, take, drop, vec_capacity}
 use Rattle.dac_dots.specs.Spans.{absorbed}
-use Rattle.dac_dots.proofs.counters.take_touched.Given as goal
+use Rattle.dac_dots.proofs.spans.take_touched.Given as goal
 
 -- what is joined so far, with the spans that are left, is the whole
 abbrev pub invariant-loop-spans : goal.invariant-loop-spans

@@ -1,0 +1,187 @@
+//! Spans of counters that follow one another.
+ghost use Rattle.std.specs.Prelude.{◌≡◌, ◌+◌, ◌-◌, ◌^◌, ◌<◌, ◌≤◌, ◌⊎◌, ◌||◌, ◌∷◌, [], false, true, length, nat_le, nat_lt, take, drop, vec_capacity, IfOk, OnErr, OnOk};
+ghost use Rattle.dac_dots.specs.Spans.{IsPlaceFor, absorbed, any_span, are_apart, hull, span_has, spans_of};
+
+use dac_base::NoMemory;
+use std::alloc::Global;
+use std::slice::from_ref;
+
+/// Counters that follow one another: `first`, the one after it, and so on to `last`.
+#[derive(Clone, Copy, Debug)]
+pub(crate) struct Span {
+    pub(crate) first: u64,
+    pub(crate) last: u64,
+}
+
+impl Span {
+    /// Whether this span ends so far before the other that a counter lies between them.
+    fn ends_before(self, other: Span) -> bool
+        ensures { result ≡ nat_lt (self.last + 1) other.first }
+    {
+        self.last < other.first && other.first - self.last > 1
+    }
+
+    /// Whether the other span begins in this one, before it, or right after it.
+    fn reaches(self, other: Span) -> bool
+        ensures { result ≡ nat_le other.first (self.last + 1) }
+    {
+        other.first <= self.last || other.first - self.last == 1
+    }
+
+    /// How many counters there are.
+    pub(crate) fn len(self) -> u128
+        requires { self.first ≤ self.last }
+        ensures value { result ≡ self.last + 1 - self.first }
+        ensures bound { self.last < 2 ^ 64 }
+    {
+        u128::from(self.last - self.first) + 1
+    }
+
+    /// From where the first of both begins to where the last of both ends.
+    fn hull(self, other: Span) -> Span
+        ensures { result ≡ hull self other }
+    {
+        Span {
+            first: self.first.min(other.first),
+            last: self.last.max(other.last),
+        }
+    }
+}
+
+/// Spans between which counters lie, in rising order. A single one takes no memory.
+#[derive(Debug, Drop)]
+pub(crate) enum Spans {
+    /// No spans.
+    Empty,
+    /// A single span.
+    One(Span),
+    /// A list of spans.
+    Listed(Vec<Span>),
+}
+
+impl Spans {
+    /// The spans in rising order. It takes no memory.
+    pub(crate) fn as_slice(&self) -> &[Span]
+        ensures { result.now ≡ spans_of self.now }
+    {
+        match self {
+            Spans::Empty => &[],
+            Spans::One(span) => from_ref(span),
+            Spans::Listed(spans) => spans.as_slice(),
+        }
+    }
+
+    /// Equal spans. Where there are gaps it has room for one span more.
+    pub(crate) fn copy(&self, alloc: Global) -> Result<Self, NoMemory>
+        ensures { IfOk result (λ copied. spans_of copied ≡ spans_of self.now) }
+    {
+        match self {
+            Spans::Empty => Ok(Spans::Empty),
+            Spans::One(span) => Ok(Spans::One(*span)),
+            Spans::Listed(spans) => {
+                let copied = copy_listed(alloc, spans)?;
+                Ok(Spans::Listed(copied))
+            }
+        }
+    }
+
+    /// Puts the counters of a span in. Where all are there it takes no memory.
+    pub(crate) fn put(&mut self, alloc: Global, span: Span) -> Result<(), NoMemory>
+        requires valid { span.first ≤ span.last }
+        requires apart { are_apart 0 (spans_of self.old) ≡ true }
+        ensures apart { are_apart 0 (spans_of self.new) ≡ true }
+        ensures ok { OnOk result ((n : _)
+            → any_span (spans_of self.new) n
+            ≡ (span_has n span || any_span (spans_of self.old) n)) }
+        ensures err { OnErr result (spans_of self.new ≡ spans_of self.old) }
+        ensures first { OnErr result
+            ((n : _) → span_has n span ≡ true → any_span (spans_of self.old) n ≡ false) }
+    {
+        match self {
+            Spans::Empty => *self = Spans::One(span),
+            Spans::One(single) => *self = one_or_two(alloc, *single, span)?,
+            Spans::Listed(spans) => put_among(spans, span)?,
+        }
+        Ok(())
+    }
+}
+
+/// A list of the same spans, with room for one more.
+fn copy_listed(alloc: Global, spans: &[Span]) -> Result<Vec<Span>, NoMemory>
+    ensures { IfOk result (λ copied. copied.items ≡ spans.now) }
+{
+    let mut copied = Vec::with_capacity(alloc, spans.len().saturating_add(1))?;
+    copied.extend_from_slice(spans)?;
+    Ok(copied)
+}
+
+/// The counters of a single span and of another, as one span if no counter lies between them.
+fn one_or_two(alloc: Global, single: Span, span: Span) -> Result<Spans, NoMemory>
+    requires single { single.first ≤ single.last }
+    requires span { span.first ≤ span.last }
+    ensures apart { IfOk result (λ both. are_apart 0 (spans_of both) ≡ true) }
+    ensures ok { IfOk result (λ both. (n : _)
+        → any_span (spans_of both) n ≡ (span_has n span || any_span (single ∷ []) n)) }
+    ensures first { OnErr result
+        ((n : _) → span_has n span ≡ true → any_span (single ∷ []) n ≡ false) }
+{
+    if single.ends_before(span) {
+        return two(alloc, single, span);
+    }
+    if span.ends_before(single) {
+        return two(alloc, span, single);
+    }
+    Ok(Spans::One(single.hull(span)))
+}
+
+/// Two spans, the lower one first.
+fn two(alloc: Global, lower: Span, upper: Span) -> Result<Spans, NoMemory>
+    ensures { IfOk result (λ both. spans_of both ≡ lower ∷ upper ∷ []) }
+{
+    let both = Vec::from_slice(alloc, &[lower, upper])?;
+    Ok(Spans::Listed(both))
+}
+
+/// Puts the counters of a span into a list of spans. Where all are there it takes no memory.
+fn put_among(spans: &mut Vec<Span>, span: Span) -> Result<(), NoMemory>
+    requires valid { span.first ≤ span.last }
+    requires apart { are_apart 0 spans.old.items ≡ true }
+    ensures apart { are_apart 0 spans.new.items ≡ true }
+    ensures ok { OnOk result ((n : _)
+        → any_span spans.new.items n ≡ (span_has n span || any_span spans.old.items n)) }
+    ensures err { OnErr result (spans.new.items ≡ spans.old.items) }
+    ensures first { OnErr result
+        ((n : _) → span_has n span ≡ true → any_span spans.old.items n ≡ false) }
+{
+    let place = place_for(spans, span);
+    let joined = take_touched(spans, place, span);
+    spans.insert(place, joined)?;
+    Ok(())
+}
+
+/// Takes the spans from a place on out that reach on from this span, and answers the span of all of them.
+fn take_touched(spans: &mut Vec<Span>, place: usize, span: Span) -> Span
+    ensures front { take place spans.new.items ≡ take place spans.old.items }
+    ensures value { absorbed span (drop place spans.old.items) ≡ result ∷ drop place spans.new.items }
+    ensures room { ((spans.new.items ≡ spans.old.items) × (result ≡ span))
+        ⊎ (length spans.new.items < vec_capacity spans.new) }
+{
+    let mut joined = span;
+    while place < spans.len() && joined.reaches(spans[place]) {
+        joined = joined.hull(spans.remove(place));
+    }
+    joined
+}
+
+/// Where a span is put: how many of the spans end so far before it that a counter lies between. Most spans are
+/// put behind the last one, or lengthen it, so that is looked at first.
+fn place_for(spans: &[Span], span: Span) -> usize
+    requires { are_apart 0 spans.now ≡ true }
+    ensures { IsPlaceFor spans.now result span.first }
+{
+    match spans.last() {
+        Some(last) if last.ends_before(span) => spans.len(),
+        Some(last) if last.first <= span.first => spans.len() - 1,
+        _ => spans.partition_point(|before| before.ends_before(span)),
+    }
+}
