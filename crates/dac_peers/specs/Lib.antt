@@ -1,3 +1,4 @@
 pub mod Peers
+pub mod Pending
 pub mod InWords
 pub mod laws

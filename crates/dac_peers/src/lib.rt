@@ -10,6 +10,8 @@ pub use peers::Peers;
 pub use positions::Position;
 
 pub mod laws;
+mod lists;
 mod nodes;
 mod peers;
+mod pending;
 mod positions;

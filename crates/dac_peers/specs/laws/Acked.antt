@@ -37,7 +37,7 @@ module _ (Q : ℕ → Type 0) where
   )
 
 -- two origins are equal or not, and the test tells
-same_or_not : (a b : Origin) → ((a ≡ b) × (eq_by_cmp origin_cmp a b ≡ true)) ⊎ ((a ≢ b) × (eq_by_cmp origin_cmp a b ≡ false))
+pub same_or_not : (a b : Origin) → ((a ≡ b) × (eq_by_cmp origin_cmp a b ≡ true)) ⊎ ((a ≢ b) × (eq_by_cmp origin_cmp a b ≡ false))
 same_or_not a b = elim (eq_by_cmp origin_cmp a b) as (λ t. eq_by_cmp origin_cmp a b ≡ t → ((a ≡ b) × (eq_by_cmp origin_cmp a b ≡ true)) ⊎ ((a ≢ b) × (eq_by_cmp origin_cmp a b ≡ false))) [
   | true ↦ λ e. inl (exact_origins a b ((Equal-is (origin_cmp a b)).0 e), e)
   | false ↦ λ e. inr ((λ is. true≢false (sym (ap is_eq (tied_itself origins_total b)) ∙ (ap (λ o. eq_by_cmp origin_cmp o b) (sym is) ∙ e))), e)
