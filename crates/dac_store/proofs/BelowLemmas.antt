@@ -106,6 +106,10 @@ module _ {K X : Type 0} {R : K → K → Ordering} (o : IsTotalOrder R) (exact :
       let lower : is_lt (R e.0 k) ≡ true = subst (λ f. is_lt (R f.0 k) ≡ true) (sym is) tests.1 in
       same k (ap is_lt (o.antisymm k e.0 ∙ ap ordering_reverse (lower_from (R e.0 k) lower))) ∙ later k tests.0
 
+  -- the same, where none was passed
+  pub later_same : (part old now : List (K × X)) (i : ℕ) (e : K × X) → i < length part → e ≡ get_or part i e → HasLaterKeys R (take i part) old now → HasLaterKeys R (take (i + 1) part) old now
+  later_same part old now i e p is later = later_more part old now now i e p is later (λ k apart. refl)
+
   pub later_all : (part old now : List (K × X)) (i : ℕ) → length part ≤ i → HasLaterKeys R (take i part) old now → HasLaterKeys R part old now
   later_all part old now i p later = subst (λ m. HasLaterKeys R m old now) (take_all i part p) later
 
