@@ -243,3 +243,11 @@ module _ (rows s : List Row) (dots : Dots) (view : dots_in rows ≡ dots) (kept 
 -- a row of one dot has some
 pub one_some : (d : Dot) (row : Row) → IsOne d row → HasSome row
 one_some d row one = some_from row d.n (one.exact d.n ∙ is_same d.n d.n refl)
+
+-- the rows of one dot
+module _ (d : Dot) (row : Row) (one : IsOne d row) where
+  pub single_kept : AreKept (row ∷ [])
+  single_kept = record { each = ((one.kept, one_some d row one), tt); rising = refl }
+
+  pub single_is : dots_in (row ∷ []) ≡ set.insert set.empty d
+  single_is = inserted [] (row ∷ []) set.empty d none_in (λ q. ap (λ b. b || false) (one_has d q row one))

@@ -425,6 +425,13 @@ put_alone span spans place v at h is n e =
 pub one_apart : (span : Span) → span.first ≤ span.last → are_apart 0 (span ∷ []) ≡ true
 one_apart span v = apart_from 0 span [] (omega arith) v refl
 
+pub one_counter : (n : ℕ) → counters_in (record { first = n; last = n } ∷ []) ≡ n ∷ []
+unfolding counters_in counters_of_span from_on
+one_counter n = ap (λ k. from_on n k ++ []) (alone n)
+  where
+    alone : (n : ℕ) → n + 1 - n ≡ 1
+    alone n = omega arith
+
 pub two_apart : (a b : Span) → a.first ≤ a.last → b.first ≤ b.last → nat_lt (a.last + 1) b.first ≡ true → are_apart 0 (a ∷ b ∷ []) ≡ true
 two_apart a b v w far = apart_from 0 a (b ∷ []) (omega arith) v (apart_from (a.last + 2) b [] (is_far a.last b.first far) w refl)
 

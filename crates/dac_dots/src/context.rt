@@ -284,8 +284,7 @@ impl Context {
 fn first_row(alloc: Global, dot: Dot) -> Result<Arc<OriginRows, Global>, NoMemory>
     ensures { IfOk result (λ rows. arc_value rows ≡ set.insert set.empty dot) }
 {
-    let mut rows = OriginRows::empty(alloc);
-    rows.insert(dot)?;
+    let rows = OriginRows::one(alloc, dot)?;
     let shared = Arc::new(alloc, rows)?;
     Ok(shared)
 }

@@ -1,5 +1,5 @@
 //! Sets of counters, kept as spans of counters that follow one another.
-ghost use Rattle.std.specs.Prelude.{◌≡◌, ◌↔◌, ◌^◌, ◌<◌, ◌≤◌, ◌||◌, ◌&&◌, [], false, true, length, nat_le, IfOk, IsTrue, OnErr, OnOk};
+ghost use Rattle.std.specs.Prelude.{◌≡◌, ◌↔◌, ◌^◌, ◌<◌, ◌≤◌, ◌||◌, ◌&&◌, ◌∷◌, [], false, true, length, nat_le, IfOk, IsTrue, OnErr, OnOk};
 ghost use Rattle.std.specs.Ordering.{eq_by_cmp, nat_cmp};
 ghost use Rattle.dac_origins.specs.Dots.{dot, dot_cmp, origin_cmp};
 ghost use Rattle.dac_origins.specs.Keys.{IsRising, has_key};
@@ -152,6 +152,16 @@ impl Counters {
         Counters {
             alloc,
             spans: Spans::Empty,
+        }
+    }
+
+    /// The set of one counter. It takes no memory.
+    pub(crate) fn one(alloc: Global, n: u64) -> Self
+        ensures { result ≡ n ∷ [] }
+    {
+        Counters {
+            alloc,
+            spans: Spans::One(Span { first: n, last: n }),
         }
     }
 

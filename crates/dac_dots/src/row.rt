@@ -79,16 +79,14 @@ impl<'a> Further<'a> {
 }
 
 impl OriginRow {
-    /// The row of one dot.
-    pub(crate) fn one(alloc: Global, dot: Dot) -> Result<Self, NoMemory>
-        ensures { IfOk result (λ row. IsOne dot row) }
+    /// The row of one dot. It takes no memory.
+    pub(crate) fn one(alloc: Global, dot: Dot) -> Self
+        ensures { IsOne dot result }
     {
-        let mut counters = Counters::empty(alloc);
-        counters.insert(dot.n)?;
-        Ok(OriginRow {
+        OriginRow {
             origin: dot.origin,
-            counters,
-        })
+            counters: Counters::one(alloc, dot.n),
+        }
     }
 
     /// The row with the counters 1 to `upto` and these further ones, which rise from above `upto + 1`.

@@ -65,6 +65,15 @@ impl OriginRows {
         }
     }
 
+    /// The set of one dot. [`NoMemory`] is the only error.
+    pub(crate) fn one(alloc: Global, dot: Dot) -> Result<Self, NoMemory>
+        ensures { IfOk result (λ rows. rows ≡ set.insert set.empty dot) }
+    {
+        let mut rows = Vec::with_capacity(alloc, 1)?;
+        rows.push(OriginRow::one(alloc, dot))?;
+        Ok(OriginRows { rows })
+    }
+
     /// Equal rows, with memory of their own. [`NoMemory`] is the only error.
     pub(crate) fn copy(&self) -> Result<Self, NoMemory>
         ensures { IfOk result (λ copied. copied ≡ self.now) }
@@ -100,7 +109,7 @@ impl OriginRows {
                 row.insert(dot.n)?;
             }
             Err(place) => {
-                let row = OriginRow::one(*self.rows.allocator(), dot)?;
+                let row = OriginRow::one(*self.rows.allocator(), dot);
                 self.rows.insert(place, row)?;
             }
         }
