@@ -124,6 +124,7 @@ impl Running {
         self.buffer.push_all(deltas)?;
         self.buffer.trim(trim);
         self.knowledge = knowledge;
+        self.knowledge.peers.settle();
         Ok(())
     }
 

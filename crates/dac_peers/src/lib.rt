@@ -9,6 +9,7 @@
 pub use peers::Peers;
 pub use positions::Position;
 
+mod acked;
 pub mod laws;
 mod lists;
 mod nodes;

@@ -5,11 +5,11 @@ ghost use Rattle.std.specs.FinMap as map;
 ghost use Rattle.dac_peers.specs.Peers.{no_peers};
 ghost use Rattle.dac_peers.specs.Pending.{ack_done, position_done, answer_done, done};
 
+use crate::acked::Acked;
 use crate::nodes::NodeSet;
 use crate::pending::{Answer, Pending};
 use crate::positions::{Position, Positions};
 use dac_base::{NoMemory, NodeId};
-use dac_deltas::Acks;
 use dac_origins::Origin;
 use std::alloc::Global;
 use std::marker::Model;
@@ -17,7 +17,7 @@ use std::marker::Model;
 /// What is kept of peers, in three lists.
 #[derive(Drop)]
 pub(crate) struct Lists {
-    acks: Acks,
+    acks: Acked,
     got: Positions,
     owed: NodeSet,
 }
@@ -33,7 +33,7 @@ impl Model for Lists {
 }
 
 /// Raises the number that is to be raised. Where memory is refused it is still to be raised.
-fn raise_ack(acks: &mut Acks, ack: &mut Option<(Origin, u64)>) -> Result<(), NoMemory>
+fn raise_ack(acks: &mut Acked, ack: &mut Option<(Origin, u64)>) -> Result<(), NoMemory>
     ensures same { ack_done acks.new ack.new ≡ ack_done acks.old ack.old }
     ensures done { OnOk result (ack.new ≡ None) }
 {
@@ -79,7 +79,7 @@ impl Lists {
         ensures { result ≡ no_peers }
     {
         Lists {
-            acks: Acks::new(alloc),
+            acks: Acked::new(alloc),
             got: Positions::new(alloc),
             owed: NodeSet::new(alloc),
         }

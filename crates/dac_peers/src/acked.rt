@@ -1,0 +1,118 @@
+//! What was acknowledged, with a shorter way to what is asked most.
+ghost use Rattle.std.specs.Prelude.{◌≡◌, ◌↔◌, ◌<◌, ℕ, length, IsTrue, IfOk, OnOk, OnErr};
+ghost use Rattle.std.specs.FinMap as map;
+ghost use Rattle.dac_deltas.specs.Numbers.{raised};
+ghost use Rattle.dac_peers.specs.Newest.{noted, IsNoted};
+
+use crate::positions::Position;
+use dac_base::{NoMemory, NodeId};
+use dac_deltas::Acks;
+use dac_origins::Origin;
+use std::alloc::Global;
+use std::marker::Model;
+
+/// The greatest number that each origin acknowledged. Contracts see it as a finite map from origins to numbers.
+///
+/// Mostly the same incarnation of a node is asked for. So what a node acknowledged last is noted at the node's place
+/// too, where it is found without a search.
+#[derive(Drop)]
+pub(crate) struct Acked {
+    numbers: Acks,
+    latest: Vec<Option<Position>>,
+}
+
+impl Model for Acked {
+    ghost use Rattle.std.specs.FinMap as map;
+    ghost use Rattle.std.specs.Coded.{coded_ℕ};
+    ghost use Rattle.dac_origins.specs.Dots.{coded_origin};
+    ghost use Rattle.dac_deltas.specs.Numbers.{Numbers};
+    ghost use Rattle.dac_peers.specs.Newest.{AreLatest};
+
+    ghost Value = { Numbers };
+
+    ghost coded = { map.code coded_origin coded_ℕ };
+
+    ghost view = { λ a. a.numbers };
+
+    ghost invariant = { λ a. AreLatest a.numbers a.latest.items };
+}
+
+/// Makes room up to a node's place, and notes nothing there. Where memory is refused the answer is false, and all is as
+/// before.
+fn reach(latest: &mut Vec<Option<Position>>, node: NodeId) -> bool
+    ensures same { (q : ℕ) → noted latest.new.items q ≡ noted latest.old.items q }
+    ensures there { IsTrue result ↔ (node.0 < length latest.new.items) }
+{
+    let place = node.0 as usize;
+    place < latest.len() || latest.resize(place + 1, None).is_ok()
+}
+
+/// Notes a position at a node's place. Where memory is refused for more places, nothing is noted there.
+fn note(latest: &mut Vec<Option<Position>>, node: NodeId, position: Option<Position>)
+    ensures { IsNoted latest.old.items node.0 position latest.new.items }
+{
+    if reach(latest, node) {
+        latest[node.0 as usize] = position;
+    }
+}
+
+/// What is noted at a node's place.
+fn noted_at(latest: &[Option<Position>], node: NodeId) -> Option<Position>
+    ensures { result ≡ noted latest.now node.0 }
+{
+    let place = node.0 as usize;
+    if place < latest.len() {
+        latest[place]
+    } else {
+        None
+    }
+}
+
+impl Acked {
+    /// Nothing is acknowledged. It takes no memory.
+    pub(crate) fn new(alloc: Global) -> Self
+        ensures { result ≡ map.empty }
+    {
+        Acked {
+            numbers: Acks::new(alloc),
+            latest: Vec::new(alloc),
+        }
+    }
+
+    /// The greatest number that an origin acknowledged, if it acknowledged any.
+    pub(crate) fn get(&self, origin: Origin) -> Option<u64>
+        ensures { result ≡ map.get self.now origin }
+    {
+        match noted_at(&self.latest, origin.node) {
+            Some(position) if position.inc == origin.inc => Some(position.number),
+            _ => self.numbers.get(origin),
+        }
+    }
+
+    /// An origin acknowledges a number. A lesser one than before changes nothing. [`NoMemory`] is the only error, and
+    /// leaves all as it was.
+    pub(crate) fn raise(&mut self, origin: Origin, number: u64) -> Result<(), NoMemory>
+        ensures ok { OnOk result (self.new ≡ raised self.old origin number) }
+        ensures err { OnErr result (self.new ≡ self.old) }
+    {
+        self.numbers.raise(origin, number)?;
+        let position = match self.numbers.get(origin) {
+            Some(number) => Some(Position {
+                inc: origin.inc,
+                number,
+            }),
+            None => None,
+        };
+        note(&mut self.latest, origin.node, position);
+        Ok(())
+    }
+
+    /// An equal table, with memory of its own. [`NoMemory`] is the only error.
+    pub(crate) fn copy(&self) -> Result<Self, NoMemory>
+        ensures { IfOk result (λ copied. copied ≡ self.now) }
+    {
+        let numbers = self.numbers.copy()?;
+        let latest = Vec::from_slice(*self.latest.allocator(), &self.latest)?;
+        Ok(Acked { numbers, latest })
+    }
+}
