@@ -122,9 +122,10 @@ impl Running {
         let known = &self.knowledge;
         let count = self.buffer.count();
         let peers = known.peers.heard_from(known.origin, count, message)?;
-        let next = known.hear_body(&message.body, peers)?;
+        let mut next = known.hear_body(&message.body, peers)?;
         let trim = next.knowledge.acked_past(config, self.buffer.base());
-        Ok(next.with_trim(trim))
+        next.trim_below(trim);
+        Ok(next)
     }
 
     /// What goes on after one operation is heard that comes by itself, and whether it is new.
