@@ -11,14 +11,14 @@ use dac_state::State;
 pub(crate) fn share_last(messages: &[Message], change: &mut Change)
     ensures { change.new ≡ change.old }
 {
-    if let Some(state) = last_of_another(messages, change.reply()) {
+    if let Some(state) = last_of_another(messages, change) {
         change.ship_copy_of(state);
     }
 }
 
-/// The interval that the last message brings, where a reply ships one of another node.
-fn last_of_another<'a>(messages: &'a [Message], reply: &Reply) -> Option<&'a State> {
-    let Reply::Shipped(message) = reply else {
+/// The interval that the last message brings, where a change ships one of another node.
+fn last_of_another<'a>(messages: &'a [Message], change: &Change) -> Option<&'a State> {
+    let Some(Reply::Shipped(message)) = change.reply() else {
         return None;
     };
     let last = messages.last()?;

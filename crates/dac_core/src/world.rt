@@ -1,6 +1,6 @@
 //! All controllers of a configuration, with what they issued and shipped.
 
-ghost use Rattle.std.specs.Prelude.{◌≡◌, ◌<◌, ◌≤◌, ◌+◌, ◌++◌, ◌↔◌, IsTrue, IfOk, IfErr, OnOk, OnErr, Ok, List, length, vec_len, vec_capacity};
+ghost use Rattle.std.specs.Prelude.{◌≡◌, ◌<◌, ◌≤◌, ◌+◌, ◌++◌, [], true, IfOk, IfErr, OnOk, OnErr, Ok, List, length, vec_len, vec_capacity};
 ghost use Rattle.dac_operations.specs.Operations.{Operation};
 ghost use Rattle.dac_settle.specs.dac_model_world.ModelWorld.{event_of, issued_by, shipped_by};
 ghost use Rattle.dac_settle.specs.dac_model_world.WorldChanges.{NodeChanges};
@@ -299,11 +299,11 @@ impl World {
         ensures crash { IfErr result (λ _. change.reply ≡ Reply.Crashed → ⊥) }
         ensures unchanged { OnErr result (self.new ≡ self.old) }
     {
-        if is_crash(&change) {
+        if notes_nothing(&change) {
             return change_node(&mut self.nodes, node, change);
         }
         share_last(self.messages.as_slice(), &mut change);
-        let noted = make_room(&mut self.operations, &mut self.messages, change.reply())?;
+        let noted = make_room(&mut self.operations, &mut self.messages, &change)?;
         let reply = change_node(&mut self.nodes, node, change)?;
         note(&mut self.operations, &mut self.messages, noted);
         Ok(reply)
@@ -326,11 +326,16 @@ fn event_by_itself(what: What) -> Event
     }
 }
 
-/// Whether a node goes down.
-fn is_crash(change: &Change) -> bool
-    ensures { IsTrue result ↔ (change.now.reply ≡ Reply.Crashed) }
+/// Whether the reply to what a node prepared is one that issues and ships nothing: that of a crash, or to what is heard.
+fn notes_nothing(change: &Change) -> bool
+    ensures issues { result ≡ true → issued_by change.now.reply ≡ [] }
+    ensures ships { result ≡ true → shipped_by change.now.reply ≡ [] }
+    ensures crash { change.now.reply ≡ Reply.Crashed → result ≡ true }
 {
-    matches!(change.reply(), Reply::Crashed)
+    match change.reply() {
+        None => true,
+        Some(reply) => matches!(reply, Reply::Crashed | Reply::Heard(_)),
+    }
 }
 
 /// Does what a node prepared.
@@ -361,18 +366,19 @@ fn issued_count(reply: &Reply) -> usize
 fn make_room(
     operations: &mut Vec<Op>,
     messages: &mut Vec<Message>,
-    reply: &Reply,
+    change: &Change,
 ) -> Result<Reply, NoMemory>
     ensures operations { operations.new.items ≡ operations.old.items }
     ensures messages { messages.new.items ≡ messages.old.items }
     ensures operations_room { OnOk result
-        (vec_len operations.new + length (issued_by reply.now) ≤ vec_capacity operations.new) }
+        (vec_len operations.new + length (issued_by change.now.reply)
+        ≤ vec_capacity operations.new) }
     ensures messages_room { OnOk result (vec_len messages.new < vec_capacity messages.new) }
-    ensures copied { IfOk result (λ copied. copied ≡ reply.now) }
+    ensures copied { IfOk result (λ copied. copied ≡ change.now.reply) }
 {
-    operations.reserve(issued_count(reply))?;
+    let copied = change.copy_reply()?;
+    operations.reserve(issued_count(&copied))?;
     messages.reserve(1)?;
-    let copied = reply.copy()?;
     Ok(copied)
 }
 

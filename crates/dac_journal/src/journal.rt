@@ -222,7 +222,7 @@ fn prepare_node(
 {
     match node.prepare(config, me, event) {
         Ok(change) => {
-            let (reply, second, third) = three_copies(change.reply())?;
+            let (reply, second, third) = three_copies(&change)?;
             Ok((Some(change), Ok(reply), Ok(second), Ok(third)))
         }
         Err(why) => {
@@ -246,14 +246,14 @@ fn apply_change(node: &mut Node, change: Option<Change>) -> Result<(), NoMemory>
     Ok(())
 }
 
-/// Three copies of a reply.
-fn three_copies(reply: &Reply) -> Result<(Reply, Reply, Reply), NoMemory>
-    ensures { IfOk result
-        (λ r. (r.0 ≡ reply.now) × (r.1 ≡ reply.now) × (r.2 ≡ reply.now)) }
+/// Three copies of the reply of a change.
+fn three_copies(change: &Change) -> Result<(Reply, Reply, Reply), NoMemory>
+    ensures { IfOk result (λ r. (r.0 ≡ change.now.reply) × (r.1 ≡ change.now.reply)
+        × (r.2 ≡ change.now.reply)) }
 {
-    let one = reply.copy()?;
-    let second = reply.copy()?;
-    let third = reply.copy()?;
+    let one = change.copy_reply()?;
+    let second = change.copy_reply()?;
+    let third = change.copy_reply()?;
     Ok((one, second, third))
 }
 

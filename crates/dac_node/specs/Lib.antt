@@ -1,3 +1,4 @@
 pub mod Knowing
 pub mod After
 pub mod Changes
+pub mod Outcomes

@@ -79,12 +79,11 @@ impl Advance {
         !self.deltas.is_empty()
     }
 
-    /// The same, where no delta below this number is kept any more.
-    pub(crate) fn with_trim(mut self, trim: u64) -> Self
-        ensures { result
-            ≡ record { knowledge = self.knowledge; deltas = self.deltas; trim = trim } }
+    /// No delta below this number is kept any more.
+    pub(crate) fn trim_below(&mut self, trim: u64)
+        ensures { self.new
+            ≡ record { knowledge = self.old.knowledge; deltas = self.old.deltas; trim = trim } }
     {
         self.trim = trim;
-        self
     }
 }

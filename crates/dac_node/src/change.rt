@@ -1,6 +1,6 @@
 //! What an accepted event does, prepared before anything changes.
 
-ghost use Rattle.std.specs.Prelude.{◌≡◌, ◌<◌, ◌∷◌, [], not, IfOk, IfErr, None};
+ghost use Rattle.std.specs.Prelude.{◌≡◌, ◌<◌, ◌∷◌, [], not, IfOk, IfErr, MatchOption, None};
 ghost use Rattle.dac_base.specs.declared.limits.TheConstants.{MAX_INCARNATION};
 ghost use Rattle.dac_config.specs.Table.{Table};
 ghost use Rattle.dac_meaning.specs.Below.{is_below};
@@ -31,57 +31,99 @@ pub(crate) enum After {
     GoesOn(Advance),
 }
 
+/// What runs after an event that is no crash, and the reply to it.
+#[derive(Drop)]
+pub(crate) struct Outcome {
+    pub(crate) after: After,
+    pub(crate) reply: Reply,
+}
+
 /// What an accepted event does: the number of the last incarnation from then on, what runs, and the reply.
 ///
-/// [`Node::prepare`](crate::Node::prepare) makes it, and [`Node::apply`](crate::Node::apply) does it.
+/// [`Node::prepare`](crate::Node::prepare) makes it, and [`Node::apply`](crate::Node::apply) does it. It stands behind a
+/// pointer, so that what moves is small. A crash has no outcome there, since it takes no memory.
 #[derive(Drop)]
 pub struct Change {
     pub(crate) last: u64,
-    pub(crate) after: After,
-    pub(crate) reply: Reply,
+    pub(crate) outcome: Option<Box<Outcome, Global>>,
 }
 
 impl Model for Change {
     ghost use Rattle.dac_messages.specs.contracts.reply.Reply as reply_row;
     ghost use Rattle.dac_node.specs.contracts.change.After as after_row;
     ghost use Rattle.dac_node.specs.Changes.{ChangeValue, coded_change};
+    ghost use Rattle.dac_node.specs.Outcomes.{after_of, reply_of};
 
     ghost Value = { ChangeValue };
 
     ghost coded = { coded_change after_row.the_row.coded reply_row.the_row.coded };
 
-    ghost view = { λ a. record { last = a.last; after = a.after; reply = a.reply } };
+    ghost view = { λ a. record {
+      last = a.last;
+      after = after_of a.outcome;
+      reply = reply_of a.outcome;
+    } };
 }
 
 impl Change {
     ghost use Rattle.dac_node.specs.Changes.{BootsBy, Effect};
     ghost use Rattle.dac_node.specs.Knowing.{hearing, knowledge_of};
 
-    /// The reply to the event.
-    pub fn reply(&self) -> &Reply
-        ensures { result.now ≡ self.now.reply }
+    /// The reply to the event, lent. A crash lends none, and its reply is [`Reply::Crashed`].
+    pub fn reply(&self) -> Option<&Reply>
+        ensures { MatchOption result (self.now.reply ≡ Reply.Crashed)
+            (λ reply. reply.now ≡ self.now.reply) }
     {
-        &self.reply
+        match &self.outcome {
+            None => None,
+            Some(outcome) => Some(&outcome.reply),
+        }
+    }
+
+    /// A copy of the reply to the event. [`NoMemory`] is the only error.
+    pub fn copy_reply(&self) -> Result<Reply, NoMemory>
+        ensures { IfOk result (λ reply. reply ≡ self.now.reply) }
+    {
+        match &self.outcome {
+            None => Ok(Reply::Crashed),
+            Some(outcome) => outcome.reply.copy(),
+        }
     }
 
     /// Where it ships an interval that equals this state, it ships a copy of it from then on: the two share memory.
     pub fn ship_copy_of(&mut self, other: &State)
         ensures { self.new ≡ self.old }
     {
-        if let Reply::Shipped(message) = &mut self.reply {
-            make_copy_of(&mut message.body, other);
+        if let Some(outcome) = &mut self.outcome {
+            outcome.share_with(other);
         }
     }
 
-    /// What ran goes on so, with this reply.
-    pub(crate) fn going_on(last: u64, next: Advance, reply: Reply) -> Self
-        ensures { result ≡ record { last = last; after = After.GoesOn next; reply = reply } }
+    /// A crash: the node goes off. It takes no memory.
+    fn crash(last: u64) -> Self
+        ensures { result ≡ record { last = last; after = After.Off; reply = Reply.Crashed } }
     {
         Change {
             last,
-            after: After::GoesOn(next),
-            reply,
+            outcome: None,
         }
+    }
+
+    /// This runs from then on, and this is the reply.
+    pub(crate) fn new(
+        alloc: Global,
+        last: u64,
+        after: After,
+        reply: Reply,
+    ) -> Result<Self, NoMemory>
+        ensures { IfOk result
+            (λ change. change ≡ record { last = last; after = after; reply = reply }) }
+    {
+        let outcome = Box::new(alloc, Outcome { after, reply })?;
+        Ok(Change {
+            last,
+            outcome: Some(outcome),
+        })
     }
 
     /// A controller that is off comes up as this node at this moment.
@@ -101,11 +143,13 @@ impl Change {
         };
         let (running, operation) = Running::new(alloc, config, origin, now)?;
         let running = Box::new(alloc, running)?;
-        Ok(Change {
-            last: last + 1,
-            after: After::Boots(running),
-            reply: Reply::Booted(operation),
-        })
+        let change = Change::new(
+            alloc,
+            last + 1,
+            After::Boots(running),
+            Reply::Booted(operation),
+        )?;
+        Ok(change)
     }
 
     /// What an event that isn't refused does at a running controller. A crash takes no memory.
@@ -121,11 +165,7 @@ impl Change {
     {
         match event {
             Event::Boot { now: _ } => unreachable!(),
-            Event::Crash => Ok(Change {
-                last,
-                after: After::Off,
-                reply: Reply::Crashed,
-            }),
+            Event::Crash => Ok(Change::crash(last)),
             Event::Command(command) => Change::obey(config, last, running, *command),
             Event::Tick { now } => tick(config, last, running, *now),
             Event::Ship { to } => Change::ship(last, running, *to),
@@ -145,7 +185,9 @@ impl Change {
         ensures { IfOk result (Effect config.now last running.now (Event.Command command)) }
     {
         let (next, operation) = running.command(config, command)?;
-        Ok(Change::going_on(last, next, Reply::Issued(operation)))
+        let alloc = running.knowledge.alloc;
+        let change = Change::new(alloc, last, After::GoesOn(next), Reply::Issued(operation))?;
+        Ok(change)
     }
 
     /// What a ship that isn't refused does at a running controller.
@@ -155,7 +197,9 @@ impl Change {
     {
         let message = running.message_to(to)?;
         let next = running.shipped_to(to)?;
-        Ok(Change::going_on(last, next, Reply::Shipped(message)))
+        let alloc = running.knowledge.alloc;
+        let change = Change::new(alloc, last, After::GoesOn(next), Reply::Shipped(message))?;
+        Ok(change)
     }
 
     /// What a message that isn't refused does at a running controller.
@@ -169,7 +213,9 @@ impl Change {
     {
         let next = running.after_message(config, message)?;
         let fresh = next.has_news();
-        Ok(Change::going_on(last, next, Reply::Heard(fresh)))
+        let alloc = running.knowledge.alloc;
+        let change = Change::new(alloc, last, After::GoesOn(next), Reply::Heard(fresh))?;
+        Ok(change)
     }
 
     /// What an operation that comes by itself does at a running controller.
@@ -183,7 +229,20 @@ impl Change {
             ≡ Reply.Heard (not (is_below (meaning_of (operation.now ∷ [])) running.now.state))) }
     {
         let (next, fresh) = running.after_operation(operation)?;
-        Ok(Change::going_on(last, next, Reply::Heard(fresh)))
+        let alloc = running.knowledge.alloc;
+        let change = Change::new(alloc, last, After::GoesOn(next), Reply::Heard(fresh))?;
+        Ok(change)
+    }
+}
+
+impl Outcome {
+    /// Where it ships an interval that equals this state, it ships a copy of it from then on.
+    fn share_with(&mut self, other: &State)
+        ensures { self.new ≡ self.old }
+    {
+        if let Reply::Shipped(message) = &mut self.reply {
+            make_copy_of(&mut message.body, other);
+        }
     }
 }
 

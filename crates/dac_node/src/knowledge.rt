@@ -176,6 +176,18 @@ impl Knowledge {
         })
     }
 
+    /// What goes on where nothing new comes, and this is kept of peers.
+    pub(crate) fn go_on_with(&self, peers: Peers) -> Result<Advance, NoMemory>
+        ensures { IfOk result (λ next. next ≡ adding self.now [] peers) }
+    {
+        let knowledge = self.with_peers(peers)?;
+        Ok(Advance {
+            knowledge,
+            deltas: Vec::new(self.alloc),
+            trim: 0,
+        })
+    }
+
     /// What goes on after a delta comes that is to be added, where this is kept of peers.
     pub(crate) fn add_delta(&self, delta: State, peers: Peers) -> Result<Advance, NoMemory>
         ensures { IfOk result (λ next. next ≡ adding self.now (delta ∷ []) peers) }
@@ -195,12 +207,7 @@ impl Knowledge {
         ensures { IfOk result (λ next. next ≡ hearing self.now body.now peers) }
     {
         if is_below(body, &self.state) {
-            let knowledge = self.with_peers(peers)?;
-            return Ok(Advance {
-                knowledge,
-                deltas: Vec::new(self.alloc),
-                trim: 0,
-            });
+            return self.go_on_with(peers);
         }
         let delta = body.copy()?;
         let next = self.add_delta(delta, peers)?;

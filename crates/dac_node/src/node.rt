@@ -5,7 +5,7 @@ ghost use Rattle.dac_config.specs.Table.{Table};
 ghost use Rattle.dac_model_node.specs.EventRefusals.{refusal_off as refused_off};
 ghost use Rattle.dac_model_node.specs.Deeds.{moment_of};
 
-use crate::change::{After, Change};
+use crate::change::{After, Change, Outcome};
 use crate::running::Running;
 use dac_base::{MAX_INCARNATION, NoMemory, NodeId};
 use dac_config::Config;
@@ -266,7 +266,13 @@ impl Node {
         ensures unchanged { OnErr result (self.new ≡ self.old) }
         ensures off { IfErr result (λ _. (changed self.old change).running ≡ None → ⊥) }
     {
-        let Change { last, after, reply } = change;
+        let Change { last, outcome } = change;
+        let Some(outcome) = outcome else {
+            self.go_off();
+            self.last = last;
+            return Ok(Reply::Crashed);
+        };
+        let Outcome { after, reply } = Box::into_inner(outcome);
         match after {
             After::Off => self.go_off(),
             After::Boots(running) => self.come_up(running),
@@ -284,7 +290,10 @@ impl Node {
     pub fn state_after<'a>(&self, change: &'a Change) -> Option<&'a State>
         ensures { option_copied result ≡ state_of (changed self.now change.now) }
     {
-        match &change.after {
+        let Some(outcome) = &change.outcome else {
+            return None;
+        };
+        match &outcome.after {
             After::Off => None,
             After::Boots(running) => Some(running.state()),
             After::GoesOn(next) => match &self.running {
@@ -298,7 +307,10 @@ impl Node {
     pub fn origin_after(&self, change: &Change) -> Option<Origin>
         ensures { result ≡ origin_of (changed self.now change.now) }
     {
-        match &change.after {
+        let Some(outcome) = &change.outcome else {
+            return None;
+        };
+        match &outcome.after {
             After::Off => None,
             After::Boots(running) => Some(running.origin()),
             After::GoesOn(next) => match &self.running {

@@ -2,6 +2,7 @@
 
 ghost use Rattle.std.specs.Prelude.{◌≡◌, ◌+◌, ◌≤◌, ◌∷◌, [], ◌^◌, length, IfOk, OnOk, OnErr};
 ghost use Rattle.dac_base.specs.declared.limits.TheConstants.{MAX_COUNTER as LAST_NUMBER};
+ghost use Rattle.dac_deltas.specs.KeptDeltas.{trimmed};
 ghost use Rattle.dac_meaning.specs.StateValue.{IsState};
 ghost use Rattle.dac_meaning.specs.Below.{is_below};
 ghost use Rattle.dac_meaning.specs.Meaning.{meaning_of};
@@ -122,7 +123,7 @@ impl Running {
         }
         let (knowledge, deltas, trim) = next.into_parts();
         self.buffer.push_all(deltas)?;
-        self.buffer.trim(trim);
+        drop_below(&mut self.buffer, trim);
         self.knowledge = knowledge;
         self.knowledge.peers.settle();
         Ok(())
@@ -292,6 +293,16 @@ impl Running {
         let peers = known.peers.copy()?;
         known.add_delta(delta, peers)
     }
+}
+
+/// Drops the deltas below a number. Most often there are none, and then the list of them isn't touched.
+fn drop_below(buffer: &mut Buffer<State>, n: u64)
+    ensures { buffer.new ≡ trimmed buffer.old n }
+{
+    if n <= buffer.base() {
+        return;
+    }
+    buffer.trim(n);
 }
 
 /// Whether a message is for this incarnation.

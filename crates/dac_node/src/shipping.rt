@@ -9,6 +9,7 @@ ghost use Rattle.dac_node.specs.Knowing.{adding, hearing, knowledge_of};
 ghost use Rattle.dac_node.specs.After.{from_base, next_by};
 
 use crate::advance::Advance;
+use crate::knowledge::covers;
 use crate::running::Running;
 use dac_base::{NoMemory, NodeId};
 use dac_config::Config;
@@ -105,12 +106,7 @@ impl Running {
     {
         let known = &self.knowledge;
         let peers = known.peers.shipped_to(to)?;
-        let knowledge = known.with_peers(peers)?;
-        Ok(Advance {
-            knowledge,
-            deltas: Vec::new(known.alloc),
-            trim: 0,
-        })
+        known.go_on_with(peers)
     }
 
     /// What goes on after a message is heard. What all other nodes have acknowledged by then is kept no longer.
@@ -126,9 +122,10 @@ impl Running {
         let known = &self.knowledge;
         let count = self.buffer.count();
         let peers = known.peers.heard_from(known.origin, count, message)?;
-        let next = known.hear_body(&message.body, peers)?;
+        let mut next = known.hear_body(&message.body, peers)?;
         let trim = next.knowledge.acked_past(config, self.buffer.base());
-        Ok(next.with_trim(trim))
+        next.trim_below(trim);
+        Ok(next)
     }
 
     /// What goes on after one operation is heard that comes by itself, and whether it is new.
@@ -139,10 +136,14 @@ impl Running {
             (λ both. both.1 ≡ not (is_below (meaning_of (operation.now ∷ [])) self.now.state)) }
     {
         let known = &self.knowledge;
-        let delta = State::delta_of(known.alloc, operation)?;
         let peers = known.peers.copy()?;
-        let next = known.hear_state(&delta, peers)?;
-        let fresh = next.has_news();
-        Ok((next, fresh))
+        // This test takes no memory, and few of the operations that come are new.
+        if covers(&known.state, operation) {
+            let next = known.go_on_with(peers)?;
+            return Ok((next, false));
+        }
+        let delta = State::delta_of(known.alloc, operation)?;
+        let next = known.add_delta(delta, peers)?;
+        Ok((next, true))
     }
 }

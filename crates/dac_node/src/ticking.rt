@@ -28,7 +28,7 @@ use dac_state::{Op, State};
 use std::alloc::Global;
 use std::sync::Arc;
 
-/// What a tick that isn't refused does at a running controller. Where it gives up, that takes no memory.
+/// What a tick that isn't refused does at a running controller.
 pub(crate) fn tick(
     config: &Config,
     last: u64,
@@ -38,16 +38,13 @@ pub(crate) fn tick(
     requires { refusal_to_tick config.now running.now now ≡ None }
     ensures { IfOk result (Effect config.now last running.now (Tick now)) }
 {
+    let alloc = running.knowledge.alloc;
     match running.opening(config, now) {
         Opening::Shut => {
             let next = running.knowledge.held_tick(now)?;
-            Ok(Change::going_on(last, next, Reply::Held))
+            Change::new(alloc, last, After::GoesOn(next), Reply::Held)
         }
-        Opening::GiveUp => Ok(Change {
-            last,
-            after: After::Off,
-            reply: Reply::GaveUp,
-        }),
+        Opening::GiveUp => Change::new(alloc, last, After::Off, Reply::GaveUp),
         Opening::Opened => open_tick(config, last, running, now),
     }
 }
@@ -66,7 +63,9 @@ fn open_tick(config: &Config, last: u64, running: &Running, now: u64) -> Result<
     let noted = Arc::new(known.alloc, waits)?;
     let (state, still) = known.left_by(left, still)?;
     let next = known.after_tick(now, true, noted, state, deltas, still)?;
-    Ok(Change::going_on(last, next, Reply::Ticked { ops, passed }))
+    let reply = Reply::Ticked { ops, passed };
+    let change = Change::new(known.alloc, last, After::GoesOn(next), reply)?;
+    Ok(change)
 }
 
 /// The delta of each operation.

@@ -1,4 +1,4 @@
-use Rattle.std.proofs.Common.{Ok, sym, subst, ◌∙◌}
+use Rattle.std.proofs.Common.{Ok, sym, subst}
 use Rattle.dac_messages.specs.declared.reply.Reply.{Reply}
 use Rattle.dac_model_world.specs.Step.{Steps}
 use Rattle.dac_model_world.specs.laws.Steps.{steps, answered_steps}
@@ -10,7 +10,7 @@ returns-in_ok-reply-in-Ok-clause-steps c =
     let t = c.args.config.now in
     let old = c.args.node.now in
     let change = c.in-Ok.change in
-    subst (λ (r : Reply). Steps t c.args.me old c.args.event.now (changed old change) (Ok r)) (sym (c.in_ok-reply-in-Ok.ensures.0 ∙ c.reply.ensures))
+    subst (λ (r : Reply). Steps t c.args.me old c.args.event.now (changed old change) (Ok r)) (sym c.in_ok-reply-in-Ok.ensures.0)
     (steps t c.args.me old c.args.event.now (changed old change) change.reply c.in-Ok.ensures.ok)
 
 pub returns-else-is_no_memory-clause-steps : goal.returns-else-is_no_memory-clause-steps

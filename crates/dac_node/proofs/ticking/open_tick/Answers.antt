@@ -38,8 +38,8 @@ returns c =
     let items = c.in_ok-deltas.ensures ∙ ap meanings (c.as_slice.ensures ∙ made.ops) in
     let next = c.in_ok-next.ensures ∙ (λ i. ticking k now true (c.in_ok-noted.ensures.ok i) (items i)) in
     let opened = subst (λ (x : RunningValue). opening_at t x now ≡ Opened) (sym c.running.view_is) c.requires.open in
-    subst (λ (x : RunningValue). Effect t c.args.last x (Tick now) c.going_on.result) c.running.view_is
-    (claimed_effect t c.args.last r now opened waits c.in_ok-waits.ensures.noted c.going_on.result (c.going_on.ensures ∙ (λ i. record { last = c.args.last; after = GoesOn (next i); reply = Ticked (made.ops i) (made.passed i) })))
+    subst (λ (x : RunningValue). Effect t c.args.last x (Tick now) c.in_ok-change.change) c.running.view_is
+    (claimed_effect t c.args.last r now opened waits c.in_ok-waits.ensures.noted c.in_ok-change.change (c.in_ok-change.ensures ∙ (λ i. record { last = c.args.last; after = GoesOn (next i); reply = Ticked (made.ops i) (made.passed i) })))
 
 pub after_tick-requires-clause-order : goal.after_tick-requires-clause-order
 after_tick-requires-clause-order c =

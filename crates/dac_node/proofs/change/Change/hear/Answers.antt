@@ -10,5 +10,5 @@ pub returns : goal.returns
 returns c =
     let body = content_of c.args.message.now.body in
     let fresh = told_new c.has_news-fresh.result (is_below body c.args.running.now.state) body c.in_ok-next.next.deltas (ap (λ (n : AdvanceValue). n.deltas) c.in_ok-next.ensures) c.has_news-fresh.ensures in
-    heard_effect c.args.config.now c.args.last c.args.running.now c.args.message.now c.in_ok-next.next (Heard c.has_news-fresh.result) _ c.going_on.ensures
+    heard_effect c.args.config.now c.args.last c.args.running.now c.args.message.now c.in_ok-next.next (Heard c.has_news-fresh.result) _ c.in_ok-change.ensures
     c.in_ok-next.ensures (ap (λ b. Heard b) fresh)

@@ -18,5 +18,5 @@ returns c =
     let op = c.in_ok-next.operation in
     let is = c.in_ok-next.ensures.operation in
     let next = c.in_ok-next.next in
-    going_effect c.args.config.now c.args.last r (Commanded c.args.command) next (Issued op) _ c.going_on.ensures refl
+    going_effect c.args.config.now c.args.last r (Commanded c.args.command) next (Issued op) _ c.in_ok-change.ensures refl
     (ap (λ (n : AdvanceValue). GoesOn n) c.in_ok-next.ensures.next ∙ ap (λ (o : Operation). GoesOn (adding (knowledge_of r) (meaning_of (o ∷ []) ∷ []) r.peers)) is) (ap (λ (o : Operation). Issued o) is)

@@ -9,5 +9,5 @@ use Rattle.dac_node.proofs.change.Change.ship.Goals as goal
 
 pub returns : goal.returns
 returns c = λ t.
-    going_effect t c.args.last c.args.running.now (Ship c.args.to) c.in_ok-next.next (Shipped c.in_ok-message.message) _ c.going_on.ensures refl
+    going_effect t c.args.last c.args.running.now (Ship c.args.to) c.in_ok-next.next (Shipped c.in_ok-message.message) _ c.in_ok-change.ensures refl
     (ap (λ (n : AdvanceValue). GoesOn n) c.in_ok-next.ensures) (ap (λ (m : Message). Shipped m) c.in_ok-message.ensures)
