@@ -20,6 +20,7 @@ pub use state::State;
 mod coding;
 mod covering;
 mod decoding;
+mod delta;
 mod heard;
 mod parts;
 mod state;

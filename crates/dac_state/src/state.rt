@@ -2,14 +2,15 @@
 ghost use Rattle.std.specs.Prelude.{◌≡◌, ◌∷◌, [], IfOk};
 ghost use Rattle.dac_meaning.specs.StateValue.{drains_of, permissions_of, wishes_of};
 ghost use Rattle.dac_meaning.specs.Meaning.{meaning_of};
-ghost use Rattle.dac_state.specs.Heard.{heard_beside};
 
-use crate::heard::Heard;
+use crate::delta::{
+    claims_by, drains_by, heard_by, lives_by, permissions_by, replaced_by, wishes_by,
+};
 use crate::parts::Parts;
 use dac_base::NoMemory;
 use dac_chains::{Claims, Lives};
-use dac_dots::{Context, SharedContext};
-use dac_lattice::{Bottom, Lattice, Piece};
+use dac_dots::Context;
+use dac_lattice::{Bottom, Lattice};
 use dac_meaning::{Op, laws};
 use dac_wishes::{Drains, Permissions, Wishes};
 use std::alloc::Global;
@@ -63,12 +64,13 @@ impl State {
         ensures { IfOk result (λ state. state ≡ meaning_of (op.now ∷ [])) }
     {
         laws::parts_of_meaning();
-        let wishes = wishes_by(alloc, op)?;
+        let over = replaced_by(alloc, op)?;
+        let (wishes, over) = wishes_by(alloc, op, over)?;
         let heard = heard_by(alloc, op, wishes.context())?;
-        let permissions = permissions_by(alloc, op, wishes.shared_context())?;
+        let (permissions, over) = permissions_by(alloc, op, over, wishes.shared_context())?;
         let lives = lives_by(alloc, op)?;
         let claims = claims_by(alloc, op)?;
-        let drains = drains_by(alloc, op, wishes.shared_context())?;
+        let drains = drains_by(alloc, op, over, wishes.shared_context())?;
         let parts = Parts::beside(alloc, heard, permissions, wishes, lives, claims, drains);
         let state = State::of(parts)?;
         Ok(state)
@@ -218,74 +220,4 @@ impl Bottom for State {
             kept: KeptParts::Here(parts),
         }
     }
-}
-
-/// The dot of an operation, beside the dots that it knows. It knows no other where it replaces none.
-fn heard_by(alloc: Global, op: &Op, known: &Context) -> Result<Heard, NoMemory>
-    requires { known.now ≡ (meaning_of (op.now ∷ [])).known }
-    ensures { IfOk result
-        (λ heard. heard_beside heard known.now ≡ (meaning_of (op.now ∷ [])).heard) }
-{
-    laws::delta_is_meaning();
-    if op.act().over().is_empty() {
-        return Ok(Heard::All);
-    }
-    let mut heard = Context::empty(alloc);
-    heard.insert(op.dot())?;
-    Ok(Heard::These(heard))
-}
-
-/// What an operation permits, where these are the dots that it knows.
-fn permissions_by(alloc: Global, op: &Op, known: &SharedContext) -> Result<Permissions, NoMemory>
-    requires { known.now ≡ (meaning_of (op.now ∷ [])).known }
-    ensures { IfOk result (λ permissions. permissions ≡ permissions_of (meaning_of (op.now ∷ []))) }
-{
-    laws::delta_is_meaning();
-    op.tells_invariant();
-    let act = op.permit_act(alloc)?;
-    let permissions = Permissions::delta_beside(alloc, op.dot(), &act, known)?;
-    Ok(permissions)
-}
-
-/// What an operation wishes and knows.
-fn wishes_by(alloc: Global, op: &Op) -> Result<Wishes, NoMemory>
-    ensures { IfOk result (λ wishes. wishes ≡ wishes_of (meaning_of (op.now ∷ []))) }
-{
-    laws::delta_is_meaning();
-    op.tells_invariant();
-    let act = op.wish_act(alloc)?;
-    let wishes = Wishes::delta(alloc, op.dot(), &act)?;
-    Ok(wishes)
-}
-
-/// What an operation says of a node's life.
-fn lives_by(alloc: Global, op: &Op) -> Result<Lives, NoMemory>
-    ensures { IfOk result (λ lives. lives ≡ (meaning_of (op.now ∷ [])).lives) }
-{
-    laws::delta_is_meaning();
-    let act = op.life_act();
-    let lives = Lives::delta(alloc, op.dot(), &act)?;
-    Ok(lives)
-}
-
-/// What an operation claims.
-fn claims_by(alloc: Global, op: &Op) -> Result<Claims, NoMemory>
-    ensures { IfOk result (λ claims. claims ≡ (meaning_of (op.now ∷ [])).claims) }
-{
-    laws::delta_is_meaning();
-    let act = op.claim_act();
-    let claims = Claims::delta(alloc, op.dot(), &act)?;
-    Ok(claims)
-}
-
-/// What an operation drains, where these are the dots that it knows.
-fn drains_by(alloc: Global, op: &Op, known: &SharedContext) -> Result<Drains, NoMemory>
-    requires { known.now ≡ (meaning_of (op.now ∷ [])).known }
-    ensures { IfOk result (λ drains. drains ≡ drains_of (meaning_of (op.now ∷ []))) }
-{
-    laws::delta_is_meaning();
-    op.tells_invariant();
-    let act = op.drain_act(alloc)?;
-    let drains = Drains::delta_beside(alloc, op.dot(), &act, known)?;
-    Ok(drains)
 }

@@ -9,8 +9,8 @@ beside-parts-requires c =
     are_parts
     (record {
       heard = ap (heard_beside c.in_ok-heard.heard) (sym c.context.ensures) ∙ c.in_ok-heard.ensures;
-      permissions = c.in_ok-permissions.ensures;
-      wishes = c.in_ok-wishes.ensures;
+      permissions = c.in_ok-permissions.ensures.permissions;
+      wishes = c.in_ok-wishes.ensures.wishes;
       lives = c.in_ok-lives.ensures;
       claims = c.in_ok-claims.ensures;
       drains = c.in_ok-drains.ensures;
@@ -18,10 +18,10 @@ beside-parts-requires c =
     (c.parts_of_meaning.ensures.state (c.args.op.now ∷ []))
 
 pub heard_by-requires : goal.heard_by-requires
-heard_by-requires c = c.context.ensures ∙ ap (λ (v : WishesValue). v.known) c.in_ok-wishes.ensures
+heard_by-requires c = c.context.ensures ∙ ap (λ (v : WishesValue). v.known) c.in_ok-wishes.ensures.wishes
 
-pub permissions_by-requires : goal.permissions_by-requires
-permissions_by-requires c = c.shared_context.ensures ∙ ap (λ (v : WishesValue). v.known) c.in_ok-wishes.ensures
+pub permissions_by-requires-clause-known : goal.permissions_by-requires-clause-known
+permissions_by-requires-clause-known c = c.shared_context.ensures ∙ ap (λ (v : WishesValue). v.known) c.in_ok-wishes.ensures.wishes
 
-pub drains_by-requires : goal.drains_by-requires
-drains_by-requires c = c.shared_context-2.ensures ∙ ap (λ (v : WishesValue). v.known) c.in_ok-wishes.ensures
+pub drains_by-requires-clause-known : goal.drains_by-requires-clause-known
+drains_by-requires-clause-known c = c.shared_context-2.ensures ∙ ap (λ (v : WishesValue). v.known) c.in_ok-wishes.ensures.wishes

@@ -3,7 +3,7 @@ use Rattle.std.proofs.lemmas.Bool.{eqb-true}
 use Rattle.dac_origins.specs.declared.dot.Dot.{Dot}
 use Rattle.dac_wishes.specs.WishesValue.{WishesValue}
 use Rattle.dac_state.proofs.Hearing.{names_itself}
-use Rattle.dac_state.proofs.state.heard_by.Goals as goal
+use Rattle.dac_state.proofs.delta.heard_by.Goals as goal
 
 none : (l : List Dot) → length l ≡ 0 → l ≡ []
 none [] e = λ i. []
