@@ -275,7 +275,7 @@ impl World {
     }
 
     /// Does what a node prepared, and answers memory that is refused as a refusal. A crash takes none.
-    fn go_on(&mut self, node: NodeId, change: Change) -> Result<Reply, WorldFault>
+    fn go_on(&mut self, node: NodeId, mut change: Change) -> Result<Reply, WorldFault>
         requires inside { node.0 < length self.old.nodes }
         requires ready { IsReadyAt self.old.nodes node change }
         ensures ok { IfOk result
@@ -284,29 +284,29 @@ impl World {
         ensures crash { IfErr result (λ _. change.reply ≡ Reply.Crashed → ⊥) }
         ensures unchanged { OnErr result (self.new ≡ self.old) }
     {
-        match self.change(node, change) {
-            Ok(reply) => Ok(reply),
+        match self.change(node, &mut change) {
+            Ok(()) => Ok(change.into_reply()),
             Err(NoMemory) => Err(WorldFault::Refused(Refusal::NoMemory)),
         }
     }
 
-    /// Does what a node prepared. All that takes memory comes before what can't be taken back.
-    fn change(&mut self, node: NodeId, mut change: Change) -> Result<Reply, NoMemory>
+    /// Does what a node prepared, and leaves the reply in it. All that takes memory comes before what can't be taken back.
+    fn change(&mut self, node: NodeId, change: &mut Change) -> Result<(), NoMemory>
         requires inside { node.0 < length self.old.nodes }
-        requires ready { IsReadyAt self.old.nodes node change }
-        ensures ok { IfOk result
-            (λ reply. Goes self.old node (λ v. changed v change) change.reply reply self.new) }
-        ensures crash { IfErr result (λ _. change.reply ≡ Reply.Crashed → ⊥) }
+        requires ready { IsReadyAt self.old.nodes node change.old }
+        ensures ok { OnOk result (Goes self.old node (λ v. changed v change.old) change.old.reply
+            change.new.reply self.new) }
+        ensures crash { IfErr result (λ _. change.old.reply ≡ Reply.Crashed → ⊥) }
         ensures unchanged { OnErr result (self.new ≡ self.old) }
     {
-        if notes_nothing(&change) {
+        if notes_nothing(change) {
             return change_node(&mut self.nodes, node, change);
         }
-        share_last(self.messages.as_slice(), &mut change);
-        let noted = make_room(&mut self.operations, &mut self.messages, &change)?;
-        let reply = change_node(&mut self.nodes, node, change)?;
+        share_last(self.messages.as_slice(), change);
+        let noted = make_room(&mut self.operations, &mut self.messages, change)?;
+        change_node(&mut self.nodes, node, change)?;
         note(&mut self.operations, &mut self.messages, noted);
-        Ok(reply)
+        Ok(())
     }
 }
 
@@ -338,17 +338,17 @@ fn notes_nothing(change: &Change) -> bool
     }
 }
 
-/// Does what a node prepared.
-fn change_node(nodes: &mut Vec<Node>, node: NodeId, change: Change) -> Result<Reply, NoMemory>
+/// Does what a node prepared, and leaves the reply in it.
+fn change_node(nodes: &mut Vec<Node>, node: NodeId, change: &mut Change) -> Result<(), NoMemory>
     requires inside { node.0 < length nodes.old.items }
-    requires ready { IsReadyAt nodes.old.items node change }
-    ensures reply { IfOk result (λ reply. reply ≡ change.reply) }
+    requires ready { IsReadyAt nodes.old.items node change.old }
+    ensures reply { change.new.reply ≡ change.old.reply }
     ensures nodes { OnOk result
-        (NodeChanges nodes.old.items node (λ v. changed v change) nodes.new.items) }
-    ensures crash { IfErr result (λ _. change.reply ≡ Reply.Crashed → ⊥) }
+        (NodeChanges nodes.old.items node (λ v. changed v change.old) nodes.new.items) }
+    ensures crash { IfErr result (λ _. change.old.reply ≡ Reply.Crashed → ⊥) }
     ensures unchanged { OnErr result (nodes.new.items ≡ nodes.old.items) }
 {
-    nodes[node.0 as usize].apply(change)
+    nodes[node.0 as usize].perform(change)
 }
 
 /// How many operations a reply issues.

@@ -90,6 +90,16 @@ impl Change {
         }
     }
 
+    /// The reply to the event, when it is done.
+    pub fn into_reply(self) -> Reply
+        ensures { result ≡ self.reply }
+    {
+        match self.outcome {
+            None => Reply::Crashed,
+            Some(outcome) => Box::into_inner(outcome).reply,
+        }
+    }
+
     /// Where it ships an interval that equals this state, it ships a copy of it from then on: the two share memory.
     pub fn ship_copy_of(&mut self, other: &State)
         ensures { self.new ≡ self.old }

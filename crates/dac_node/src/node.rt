@@ -15,6 +15,7 @@ use dac_origins::Origin;
 use dac_state::{Op, State};
 use std::alloc::Global;
 use std::marker::Model;
+use std::mem::replace;
 
 /// A controller: off, where it keeps the number of its last incarnation alone, or running.
 ///
@@ -59,6 +60,7 @@ impl Node {
     ghost use Rattle.dac_model_node.specs.Effect.{HasEffect};
     ghost use Rattle.dac_model_node.specs.Shipping.{ShipsSo};
     ghost use Rattle.dac_node.specs.Changes.{changed, Fits, Prepared};
+    ghost use Rattle.dac_node.specs.After.{running_after, FitsIn, ShipsOwnIn};
     ghost use Rattle.dac_model_node.specs.Hearing.{HearsExactly};
     ghost use Rattle.dac_model_node.specs.Refused.{IsAnsweredBy, IsFree};
 
@@ -259,31 +261,35 @@ impl Node {
     /// Does what was prepared, and gives the reply. It is a step of the event where this node prepared the change, and
     /// has been as it is since then. [`NoMemory`] is the only error, and leaves all as it was. A node that goes off
     /// takes none.
-    pub fn apply(&mut self, change: Change) -> Result<Reply, NoMemory>
+    pub fn apply(&mut self, mut change: Change) -> Result<Reply, NoMemory>
         requires { Fits self.old change }
         ensures new { OnOk result (self.new ≡ changed self.old change) }
         ensures reply { IfOk result (λ reply. reply ≡ change.reply) }
         ensures unchanged { OnErr result (self.new ≡ self.old) }
         ensures off { IfErr result (λ _. (changed self.old change).running ≡ None → ⊥) }
     {
+        self.perform(&mut change)?;
+        Ok(change.into_reply())
+    }
+
+    /// Does what was prepared, as [`Node::apply`] does, and leaves the reply in the change. Nothing else of the change is
+    /// to be used from then on.
+    pub fn perform(&mut self, change: &mut Change) -> Result<(), NoMemory>
+        requires { Fits self.old change.old }
+        ensures new { OnOk result (self.new ≡ changed self.old change.old) }
+        ensures reply { change.new.reply ≡ change.old.reply }
+        ensures unchanged { OnErr result (self.new ≡ self.old) }
+        ensures off { IfErr result (λ _. (changed self.old change.old).running ≡ None → ⊥) }
+    {
         let Change { last, outcome } = change;
         let Some(outcome) = outcome else {
             self.go_off();
-            self.last = last;
-            return Ok(Reply::Crashed);
+            self.last = *last;
+            return Ok(());
         };
-        let Outcome { after, reply } = Box::into_inner(outcome);
-        match after {
-            After::Off => self.go_off(),
-            After::Boots(running) => self.come_up(running),
-            After::GoesOn(next) => {
-                if let Some(running) = &mut self.running {
-                    running.go_on(next, &reply)?;
-                }
-            }
-        }
-        self.last = last;
-        Ok(reply)
+        self.come_to(outcome)?;
+        self.last = *last;
+        Ok(())
     }
 
     /// The state once it does what was prepared, if it runs then.
@@ -318,6 +324,31 @@ impl Node {
                 Some(_running) => Some(next.origin()),
             },
         }
+    }
+
+    /// This comes of what runs. The reply stays where it is.
+    fn come_to(&mut self, outcome: &mut Outcome) -> Result<(), NoMemory>
+        requires numbers { FitsIn self.old.running outcome.old.after }
+        requires ships { ShipsOwnIn self.old.running outcome.old.reply }
+        ensures new { OnOk result (self.new ≡ record {
+          last = self.old.last;
+          running = running_after outcome.old.after self.old.running;
+        }) }
+        ensures reply { outcome.new.reply ≡ outcome.old.reply }
+        ensures unchanged { OnErr result (self.new ≡ self.old) }
+        ensures off { IfErr result
+            (λ _. running_after outcome.old.after self.old.running ≡ None → ⊥) }
+    {
+        match replace(&mut outcome.after, After::Off) {
+            After::Off => self.go_off(),
+            After::Boots(running) => self.come_up(running),
+            After::GoesOn(next) => {
+                if let Some(running) = &mut self.running {
+                    running.go_on(next, &outcome.reply)?;
+                }
+            }
+        }
+        Ok(())
     }
 
     /// Nothing runs any more.

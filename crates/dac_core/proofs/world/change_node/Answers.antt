@@ -15,7 +15,7 @@ returns-clause-nodes c =
     let me = c.args.node in
     let old = c.index_mut.result.now in
     let there : slice_get items me.0 ≡ Some old = slice_get_read items (length items) me.0 old refl c.requires.inside c.index_mut.ensures.value in
-    on_ok_weaker c.apply.result (λ is. record {
-      count = length-set items me.0 c.apply.new.self;
-      each = λ n. slice_get-set items me.0 n c.apply.new.self c.requires.inside ∙ sym (changed_at items me old (λ v. changed v c.args.change) there c.apply.new.self is n);
-    }) c.apply.ensures.new
+    on_ok_weaker c.perform.result (λ is. record {
+      count = length-set items me.0 c.perform.new.self;
+      each = λ n. slice_get-set items me.0 n c.perform.new.self c.requires.inside ∙ sym (changed_at items me old (λ v. changed v c.args.change.now) there c.perform.new.self is n);
+    }) c.perform.ensures.new
