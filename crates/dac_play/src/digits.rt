@@ -16,7 +16,7 @@ fn digit(value: u8) -> u8
     }
 }
 
-/// Writes each byte as its two digits, over as many as there is room for.
+/// Writes each byte as its two digits. There is room for just these.
 pub fn write_digits(bytes: &[u8], digits: &mut [u8])
     requires { length digits.old ≡ 2 * length bytes.now }
     ensures { digits.new ≡ encode_lower bytes.now }
