@@ -2,6 +2,7 @@
 ghost use Rattle.std.specs.Prelude.{◌≡◌, [], ◌∷◌, ◌++◌, IfOk};
 ghost use Rattle.dac_bytes.specs.Numbers.{u8_bytes, u16_bytes, u32_bytes, u64_bytes};
 ghost use Rattle.dac_bytes.specs.Spelling.{dot_bytes, incarnation_bytes, origin_bytes};
+ghost use Rattle.dac_bytes.specs.declared.version.Version.TheVariants.{One, Two};
 
 use crate::version::Version;
 use dac_base::NoMemory;
@@ -138,22 +139,70 @@ impl ByteWriter {
     }
 
     /// Who issued an operation: the node in one byte and its incarnation.
-    #[tactic(auto, unfolding(crate::specs::Spelling::origin_bytes))]
     pub fn write_origin(self, version: Version, origin: Origin) -> Result<Self, NoMemory>
         ensures { IfOk result (λ written. written ≡ self ++ origin_bytes version origin) }
     {
-        let written = self
-            .write_u8(origin.node.0)?
-            .write_incarnation(version, origin.inc)?;
-        Ok(written)
+        match version {
+            Version::One => self.write_bytes(&short_origin(origin)),
+            Version::Two => self.write_bytes(&long_origin(origin)),
+        }
     }
 
     /// The name of an operation: its origin and its counter in eight bytes.
-    #[tactic(auto, unfolding(crate::specs::Spelling::dot_bytes))]
     pub fn write_dot(self, version: Version, dot: Dot) -> Result<Self, NoMemory>
         ensures { IfOk result (λ written. written ≡ self ++ dot_bytes version dot) }
     {
-        let written = self.write_origin(version, dot.origin)?.write_u64(dot.n)?;
-        Ok(written)
+        match version {
+            Version::One => self.write_bytes(&short_dot(dot)),
+            Version::Two => self.write_bytes(&long_dot(dot)),
+        }
     }
+}
+
+/// An origin as version one has it.
+#[tactic(auto, unfolding(crate::specs::Spelling::origin_bytes, crate::specs::Spelling::incarnation_bytes, crate::specs::Numbers::u8_bytes))]
+fn short_origin(origin: Origin) -> [u8; 5]
+    ensures { result ≡ origin_bytes One origin }
+{
+    let node = u8::to_be_bytes(origin.node.0);
+    let inc = origin.inc.to_be_bytes();
+    [node[0], inc[4], inc[5], inc[6], inc[7]]
+}
+
+/// An origin as version two has it.
+#[tactic(auto, unfolding(crate::specs::Spelling::origin_bytes, crate::specs::Spelling::incarnation_bytes, crate::specs::Numbers::u8_bytes))]
+fn long_origin(origin: Origin) -> [u8; 9]
+    ensures { result ≡ origin_bytes Two origin }
+{
+    let node = u8::to_be_bytes(origin.node.0);
+    let inc = origin.inc.to_be_bytes();
+    [
+        node[0], inc[0], inc[1], inc[2], inc[3], inc[4], inc[5], inc[6], inc[7],
+    ]
+}
+
+/// A dot as version one has it.
+#[tactic(auto, unfolding(crate::specs::Spelling::dot_bytes, crate::specs::Spelling::origin_bytes, crate::specs::Spelling::incarnation_bytes, crate::specs::Numbers::u8_bytes, crate::specs::Numbers::u64_bytes))]
+fn short_dot(dot: Dot) -> [u8; 13]
+    ensures { result ≡ dot_bytes One dot }
+{
+    let origin = short_origin(dot.origin);
+    let n = dot.n.to_be_bytes();
+    [
+        origin[0], origin[1], origin[2], origin[3], origin[4], n[0], n[1], n[2], n[3], n[4], n[5],
+        n[6], n[7],
+    ]
+}
+
+/// A dot as version two has it.
+#[tactic(auto, unfolding(crate::specs::Spelling::dot_bytes, crate::specs::Spelling::origin_bytes, crate::specs::Spelling::incarnation_bytes, crate::specs::Numbers::u8_bytes, crate::specs::Numbers::u64_bytes))]
+fn long_dot(dot: Dot) -> [u8; 17]
+    ensures { result ≡ dot_bytes Two dot }
+{
+    let origin = long_origin(dot.origin);
+    let n = dot.n.to_be_bytes();
+    [
+        origin[0], origin[1], origin[2], origin[3], origin[4], origin[5], origin[6], origin[7],
+        origin[8], n[0], n[1], n[2], n[3], n[4], n[5], n[6], n[7],
+    ]
 }

@@ -1,6 +1,6 @@
 //! Names of nodes and applications, as Erlang writes atoms.
 
-ghost use Rattle.std.specs.Prelude.{◌≡◌, ◌↔◌, ◌++◌, IfOk, OnOk, IsTrue};
+ghost use Rattle.std.specs.Prelude.{◌≡◌, ◌↔◌, ◌++◌, IfOk, OnOk, IsTrue, codes};
 ghost use Rattle.std.specs.List.{list_all};
 ghost use Rattle.dac_tokens.specs.Scan.{is_name_byte};
 ghost use Rattle.dac_tokens.specs.TokenGrammar.{IsBareAtom};
@@ -54,16 +54,26 @@ fn quote_of(name: &[u8]) -> &'static [u8]
     }
 }
 
+/// Puts a name between quotes behind a text.
+fn put_quoted_name(text: &mut Vec<u8>, name: &[u8]) -> Result<(), NoMemory>
+    ensures { OnOk result
+        (text.new.items ≡ text.old.items ++ (codes "'" ++ (name.now ++ codes "'"))) }
+{
+    text.push(b'\'')?;
+    text.extend_from_slice(name)?;
+    text.push(b'\'')?;
+    Ok(())
+}
+
 /// Puts a name behind a text as the program prints it: bare where that is an atom, else between quotes.
 /// [`NoMemory`] is the only error.
 pub fn put_printed_name(text: &mut Vec<u8>, name: &[u8]) -> Result<(), NoMemory>
     ensures { OnOk result (text.new.items ≡ text.old.items ++ name_text name.now) }
 {
-    let quote = quote_of(name);
-    text.extend_from_slice(quote)?;
-    text.extend_from_slice(name)?;
-    text.extend_from_slice(quote)?;
-    Ok(())
+    if !is_bare(name) {
+        return put_quoted_name(text, name);
+    }
+    Ok(text.extend_from_slice(name)?)
 }
 
 /// A name as the program prints it. [`NoMemory`] is the only error.

@@ -1,7 +1,7 @@
 //! The writing side: each part after what a writer has.
 ghost use Rattle.std.specs.Prelude.{◌≡◌, ◌++◌, IfOk};
 ghost use Rattle.dac_part_bytes.specs.Spelling.{claim_bytes, claims_bytes, down_code, drains_bytes, from_code, how_code, key_bytes, keyed_dots_bytes, keyed_votes_bytes, life_bytes, lives_bytes, manner_bytes, permits_bytes, said_code, starts_bytes, vote_bytes, votes_bytes, votes_of_key_bytes};
-ghost use Rattle.dac_bytes.specs.declared.version.Version.TheVariants.{Two};
+ghost use Rattle.dac_bytes.specs.declared.version.Version.TheVariants.{One, Two};
 ghost use Rattle.dac_bytes.specs.Spelling.{origin_bytes};
 ghost use Rattle.dac_origins.specs.Dots.{origin_cmp};
 ghost use Rattle.dac_lattice.specs.declared.flags.Flag.TheVariants.{Down, Up};
@@ -15,18 +15,37 @@ use dac_wishes::{Drains, Key, Permissions, Wishes};
 
 /// A key: its application in two bytes, its node in one, and the incarnation as the version has it. [`NoMemory`] is the
 /// only error; the writer is gone then.
-#[tactic(auto, unfolding(crate::specs::Spelling::key_bytes))]
 pub fn write_key(writer: ByteWriter, version: Version, key: Key) -> Result<ByteWriter, NoMemory>
     ensures { IfOk result (λ written. written ≡ writer ++ key_bytes version key) }
 {
-    let written = writer.write_u16(key.app.0)?.write_origin(
-        version,
-        Origin {
-            node: key.node,
-            inc: key.inc,
-        },
-    )?;
-    Ok(written)
+    match version {
+        Version::One => writer.write_bytes(&short_key(key)),
+        Version::Two => writer.write_bytes(&long_key(key)),
+    }
+}
+
+/// A key as version one has it.
+#[tactic(auto, unfolding(crate::specs::Spelling::key_bytes, dac_bytes::specs::Spelling::origin_bytes, dac_bytes::specs::Spelling::incarnation_bytes, dac_bytes::specs::Numbers::u8_bytes, dac_bytes::specs::Numbers::u16_bytes))]
+fn short_key(key: Key) -> [u8; 7]
+    ensures { result ≡ key_bytes One key }
+{
+    let app = key.app.0.to_be_bytes();
+    let node = u8::to_be_bytes(key.node.0);
+    let inc = key.inc.to_be_bytes();
+    [app[0], app[1], node[0], inc[4], inc[5], inc[6], inc[7]]
+}
+
+/// A key as version two has it.
+#[tactic(auto, unfolding(crate::specs::Spelling::key_bytes, dac_bytes::specs::Spelling::origin_bytes, dac_bytes::specs::Spelling::incarnation_bytes, dac_bytes::specs::Numbers::u8_bytes, dac_bytes::specs::Numbers::u16_bytes))]
+fn long_key(key: Key) -> [u8; 11]
+    ensures { result ≡ key_bytes Two key }
+{
+    let app = key.app.0.to_be_bytes();
+    let node = u8::to_be_bytes(key.node.0);
+    let inc = key.inc.to_be_bytes();
+    [
+        app[0], app[1], node[0], inc[0], inc[1], inc[2], inc[3], inc[4], inc[5], inc[6], inc[7],
+    ]
 }
 
 /// What a vote says, 0 for false and 1 for true, where `truth` is the flag that stands for true.

@@ -10,6 +10,7 @@
 
 mod answers;
 mod checking;
+mod digits;
 mod ending;
 mod pairs;
 mod sharing;

@@ -1,24 +1,47 @@
 //! The lines that the program prints, each ended by a line feed.
 
-ghost use Rattle.std.specs.Prelude.{◌≡◌, IfOk};
+ghost use Rattle.std.specs.Prelude.{◌≡◌, ◌++◌, IfOk, OnOk};
+ghost use Rattle.std.specs.Fmt.{decimal};
 ghost use Rattle.dac_play.specs.Texts.{booted_text, crashed_text, held_text, gave_up_text, issued_text, shipped_text, shared_text, heard_text, no_message_text, no_operation_text, refused_text, same_text, hex_text, input_fault_text, script_fault_text, config_fault_text, failure_text};
 
+use crate::digits::write_digits;
 use dac_base::NoMemory;
 use dac_config::put_printed_name;
 use dac_core::Body;
 use dac_script::{Failure, InputFault, ScriptFault};
+use dac_status::put_number;
 use dac_tokens::ConfigFault;
 use std::alloc::Global;
 
+/// How many bytes a line mostly has at most. A line that has more grows.
+const ROOM: usize = 64;
+
 /// What is printed where memory was refused.
 pub const OUT_OF_MEMORY: &str = "out of memory\n";
+
+/// Puts a number behind a text, in decimal digits. Most numbers have 64 bits, and are put as such.
+fn put_large_number(text: &mut Vec<u8>, number: u128) -> Result<(), NoMemory>
+    ensures { OnOk result (text.new.items ≡ text.old.items ++ decimal number) }
+{
+    if number <= u128::from(u64::MAX) {
+        return put_number(text, number as u64);
+    }
+    put_large_number(text, number / 10)?;
+    text.push(b'0' + (number % 10) as u8)?;
+    Ok(())
+}
 
 /// A node booted under this incarnation, which issued the operation of this number.
 pub fn booted_line(alloc: Global, incarnation: u64, operation: usize) -> Result<Vec<u8>, NoMemory>
     ensures { IfOk result (λ line. line.items ≡ booted_text incarnation operation) }
 {
-    let line = format!(in alloc; "booted {incarnation} op {operation}\n")?;
-    Ok(line.into_bytes())
+    let mut line = Vec::with_capacity(alloc, ROOM)?;
+    line.extend_from_slice(b"booted ")?;
+    put_number(&mut line, incarnation)?;
+    line.extend_from_slice(b" op ")?;
+    put_number(&mut line, operation as u64)?;
+    line.push(b'\n')?;
+    Ok(line)
 }
 
 /// A node issued the operation of this number, under its incarnation and with this counter.
@@ -32,10 +55,16 @@ pub fn issued_line(
     ensures { IfOk result
         (λ line. line.items ≡ issued_text operation node.now incarnation counter) }
 {
-    let mut line = format!(in alloc; "issued {operation} ")?.into_bytes();
+    let mut line = Vec::with_capacity(alloc, ROOM)?;
+    line.extend_from_slice(b"issued ")?;
+    put_number(&mut line, operation as u64)?;
+    line.push(b' ')?;
     put_printed_name(&mut line, node)?;
-    let rest = format!(in alloc; " {incarnation} {counter}\n")?;
-    line.extend_from_slice(rest.as_bytes())?;
+    line.push(b' ')?;
+    put_number(&mut line, incarnation)?;
+    line.push(b' ')?;
+    put_number(&mut line, counter)?;
+    line.push(b'\n')?;
     Ok(line)
 }
 
@@ -65,26 +94,33 @@ pub fn gave_up_line() -> &'static str
 pub fn shipped_line(alloc: Global, message: usize, body: &Body) -> Result<Vec<u8>, NoMemory>
     ensures { IfOk result (λ line. line.items ≡ shipped_text message body.now) }
 {
-    let line = match body {
+    let mut line = Vec::with_capacity(alloc, ROOM)?;
+    line.extend_from_slice(b"shipped ")?;
+    put_number(&mut line, message as u64)?;
+    match body {
         Body::Whole(state) => {
-            let heard = state.heard().len();
-            format!(in alloc; "shipped {message} whole {heard}\n")?
+            line.extend_from_slice(b" whole ")?;
+            put_large_number(&mut line, state.heard().len())?;
         }
         Body::Interval(state) => {
-            let heard = state.heard().len();
-            format!(in alloc; "shipped {message} interval {heard}\n")?
+            line.extend_from_slice(b" interval ")?;
+            put_large_number(&mut line, state.heard().len())?;
         }
-        Body::Nothing => format!(in alloc; "shipped {message} nothing\n")?,
-    };
-    Ok(line.into_bytes())
+        Body::Nothing => line.extend_from_slice(b" nothing")?,
+    }
+    line.push(b'\n')?;
+    Ok(line)
 }
 
 /// So many messages were shipped, and each was delivered at once.
 pub fn shared_line(alloc: Global, messages: usize) -> Result<Vec<u8>, NoMemory>
     ensures { IfOk result (λ line. line.items ≡ shared_text messages) }
 {
-    let line = format!(in alloc; "shared {messages}\n")?;
-    Ok(line.into_bytes())
+    let mut line = Vec::with_capacity(alloc, ROOM)?;
+    line.extend_from_slice(b"shared ")?;
+    put_number(&mut line, messages as u64)?;
+    line.push(b'\n')?;
+    Ok(line)
 }
 
 /// A node heard a message or an operation, which told it something or nothing new.
@@ -118,8 +154,13 @@ pub fn no_operation_line(alloc: Global, operation: u64) -> Result<Vec<u8>, NoMem
 pub fn refused_line(alloc: Global, number: u8, name: &str) -> Result<Vec<u8>, NoMemory>
     ensures { IfOk result (λ line. line.items ≡ refused_text number name.now) }
 {
-    let line = format!(in alloc; "refused {number} {name}\n")?;
-    Ok(line.into_bytes())
+    let mut line = Vec::with_capacity(alloc, ROOM)?;
+    line.extend_from_slice(b"refused ")?;
+    put_number(&mut line, u64::from(number))?;
+    line.push(b' ')?;
+    line.extend_from_slice(name.as_bytes())?;
+    line.push(b'\n')?;
+    Ok(line)
 }
 
 /// Two nodes hold states of the same bytes, or not.
@@ -133,7 +174,8 @@ pub fn same_line(same: bool) -> &'static str
 pub fn hex_line(alloc: Global, bytes: &[u8]) -> Result<Vec<u8>, NoMemory>
     ensures { IfOk result (λ line. line.items ≡ hex_text bytes.now) }
 {
-    let mut line = hex::encode(alloc, bytes)?.into_bytes();
+    let mut line = vec![in alloc; 0u8; 2 * bytes.len()]?;
+    write_digits(bytes, &mut line);
     line.push(b'\n')?;
     Ok(line)
 }

@@ -8,7 +8,7 @@ use dac_base::{AppId, NoMemory, NodeId};
 use dac_chains::How;
 use dac_config::{Config, put_printed_name};
 use dac_state::{Act, Op};
-use dac_status::{how_text, put_from};
+use dac_status::{how_text, put_from, put_number};
 use std::alloc::Global;
 
 /// Puts behind a text an application by its name, or by its number where the configuration hasn't it.
@@ -36,8 +36,8 @@ fn put_term(
 ) -> Result<(), NoMemory>
     ensures { OnOk result (text.new.items ≡ text.old.items ++ term_text config.now term how from) }
 {
-    let number = format!(in alloc; " term {term}")?;
-    text.extend_from_slice(number.as_bytes())?;
+    text.extend_from_slice(b" term ")?;
+    put_number(text, term)?;
     text.extend_from_slice(how_text(how).as_bytes())?;
     put_from(alloc, text, config, from)
 }
@@ -60,7 +60,9 @@ fn claim_line(
     else {
         return Ok(Vec::new(alloc));
     };
-    let mut line = format!(in alloc; "claim {operation} ")?.into_bytes();
+    let mut line = Vec::from_slice(alloc, b"claim ")?;
+    put_number(&mut line, operation as u64)?;
+    line.push(b' ')?;
     put_app(alloc, &mut line, config, *app)?;
     put_term(alloc, &mut line, config, *term, *how, *from)?;
     line.push(b'\n')?;

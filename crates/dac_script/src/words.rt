@@ -16,13 +16,19 @@ use std::alloc::{AllocError, Global};
 /// The greatest number that a script may name. No counter goes further.
 pub const MAX_NUMBER: u64 = MAX_COUNTER;
 
+/// How many words a line mostly has at most. For more words more room is made.
+const ROOM: usize = 8;
+
 /// The words of a line: what stands between its spaces. Only spaces part words.
 pub fn words_of<'a>(alloc: Global, line: &'a [u8]) -> Result<Vec<&'a [u8]>, AllocError>
     ensures { IfOk result (λ words. map (λ word. word.now) words.items ≡ words_of line.now) }
 {
-    line.split(|byte| *byte == b' ')
-        .filter(|word| !word.is_empty())
-        .collect(alloc)
+    let mut words = Vec::with_capacity(alloc, ROOM)?;
+    words.extend(
+        line.split(|byte| *byte == b' ')
+            .filter(|word| !word.is_empty()),
+    )?;
+    Ok(words)
 }
 
 /// Whether the byte may stand between the quotes of an atom.

@@ -8,6 +8,7 @@ ghost use Rattle.dac_status.specs.Texts.{node_text, how_text, from_text, claim_t
 use crate::labels::Labels;
 use crate::marks::Mark;
 use crate::nodes::put_node;
+use crate::numbers::put_number;
 use crate::summary::AppSummary;
 use dac_base::{AppId, MAX_APPS, MAX_NODES, NoMemory, NodeId};
 use dac_chains::{Claim, How};
@@ -57,8 +58,10 @@ fn put_claim(
     put_node(alloc, text, config, claim.origin.node)?;
     let incarnation = claim.origin.inc;
     let term = claim.term;
-    let numbers = format!(in alloc; " {incarnation} term {term}")?;
-    text.extend_from_slice(numbers.as_bytes())?;
+    text.push(b' ')?;
+    put_number(text, incarnation)?;
+    text.extend_from_slice(b" term ")?;
+    put_number(text, term)?;
     text.extend_from_slice(how_text(claim.how).as_bytes())?;
     put_from(alloc, text, config, claim.from)
 }

@@ -15,6 +15,9 @@ use dac_config::{Config, put_printed_name};
 use dac_origins::Origin;
 use std::alloc::Global;
 
+/// How many bytes the lines of an application mostly have at most. A page that has more grows.
+const APP_ROOM: usize = 128;
+
 /// The line above a page: a node, and as which incarnation it runs, or that it is off. A node that is off has
 /// no page. [`NoMemory`] is the only error.
 pub fn header(
@@ -49,6 +52,7 @@ pub fn page(alloc: Global, config: &Config, summary: &Summary) -> Result<Vec<u8>
     let heard = summary.heard;
     let known = summary.known;
     let mut text = format!(in alloc; "heard {heard} known {known}\n")?.into_bytes();
+    text.reserve(APP_ROOM * config.apps() as usize)?;
     put_nodes(alloc, &mut text, config, summary)?;
     put_apps(alloc, &mut text, config, summary)?;
     Ok(text)
