@@ -1,10 +1,11 @@
 -- Steps of a merge of two maps, of which the first comes in parts.
-use Rattle.std.proofs.Common.{◌≡◌, ◌+◌, ◌<◌, Bool, true, false, cond, T, List, [], ◌∷◌, ◌++◌, Option, None, Some, length, drop, refl, sym, ap, subst, ◌∙◌, arith, add-one, append_assoc, append-nil, true≢false}
+use Rattle.std.proofs.Common.{◌≡◌, ◌+◌, ◌<◌, Bool, true, false, not, cond, T, List, [], ◌∷◌, ◌++◌, Option, None, Some, ℕ, ◌≤◌, length, get_or, take, drop, refl, sym, ap, subst, ◌∙◌, arith, add-one, append_assoc, append-nil, true≢false}
 use Rattle.std.specs.declared.cmp.Ordering.{Ordering}
 use Rattle.std.specs.declared.cmp.Ordering.TheVariants.{Less, Equal, Greater}
 use Rattle.std.specs.Ordering.{is_eq, is_lt, ordering_reverse}
 use Rattle.std.specs.Cmp.{IsTotalOrder}
 use Rattle.std.specs.FinMap.Entries.{by_order}
+use Rattle.std.proofs.lemmas.List.{drop_all, drop_more, take_all, take_more}
 use Rattle.std.proofs.lemmas.Bool.{and_parts, or_left, or_right}
 use Rattle.dac_origins.specs.Dots.{Dots}
 use Rattle.dac_origins.specs.declared.dot.Dot.{Dot}
@@ -12,7 +13,7 @@ use Rattle.dac_lattice.specs.Entries.{Combine, keep, merge_right, merge_entry, m
 use Rattle.dac_lattice.specs.laws.EntryLaws.{greater, less}
 use Rattle.dac_store.specs.DotMaps.{has_in}
 use Rattle.dac_store.specs.Appending.{is_above_entries}
-use Rattle.dac_store.specs.Joining.{AreBefore, AreKept, IsMergedBelow, IsMergedPart, IsMergedWith, IsNotAt, IsNotBelow, IsTakenAt, joined_at}
+use Rattle.dac_store.specs.Joining.{AreBefore, AreKept, ArePassed, IsMergedBelow, IsMergedPart, IsMergedWith, IsNotAt, IsNotBelow, IsTakenAt, joined_at}
 use Rattle.dac_store.specs.Stores.{IsDotStore, IsUnheard}
 
 -- a key that is lower
@@ -20,6 +21,11 @@ pub lower_key : (r : Ordering) → is_lt r ≡ true → r ≡ Less
 lower_key Less e = refl
 lower_key Equal e = cc
 lower_key Greater e = cc
+
+-- what is not so
+pub not_true : (b : Bool) → not b ≡ true → b ≡ false
+not_true true e = cc
+not_true false e = refl
 
 module _ {K X : Type 0} where
   -- what is kept, before others
@@ -115,6 +121,26 @@ module _ {K X : Type 0} where
         ∙ ap (λ l. now ++ merge_entries R f (l ++ xs) ys) (sym is)
         ∙ so_far xs
 
+    -- one entry more stays as it is
+    pub passed_more : (part ys now next : List (K × X)) (i : ℕ) (e : K × X) (w : Option X) → i < length part → e ≡ get_or part i e → IsNotBelow R e.0 now → IsTakenAt R e.0 now w next
+        → f e.0 (Some e.1) w ≡ Some e.1
+        → ((xs : List (K × X)) → take i part ++ merge_entries R f (drop i part ++ xs) now ≡ merge_entries R f (part ++ xs) ys)
+        → (xs : List (K × X)) → take (i + 1) part ++ merge_entries R f (drop (i + 1) part ++ xs) next ≡ merge_entries R f (part ++ xs) ys
+    passed_more part ys now next i e w p is past taken stays so_far =
+        let step : take (i + 1) part ≡ take i part ++ e ∷ [] = take_more part i e p ∙ ap (λ (d : K × X). take i part ++ d ∷ []) (sym is) in
+        part_step (λ xs. merge_entries R f (part ++ xs) ys) (drop i part) (drop (i + 1) part) (take i part) (take i part) (take (i + 1) part) now now next e
+        (drop_more part i e p ∙ ap (λ (d : K × X). d ∷ drop (i + 1) part) (sym is))
+        (record { merged = λ x rest same. refl; past = past })
+        (with_taken e (take i part) (take (i + 1) part) now next w (Some e.1) past taken (sym stays) step)
+        so_far
+
+    -- all stay as they are
+    pub passed_all : (part ys now : List (K × X)) (i : ℕ) → length part ≤ i → ((xs : List (K × X)) → take i part ++ merge_entries R f (drop i part ++ xs) now ≡ merge_entries R f (part ++ xs) ys) → ArePassed R f part ys now
+    passed_all part ys now i p so_far xs =
+        ap (λ l. l ++ merge_entries R f xs now) (sym (take_all i part p))
+        ∙ ap (λ l. take i part ++ merge_entries R f (l ++ xs) now) (sym (drop_all i part p))
+        ∙ so_far xs
+
   -- none is at a key
   pub taken_none : (R : K → K → Ordering) (key : K) (ys : List (K × X)) → ys ≡ [] → IsTakenAt R key ys None ys
   taken_none R key ys e = (refl, subst (IsNotAt R key) (sym e) tt)
@@ -191,6 +217,15 @@ module _ {K X : Type 0} where
 pub part_shared : {K X : Type 0} (R : K → K → Ordering) (f : Combine K X) (part old new ys : List (K × X)) → Stays f part → AreBefore R part ys → new ≡ old ++ part → IsMergedPart R f part old ys new ys
 part_shared R f part old new ys s b e xs =
     ap (λ l. l ++ merge_entries R f xs ys) e ∙ append_assoc old part (merge_entries R f xs ys) ∙ ap (λ l. old ++ l) (sym (part_stays R f part xs ys s b))
+
+-- a part that a merge leaves as it is, is put as it is
+pub passed_shared : {K X : Type 0} (R : K → K → Ordering) (f : Combine K X) (part old new ys zs : List (K × X)) → ArePassed R f part ys zs → new ≡ old ++ part → IsMergedPart R f part old ys new zs
+passed_shared R f part old new ys zs passed e xs =
+    ap (λ l. l ++ merge_entries R f xs zs) e ∙ append_assoc old part (merge_entries R f xs zs) ∙ ap (λ l. old ++ l) (passed xs)
+
+-- a store with dots that a join leaves stays
+pub stays_whole : {S : Type 0} (is_empty : S → Bool) (s joined : S) → joined ≡ s → is_empty s ≡ false → cond (is_empty joined) None (Some joined) ≡ Some s
+stays_whole is_empty s joined same filled = ap (λ t. cond (is_empty t) None (Some t)) same ∙ ap (λ b. cond b None (Some s)) filled
 
 -- stores of whose dots the other side has heard none stay
 module _ {K S : Type 0} {is_store : S → Type 0} {has : S → Dot → Bool} {below : S → Dots → S → Dots → Type 0} {join : S → Dots → S → Dots → S} {nothing : S} {is_empty : S → Bool} (laws : IsDotStore is_store has below join nothing is_empty) (c d : Dots) where

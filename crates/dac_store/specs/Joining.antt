@@ -11,6 +11,10 @@ use Rattle.dac_store.specs.DotMaps.{store_at, unless_empty}
 abbrev pub joined_at : {K S : Type 0} → S → (S → Bool) → (S → Dots → S → Dots → S) → Dots → Dots → Combine K S
 joined_at nothing is_empty join c d = λ _ v w. unless_empty is_empty (join (store_at nothing v) c (store_at nothing w) d)
 
+-- a store stays at its key as it is
+abbrev pub IsLeft : {S : Type 0} → S → (S → Bool) → (S → Dots → S → Dots → S) → Dots → Dots → S → Option S → Type 0
+IsLeft nothing is_empty join c d s w = unless_empty is_empty (join s c (store_at nothing w) d) ≡ Some s
+
 -- each entry is a store with dots
 abbrev pub AreKept : {K S : Type 0} → (S → Type 0) → (S → Bool) → List (K × S) → Type 0
 AreKept is_store is_empty [] = Unit {0}
@@ -51,3 +55,7 @@ module _ {K X : Type 0} (R : K → K → Ordering) where
     -- some entries are merged
     abbrev pub IsMergedPart : List (K × X) → List (K × X) → List (K × X) → List (K × X) → List (K × X) → Type 0
     IsMergedPart part old ys new zs = (xs : List (K × X)) → new ++ merge_entries R f xs zs ≡ old ++ merge_entries R f (part ++ xs) ys
+
+    -- a merge leaves some entries as they are, and puts none between them
+    abbrev pub ArePassed : List (K × X) → List (K × X) → List (K × X) → Type 0
+    ArePassed part ys zs = (xs : List (K × X)) → part ++ merge_entries R f xs zs ≡ merge_entries R f (part ++ xs) ys

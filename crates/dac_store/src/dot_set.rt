@@ -273,7 +273,7 @@ impl DotStore for DotSet {
     }
 
     fn is_same(&self, other: &Self) -> bool {
-        other.few.as_slice() == self.few.as_slice()
+        self.few.is_same(&other.few)
     }
 
     fn fill(&self, filter: &mut DotFilter) {

@@ -55,6 +55,17 @@ impl<'a, K: MapKey, S: DotStore> Entries<'a, K, S> {
         }
     }
 
+    /// A reader of the same entries.
+    pub(crate) fn again(&self) -> Self
+        ensures { result ≡ self.now }
+    {
+        Entries {
+            here: self.here,
+            blocks: self.blocks,
+            last: self.last,
+        }
+    }
+
     /// The next entry, if one is left.
     pub fn first(&self) -> Option<&'a (K, S)>
         ensures { MatchOption result (self.now ≡ [])

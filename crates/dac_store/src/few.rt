@@ -1,5 +1,5 @@
 //! Few dots, with little memory.
-ghost use Rattle.std.specs.Prelude.{◌≡◌, ◌||◌, ◌&&◌, [], ◌∷◌, IfOk, OnErr, OnOk, not};
+ghost use Rattle.std.specs.Prelude.{◌≡◌, ◌||◌, ◌&&◌, [], ◌∷◌, IfOk, OnErr, OnOk, not, true};
 ghost use Rattle.std.specs.Ordering.{eq_by_cmp};
 ghost use Rattle.dac_origins.specs.Dots.{dot_cmp};
 ghost use Rattle.dac_origins.specs.Keys.{IsRising, has_key};
@@ -42,6 +42,17 @@ impl FewDots {
             FewDots::Empty => &[],
             FewDots::One(dot) => from_ref(dot),
             FewDots::Sorted(dots) => dots.as_slice(),
+        }
+    }
+
+    /// Whether both have the same dots.
+    pub(crate) fn is_same(&self, other: &Self) -> bool
+        ensures { result ≡ true → dots_of self.now ≡ dots_of other.now }
+    {
+        // Most sets have a single dot.
+        match (self, other) {
+            (FewDots::One(mine), FewDots::One(theirs)) => mine == theirs,
+            _ => self.as_slice() == other.as_slice(),
         }
     }
 

@@ -1,12 +1,12 @@
 //! The join of two maps, which shares the blocks that it leaves as they are.
-ghost use Rattle.std.specs.Prelude.{◌≡◌, ◌++◌, [], Some, true, IfOk, OnOk};
+ghost use Rattle.std.specs.Prelude.{◌≡◌, ◌++◌, [], Some, true, IfOk, IfSome, OnOk};
 ghost use Rattle.std.specs.Arc.{arc_value};
 ghost use Rattle.std.specs.List.{flat_map};
 ghost use Rattle.std.specs.Option.{option_copied};
 ghost use Rattle.dac_lattice.specs.Entries.{keep, merge_entries};
 ghost use Rattle.dac_lattice.specs.Search.{IsInOrder};
 ghost use Rattle.dac_store.specs.DotMaps.{IsKeyed, has_in, join_keyed, unless_empty};
-ghost use Rattle.dac_store.specs.Joining.{AreBefore, AreKept, IsMergedBelow, IsMergedPart, IsMergedWith, IsNotBelow, IsTakenAt, joined_at};
+ghost use Rattle.dac_store.specs.Joining.{AreBefore, AreKept, ArePassed, IsLeft, IsMergedBelow, IsMergedPart, IsMergedWith, IsNotBelow, IsTakenAt, joined_at};
 ghost use Rattle.dac_store.specs.Stores.{IsUnheard};
 
 use crate::DotStore;
@@ -15,7 +15,7 @@ use crate::block::Block;
 use crate::entries::Entries;
 use crate::parts::Parts;
 use dac_dots::FilteredContext;
-use dac_lattice::merging::Combine;
+use dac_lattice::merging::{Combine, value_at};
 use dac_origins::{MapKey, NoMemory};
 use std::alloc::Global;
 use std::sync::Arc;
@@ -227,6 +227,83 @@ fn can_share<K: MapKey, S: DotStore>(
     block.is_apart(how.theirs)
 }
 
+/// Whether the other side's next entry, if one is left, isn't below this key.
+fn is_none_below<K: MapKey, S: DotStore>(theirs: &Entries<'_, K, S>, key: K) -> bool
+    ensures { result ≡ true → IsNotBelow K.cmp key theirs.now }
+{
+    match theirs.first() {
+        Some((other, _)) => !other.cmp(&key).is_lt(),
+        None => true,
+    }
+}
+
+/// Whether a store surely stays as it is beside what the other side has at its key.
+fn surely_stays<S: DotStore>(
+    how: &JoinStores<'_>,
+    mine: &S,
+    theirs: Option<&S>,
+) -> Result<bool, NoMemory>
+    ensures { IfOk result (λ stays. stays ≡ true → IsLeft S.nothing S.is_empty S.join
+        how.now.mine.now how.now.theirs.now mine.now (option_copied theirs.entry)) }
+{
+    if mine.is_empty() {
+        return Ok(false);
+    }
+    let Some(theirs) = theirs else {
+        mine.tells_invariant();
+        return Ok(mine.is_unheard(how.theirs));
+    };
+    if !mine.is_same(theirs) {
+        return Ok(false);
+    }
+    // No law says what the join of two equal stores is.
+    let joined = mine.join_in(how.mine.context(), theirs, how.theirs.context())?;
+    Ok(joined.is_same(mine))
+}
+
+/// Whether the other side's next entry is past these, or surely the same as the one at its key. If not, the join may
+/// change these, or put an entry between them.
+fn may_leave<K: MapKey, S: DotStore>(part: &[(K, S)], theirs: &Entries<'_, K, S>) -> bool
+    requires { IsInOrder K.cmp part.now }
+{
+    match theirs.first() {
+        Some((other, _)) if ends_below(part, *other) => true,
+        Some((other, store)) => match value_at(part, *other) {
+            Some(mine) => mine.is_same(store),
+            None => false,
+        },
+        None => true,
+    }
+}
+
+/// What is left of the other side's entries past these, if the join surely leaves these as they are and puts none
+/// between them.
+fn left_past<'a, K: MapKey, S: DotStore>(
+    how: &JoinStores<'_>,
+    part: &[(K, S)],
+    theirs: &Entries<'a, K, S>,
+) -> Result<Option<Entries<'a, K, S>>, NoMemory>
+    requires { IsInOrder K.cmp part.now }
+    ensures { IfOk result (λ left. IfSome left (λ rest. ArePassed K.cmp
+        (joined_at S.nothing S.is_empty S.join how.now.mine.now how.now.theirs.now)
+        part.now theirs.now rest)) }
+{
+    if !may_leave(part, theirs) {
+        return Ok(None);
+    }
+    let mut rest = theirs.again();
+    for (key, store) in part {
+        if !is_none_below(&rest, *key) {
+            return Ok(None);
+        }
+        let taken = take_at(&mut rest, *key);
+        if !surely_stays(how, store, taken)? {
+            return Ok(None);
+        }
+    }
+    Ok(Some(rest))
+}
+
 /// Joins the entries of a block with the other side's up to their last key, or shares the block.
 fn join_block<K: MapKey, S: DotStore>(
     how: &JoinStores<'_>,
@@ -243,6 +320,13 @@ fn join_block<K: MapKey, S: DotStore>(
     if can_share(how, built, block, theirs) {
         built.share(block)?;
         return Ok(());
+    }
+    if built.ends_whole() {
+        if let Some(rest) = left_past(how, block.entries(), theirs)? {
+            *theirs = rest;
+            built.share(block)?;
+            return Ok(());
+        }
     }
     join_part(how, built, block.entries(), theirs)?;
     Ok(())

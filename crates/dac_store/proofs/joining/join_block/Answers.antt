@@ -1,9 +1,9 @@
 use Rattle.std.proofs.Common.{◌∙◌, subst}
 use Rattle.std.specs.Arc.{arc_value}
 use Rattle.dac_store.specs.DotMaps.{has_in}
-use Rattle.dac_store.specs.Joining.{AreBefore, IsMergedPart, joined_at}
+use Rattle.dac_store.specs.Joining.{AreBefore, ArePassed, IsMergedPart, joined_at}
 use Rattle.dac_store.specs.Stores.{IsUnheard}
-use Rattle.dac_store.proofs.JoinLemmas.{part_shared, unheard_stays}
+use Rattle.dac_store.proofs.JoinLemmas.{part_shared, passed_shared, unheard_stays}
 use Rattle.dac_store.proofs.joining.join_block.Goals as goal
 
 pub can_share-requires : goal.can_share-requires
@@ -21,4 +21,4 @@ returns-then-can_share g c =
 pub returns : goal.returns
 returns g c =
     let s = g.S.DotStore in
-    subst (λ m. IsMergedPart g.K.Ord.cmp (joined_at s.nothing s.is_empty s.join c.args.how.now.mine.now c.args.how.now.theirs.now) m c.args.built.now c.args.theirs.now c.join_part.new.built c.join_part.new.theirs) (c.entries.ensures ∙ c.deref-2.ensures) c.in_ok-join_part.ensures
+    subst (λ m. IsMergedPart g.K.Ord.cmp (joined_at s.nothing s.is_empty s.join c.args.how.now.mine.now c.args.how.now.theirs.now) m c.args.built.now c.args.theirs.now c.join_part.new.built c.join_part.new.theirs) (c.entries-2.ensures ∙ c.deref-2.ensures) c.in_ok-join_part.ensures

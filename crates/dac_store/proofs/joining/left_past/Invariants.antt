@@ -1,0 +1,11 @@
+use Rattle.std.proofs.Common.{◌≡◌, ◌++◌, List, drop, take}
+use Rattle.dac_lattice.specs.Entries.{merge_entries}
+use Rattle.dac_store.specs.Joining.{joined_at}
+use Rattle.dac_store.proofs.joining.left_past.Given as goal
+
+-- those so far stay, before the merge of what is left
+abbrev pub invariant-loop-key : goal.invariant-loop-key
+invariant-loop-key g l =
+    let s = g.S.DotStore in
+    let f = joined_at s.nothing s.is_empty s.join l.how.mine.now l.how.theirs.now in
+    (xs : List (g.row.K.Denot × g.row.S.Denot)) → take l.key-index l.part ++ merge_entries g.K.Ord.cmp f (drop l.key-index l.part ++ xs) l.rest ≡ merge_entries g.K.Ord.cmp f (l.part ++ xs) l.theirs
