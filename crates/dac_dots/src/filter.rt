@@ -58,15 +58,14 @@ impl DotFilter {
         self.slots[word] >> (slot % 64) & 1 == 1
     }
 
-    /// Whether some slot is set in both.
+    /// Whether some slot is set in both. It looks at each word, so that a processor can take several at once.
     pub fn meets(&self, other: &Self) -> bool
         ensures { result ≡ false → AreApart self.now.slots other.now.slots }
     {
+        let mut both = 0;
         for word in 0..WORDS {
-            if self.slots[word] & other.slots[word] != 0 {
-                return true;
-            }
+            both |= self.slots[word] & other.slots[word];
         }
-        false
+        both != 0
     }
 }

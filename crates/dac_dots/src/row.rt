@@ -108,7 +108,7 @@ impl OriginRow {
         Ok(OriginRow { origin, counters })
     }
 
-    /// An equal row, with memory of its own.
+    /// An equal row, with memory of its own where there are gaps.
     pub(crate) fn copy(&self, alloc: Global) -> Result<Self, NoMemory>
         ensures { IfOk result (λ copied. copied ≡ self.now) }
     {
