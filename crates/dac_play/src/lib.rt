@@ -10,7 +10,6 @@
 
 mod answers;
 mod checking;
-mod digits;
 mod ending;
 mod pairs;
 mod sharing;

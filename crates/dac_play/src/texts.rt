@@ -4,7 +4,6 @@ ghost use Rattle.std.specs.Prelude.{◌≡◌, ◌++◌, IfOk, OnOk};
 ghost use Rattle.std.specs.Fmt.{decimal};
 ghost use Rattle.dac_play.specs.Texts.{booted_text, crashed_text, held_text, gave_up_text, issued_text, shipped_text, shared_text, heard_text, no_message_text, no_operation_text, refused_text, same_text, hex_text, input_fault_text, script_fault_text, config_fault_text, failure_text};
 
-use crate::digits::write_digits;
 use dac_base::NoMemory;
 use dac_config::put_printed_name;
 use dac_core::Body;
@@ -175,7 +174,9 @@ pub fn hex_line(alloc: Global, bytes: &[u8]) -> Result<Vec<u8>, NoMemory>
     ensures { IfOk result (λ line. line.items ≡ hex_text bytes.now) }
 {
     let mut line = vec![in alloc; 0u8; 2 * bytes.len()]?;
-    write_digits(bytes, &mut line);
+    if hex::encode_to_slice(bytes, &mut line).is_err() {
+        unreachable!();
+    }
     line.push(b'\n')?;
     Ok(line)
 }
