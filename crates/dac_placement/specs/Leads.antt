@@ -1,10 +1,12 @@
 -- Who comes first by groups alone, before any load is asked for.
-use Rattle.std.specs.Prelude.{◌≡◌, ℕ, ◌<◌, ◌≤◌, Bool, true, false, ◌==◌, nat_lt, Option, None, Some, MatchOption, if◌then◌else◌}
+use Rattle.std.specs.Prelude.{◌≡◌, ℕ, ◌<◌, ◌≤◌, true, false, ◌==◌, ◌&&◌, nat_lt, Option, None, Some, MatchOption, if◌then◌else◌}
+use Rattle.std.specs.Option.{option_and_then}
 use Rattle.dac_base.specs.declared.NodeId.{NodeId}
 use Rattle.dac_base.specs.declared.AppId.{AppId}
 use Rattle.dac_config.specs.Table.{Table, group_of}
 use Rattle.dac_state.specs.StateValue.{StateValue}
-use Rattle.dac_placement.specs.Placement.{IsEligible, is_eligible}
+use Rattle.dac_placement.specs.Placement.{IsEligible, is_eligible, load_of}
+use Rattle.dac_placement.specs.Ranks.{Rank}
 use Rattle.dac_placement.specs.declared.leading.Lead.{Lead}
 
 -- The node is an eligible one of the first n, and no eligible one of these is of an earlier group. Where it is said to
@@ -39,3 +41,9 @@ abbrev pub lead_with : Option Lead → Option ℕ → NodeId → Option Lead
 lead_with lead None node = lead
 lead_with None (Some group) node = Some (record { group = group; node = node; alone = true })
 lead_with (Some lead) (Some group) node = Some (beside lead group node)
+
+-- the rank of a node that is of this group and eligible
+abbrev pub rank_in : Table → StateValue → AppId → ℕ → NodeId → Option Rank
+rank_in table s app group node = option_and_then (λ own.
+    if (own == group) && is_eligible table s app node then Some (record { group = group; load = load_of table s app node; node = node }) else None)
+    (group_of table app node)

@@ -2,12 +2,13 @@
 ghost use Rattle.std.specs.Prelude.{◌≡◌, ◌<◌};
 ghost use Rattle.std.specs.Ordering.{ord_min};
 ghost use Rattle.dac_lattice.specs.Lattices.{join_options};
-ghost use Rattle.dac_config.specs.Table.{app_count};
-ghost use Rattle.dac_placement.specs.Placement.{rank_of, first_choice};
+ghost use Rattle.dac_config.specs.Table.{app_count, node_count};
+ghost use Rattle.dac_placement.specs.Leads.{IsLead, rank_in};
+ghost use Rattle.dac_placement.specs.Placement.{first_choice};
 ghost use Rattle.dac_placement.specs.Ranks.{rank_cmp};
 
 use crate::eligibility::eligible;
-use crate::leading::leader;
+use crate::leading::{Lead, leader};
 use crate::running::load;
 use dac_base::{AppId, NodeId};
 use dac_config::Config;
@@ -34,33 +35,34 @@ pub(crate) fn first_choice(config: &Config, state: &State, app: AppId) -> Option
     if lead.alone {
         Some(lead.node)
     } else {
-        least_ranked(config, state, app)
+        least_ranked(config, state, app, lead)
     }
 }
 
-/// The eligible node of the least rank, if any node is eligible.
-fn least_ranked(config: &Config, state: &State, app: AppId) -> Option<NodeId>
-    requires { app.0 < app_count config.now }
+/// The node of the least rank, which is of the leading group. No load is asked for in the groups after it.
+fn least_ranked(config: &Config, state: &State, app: AppId, lead: Lead) -> Option<NodeId>
+    requires app { app.0 < app_count config.now }
+    requires leads { IsLead config.now state.now app (node_count config.now) lead }
     ensures { result ≡ first_choice config.now state.now app }
 {
     let mut first = None;
     for number in 0..config.nodes() {
-        let rank = rank_of(config, state, app, NodeId(number));
+        let rank = rank_in(config, state, app, lead.group, NodeId(number));
         first = lesser(first, rank);
     }
     let first = first?;
     Some(first.node)
 }
 
-/// The rank of a node, if it is eligible.
-fn rank_of(config: &Config, state: &State, app: AppId, node: NodeId) -> Option<Rank>
+/// The rank of a node, if it is of this group and eligible. The group is asked for first, since that costs least.
+fn rank_in(config: &Config, state: &State, app: AppId, group: u16, node: NodeId) -> Option<Rank>
     requires { app.0 < app_count config.now }
-    ensures { result ≡ rank_of config.now state.now app node }
+    ensures { result ≡ rank_in config.now state.now app group node }
 {
-    if !eligible(config, state, app, node) {
+    let own = config.group_of(app, node)?;
+    if own != group || !eligible(config, state, app, node) {
         return None;
     }
-    let group = config.group_of(app, node)?;
     let load = load(config, state, app, node);
     Some(Rank { group, load, node })
 }
