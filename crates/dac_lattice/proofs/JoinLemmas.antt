@@ -1,4 +1,4 @@
--- The join of two maps of which one has no entries.
+-- The join of two maps of which the first has no entries.
 use Rattle.std.proofs.Common.{◌≡◌, nat_eq, true, List, [], ◌∷◌, length, refl, arith}
 use Rattle.std.proofs.lemmas.Bool.{eqb-true}
 use Rattle.std.specs.declared.cmp.Ordering.{Ordering}
@@ -9,14 +9,6 @@ module _ {K X : Type 0} (R : K → K → Ordering) (join : X → X → X) where
   after_nothing [] = refl
   after_nothing (y ∷ ys) = λ k. y ∷ after_nothing ys k
 
-  before_nothing : (xs : List (K × X)) → join_maps R join xs [] ≡ xs
-  before_nothing [] = refl
-  before_nothing (x ∷ xs) = λ k. x ∷ before_nothing xs k
-
   pub nothing_first : (xs ys : List (K × X)) → nat_eq (length xs) 0 ≡ true → join_maps R join xs ys ≡ ys
   nothing_first [] ys none = after_nothing ys
   nothing_first (x ∷ xs) ys none = let e = eqb-true (length (x ∷ xs)) 0 none in absurd (omega arith)
-
-  pub nothing_second : (xs ys : List (K × X)) → nat_eq (length ys) 0 ≡ true → join_maps R join xs ys ≡ xs
-  nothing_second xs [] none = before_nothing xs
-  nothing_second xs (y ∷ ys) none = let e = eqb-true (length (y ∷ ys)) 0 none in absurd (omega arith)

@@ -1,11 +1,12 @@
 //! Maps whose values are a lattice.
-ghost use Rattle.std.specs.Prelude.{◌≡◌, ◌↔◌, [], ◌∷◌, IsTrue, IfOk, Some};
+ghost use Rattle.std.specs.Prelude.{◌≡◌, ◌↔◌, ◌<◌, [], ◌∷◌, length, IfOk, IfSome, IsSome, Some};
 ghost use Rattle.std.specs.Option.{option_copied};
 ghost use Rattle.std.specs.FinMap.{find};
 ghost use Rattle.dac_lattice.specs.Lattices.{IsOptionBelow};
 ghost use Rattle.dac_lattice.specs.Maps.{IsMap};
+ghost use Rattle.dac_lattice.specs.Search.{IsInOrder};
 
-use crate::merging::{Combine, merge, value_at};
+use crate::merging::{Combine, merge, place_near, value_at};
 use crate::{Bottom, Lattice};
 use dac_origins::{MapKey, NoMemory};
 use std::alloc::Global;
@@ -16,7 +17,7 @@ use std::sync::Arc;
 /// where no value is below every value. Contracts see it as the list of its entries in the order of the
 /// keys.
 ///
-/// Entries never change, so copies share them, and so does a join where one side has none.
+/// Entries never change, so copies share them, and so does a join where this side has none, or the other side is below it.
 #[derive(Drop)]
 pub struct MapOf<K: MapKey, L: Lattice> {
     alloc: Global,
@@ -76,13 +77,20 @@ impl<K: MapKey, L: Lattice> MapOf<K, L> {
     }
 }
 
-/// Whether a value is below what is at a key.
-fn is_within<L: Lattice>(mine: &L, theirs: Option<&L>) -> bool
-    ensures { IsTrue result ↔ IsOptionBelow L.below (Some mine.now) (option_copied theirs.entry) }
+/// The place of a key whose value is above this one, which is looked for at this place first.
+fn place_above<K: MapKey, L: Lattice>(
+    entries: &[(K, L)],
+    place: usize,
+    key: K,
+    value: &L,
+) -> Option<usize>
+    requires { IsInOrder K.cmp entries.now }
+    ensures above { IsSome result ↔ IsOptionBelow L.below (Some value.now) (find K.cmp key entries.now) }
+    ensures place { IfSome result (λ found. found < length entries.now) }
 {
-    match theirs {
-        Some(theirs) => mine.leq(theirs),
-        None => false,
+    match place_near(entries, place, key) {
+        Ok(found) if value.leq(&entries[found].1) => Some(found),
+        _ => None,
     }
 }
 
@@ -131,7 +139,7 @@ impl<K: MapKey, L: Lattice> Lattice for MapOf<K, L> {
         if mine.is_empty() {
             return other.copy();
         }
-        if theirs.is_empty() {
+        if other.leq(self) {
             return self.copy();
         }
         let entries = merge(self.alloc, &JoinValues, mine, theirs)?;
@@ -140,10 +148,14 @@ impl<K: MapKey, L: Lattice> Lattice for MapOf<K, L> {
 
     fn leq(&self, other: &Self) -> bool {
         self.tells_invariant();
+        other.tells_invariant();
+        // Most keys follow each other on both sides.
+        let mut place = 0;
         for (key, value) in self.entries() {
-            if !is_within(value, other.get(*key)) {
+            let Some(found) = place_above(other.entries(), place, *key, value) else {
                 return false;
-            }
+            };
+            place = found + 1;
         }
         true
     }

@@ -117,6 +117,21 @@ fn place_of<K: MapKey, X>(entries: &[(K, X)], key: K) -> Result<usize, usize>
     entries.binary_search_by_key(&key, |entry| entry.0)
 }
 
+/// The place of a key in a sorted list of entries, which is looked for at this place first.
+pub(crate) fn place_near<K: MapKey, X>(
+    entries: &[(K, X)],
+    place: usize,
+    key: K,
+) -> Result<usize, usize>
+    requires { IsInOrder K.cmp entries.now }
+    ensures { IsPlaceOf K.cmp entries.now key result }
+{
+    match entries.get(place) {
+        Some((other, _)) if other.cmp(&key).is_eq() => Ok(place),
+        _ => place_of(entries, key),
+    }
+}
+
 /// The value at a key of a sorted list of entries, if there is one.
 pub fn value_at<K: MapKey, X>(entries: &[(K, X)], key: K) -> Option<&X>
     requires { IsInOrder K.cmp entries.now }

@@ -1,7 +1,8 @@
 use Rattle.std.proofs.Common.{nat_eq, length, IfOk, ◌≡◌, sym, ap, subst, ◌∙◌}
 use Rattle.dac_lattice.specs.Maps.{join_maps}
 use Rattle.dac_lattice.specs.laws.Maps.{map_laws}
-use Rattle.dac_lattice.proofs.JoinLemmas.{nothing_first, nothing_second}
+use Rattle.dac_lattice.specs.laws.Joins.{join_below}
+use Rattle.dac_lattice.proofs.JoinLemmas.{nothing_first}
 use Rattle.dac_lattice.proofs.maps.MapOfLattice.join.Goals as goal
 
 pub returns-then-is_empty : goal.returns-then-is_empty
@@ -9,10 +10,11 @@ returns-then-is_empty g c =
     let none = ap (λ xs. nat_eq (length xs) 0) (sym c.entries-mine.ensures) ∙ sym c.is_empty.ensures ∙ c.if-is_empty.true in
     subst (λ both. IfOk c.copy.result (λ copied. copied ≡ both)) (sym (nothing_first g.K.Ord.cmp g.L.Lattice.join c.args.self.now c.args.other.now none)) c.copy.ensures
 
-pub returns-then-is_empty-2 : goal.returns-then-is_empty-2
-returns-then-is_empty-2 g c =
-    let none = ap (λ xs. nat_eq (length xs) 0) (sym c.entries-theirs.ensures) ∙ sym c.is_empty-2.ensures ∙ c.if-is_empty-2.true in
-    subst (λ both. IfOk c.copy-then-is_empty-2.result (λ copied. copied ≡ both)) (sym (nothing_second g.K.Ord.cmp g.L.Lattice.join c.args.self.now c.args.other.now none)) c.copy-then-is_empty-2.ensures
+pub returns-then-leq : goal.returns-then-leq
+returns-then-leq g c =
+    let laws = map_laws g.met.K.Ord.total g.met.K.MapKey.exact g.met.L.Lattice.laws in
+    subst (λ both. IfOk c.copy-then-leq.result (λ copied. copied ≡ both))
+    (sym (join_below laws c.args.other.now c.args.self.now c.tells_invariant-2.ensures c.tells_invariant.ensures (c.leq.ensures.0 c.if-leq.true))) c.copy-then-leq.ensures
 
 -- the merge is what the laws of maps say is closed
 pub of-requires : goal.of-requires

@@ -1,4 +1,4 @@
-use Rattle.std.proofs.Common.{◌∙◌, sym, refl}
+use Rattle.std.proofs.Common.{refl}
 use Rattle.std.proofs.lemmas.Bool.{false≢true}
 use Rattle.std.specs.FinMap.{find}
 use Rattle.dac_lattice.specs.Lattices.{IsOptionBelow}
@@ -8,16 +8,16 @@ use Rattle.dac_lattice.proofs.maps.MapOfLattice.leq.Goals as goal
 pub loop-key-preserved : goal.loop-key-preserved
 loop-key-preserved g c =
     one_more g.met.K.Ord.total g.met.K.MapKey.exact (λ k v. IsOptionBelow g.L.Lattice.below v (find g.K.Ord.cmp k c.args.other.now)) _ _ _
-    c.loop-key-test.true c.loop-key-item.is c.loop-key.invariant (rw c.get.ensures at (c.is_within.ensures.0 c.if-not-is_within.false))
+    c.loop-key-test.true c.loop-key-item.is c.loop-key.invariant (rw c.entries.ensures at (c.in-Some.ensures.above.0 refl))
 
-pub returns-then-not-is_within : goal.returns-then-not-is_within
-returns-then-not-is_within g c =
+pub returns-in_default : goal.returns-in_default
+returns-in_default g c =
     let at = at_place g.met.K.Ord.total g.met.K.MapKey.exact (λ k v. IsOptionBelow g.L.Lattice.below v (find g.K.Ord.cmp k c.args.other.now)) c.entries-key-items.result.now _ _
     (rw c.entries-key-items.ensures c.tells_invariant.ensures.in_order) c.loop-key-test.true c.loop-key-item.is in (
       λ e. absurd (false≢true e),
       λ below.
           let here = at (rw c.entries-key-items.ensures below) in
-          absurd (false≢true (sym c.if-not-is_within.true ∙ c.is_within.ensures.1 (rw c.get.ensures here))),
+          absurd (false≢true (c.in_default.ensures.above.1 (rw c.entries.ensures here))),
     )
 
 pub returns : goal.returns
