@@ -51,6 +51,8 @@ pub record IsDotStore {S : Type 0} (is_store : S → Type 0) (has : S → Dot �
   -- joined where none of a store's dots have been heard of, it leaves the store as it is, on either side
   pub alone : (s : S) (c d : Dots) → is_store s → IsUnheard (has s) d → join s c nothing d ≡ s
   pub alone_right : (s : S) (c d : Dots) → is_store s → IsUnheard (has s) d → join nothing d s c ≡ s
+  -- joined with itself, a store stays as it is
+  pub again : (s : S) (c d : Dots) → is_store s → join s c s d ≡ s
   -- a store is below itself beside any contexts
   pub same : (s : S) (c d : Dots) → is_store s → below s c s d
   -- a store is above each that has heard of none of its dots

@@ -238,27 +238,18 @@ fn is_none_below<K: MapKey, S: DotStore>(theirs: &Entries<'_, K, S>, key: K) -> 
 }
 
 /// Whether a store surely stays as it is beside what the other side has at its key.
-fn surely_stays<S: DotStore>(
-    how: &JoinStores<'_>,
-    mine: &S,
-    theirs: Option<&S>,
-) -> Result<bool, NoMemory>
-    ensures { IfOk result (λ stays. stays ≡ true → IsLeft S.nothing S.is_empty S.join
-        how.now.mine.now how.now.theirs.now mine.now (option_copied theirs.entry)) }
+fn surely_stays<S: DotStore>(how: &JoinStores<'_>, mine: &S, theirs: Option<&S>) -> bool
+    ensures { result ≡ true → IsLeft S.nothing S.is_empty S.join how.now.mine.now
+        how.now.theirs.now mine.now (option_copied theirs.entry) }
 {
+    mine.tells_invariant();
     if mine.is_empty() {
-        return Ok(false);
+        return false;
     }
-    let Some(theirs) = theirs else {
-        mine.tells_invariant();
-        return Ok(mine.is_unheard(how.theirs));
-    };
-    if !mine.is_same(theirs) {
-        return Ok(false);
+    match theirs {
+        Some(theirs) => mine.is_same(theirs),
+        None => mine.is_unheard(how.theirs),
     }
-    // No law says what the join of two equal stores is.
-    let joined = mine.join_in(how.mine.context(), theirs, how.theirs.context())?;
-    Ok(joined.is_same(mine))
 }
 
 /// Whether the other side's next entry is past these, or surely the same as the one at its key. If not, the join may
@@ -282,26 +273,26 @@ fn left_past<'a, K: MapKey, S: DotStore>(
     how: &JoinStores<'_>,
     part: &[(K, S)],
     theirs: &Entries<'a, K, S>,
-) -> Result<Option<Entries<'a, K, S>>, NoMemory>
+) -> Option<Entries<'a, K, S>>
     requires { IsInOrder K.cmp part.now }
-    ensures { IfOk result (λ left. IfSome left (λ rest. ArePassed K.cmp
+    ensures { IfSome result (λ rest. ArePassed K.cmp
         (joined_at S.nothing S.is_empty S.join how.now.mine.now how.now.theirs.now)
-        part.now theirs.now rest)) }
+        part.now theirs.now rest) }
 {
     if !may_leave(part, theirs) {
-        return Ok(None);
+        return None;
     }
     let mut rest = theirs.again();
     for (key, store) in part {
         if !is_none_below(&rest, *key) {
-            return Ok(None);
+            return None;
         }
         let taken = take_at(&mut rest, *key);
-        if !surely_stays(how, store, taken)? {
-            return Ok(None);
+        if !surely_stays(how, store, taken) {
+            return None;
         }
     }
-    Ok(Some(rest))
+    Some(rest)
 }
 
 /// Joins the entries of a block with the other side's up to their last key, or shares the block.
@@ -322,7 +313,7 @@ fn join_block<K: MapKey, S: DotStore>(
         return Ok(());
     }
     if built.ends_whole() {
-        if let Some(rest) = left_past(how, block.entries(), theirs)? {
+        if let Some(rest) = left_past(how, block.entries(), theirs) {
             *theirs = rest;
             built.share(block)?;
             return Ok(());

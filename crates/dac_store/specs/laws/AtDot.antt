@@ -3,6 +3,7 @@ use Rattle.std.specs.Prelude.{◌≡◌, Bool, true, false, ◌||◌, Option, No
 use Rattle.std.proofs.Common.{sym, ap, ◌∙◌}
 use Rattle.std.proofs.lemmas.Bool.{false≢true}
 use Rattle.dac_lattice.specs.Lattices.{IsLattice, IsOptionOf}
+use Rattle.dac_lattice.specs.laws.Joins.{join_idem}
 use Rattle.dac_store.specs.AtDot.{StandsBelow, Under, join_at}
 
 -- beside nothing a value stays where the other side hasn't heard of its dot
@@ -27,6 +28,11 @@ module _ {V : Type 0} {is_value : V → Type 0} {below : V → V → Type 0} {jo
   pub at_refl : (v : Option V) → IsOptionOf is_value v → StandsBelow below v v
   at_refl None u = tt
   at_refl (Some v) u = laws.refl v u
+
+  -- joined with itself a value stays
+  pub at_again : (c d : Bool) (v : Option V) → IsOptionOf is_value v → join_at join c d v v ≡ v
+  at_again c d None u = refl
+  at_again c d (Some v) u = ap (λ x. Some x) (join_idem laws v u)
 
   pub at_trans : (v w x : Option V) → IsOptionOf is_value v → IsOptionOf is_value w → IsOptionOf is_value x → StandsBelow below v w → StandsBelow below w x → StandsBelow below v x
   at_trans v w None a b c p q = tt

@@ -142,6 +142,11 @@ module _ {K : Type 0} {R : K → K → Ordering} (o : IsTotalOrder R) (exact : C
         (λ k. find_keyed [] d s c (record { in_order = tt; stores = λ k. tt }) u k
         ∙ ap (unless_empty is_empty) (laws.alone_right _ c d (at_store _ (u.stores k)) (λ x e. h x (has_found s k x e)))
         ∙ kept_at _ (u.stores k));
+    again = λ s c d u. same_entries R o exact (join_keyed R nothing is_empty join s c s d) s
+        (sorted_merge o exact (λ _ v w. unless_empty is_empty (join (store_at nothing v) c (store_at nothing w) d)) s s u.in_order u.in_order) u.in_order
+        (λ k. find_keyed s c s d u u k
+        ∙ ap (unless_empty is_empty) (laws.again _ c d (at_store _ (u.stores k)))
+        ∙ kept_at _ (u.stores k));
     same = λ s c d u k. laws.same _ c d (at_store _ (u.stores k));
     unheard = λ s t c d h k. laws.unheard _ _ c d (λ x e. h x (has_found t k x e));
   }

@@ -112,6 +112,7 @@ set_laws = record {
   first = λ s c u x h k. absurd (false≢true (sym (set.contains-empty dot_cmp x) ∙ k));
   alone = λ s c d u h. set_alone s c d h;
   alone_right = λ s c d u h. join_turned set.empty d s c ∙ set_alone s c d h;
+  again = λ s c d u. join_same s c d;
   same = λ s c d u x h k. h;
   unheard = λ s t c d h x held heard. absurd (false≢true (sym (h x held) ∙ heard));
 }

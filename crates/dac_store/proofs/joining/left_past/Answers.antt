@@ -16,7 +16,7 @@ loop-key-preserved g c =
     let s = g.S.DotStore in
     let f = joined_at s.nothing s.is_empty s.join c.args.how.now.mine.now c.args.how.now.theirs.now in
     passed_more g.met.K.Ord.total f c.args.part.now c.args.theirs.now c.loop-key.rest c.take_at-taken.new.theirs c.loop-key.key-index c.loop-key-item.result (option_copied c.take_at-taken.result)
-    c.loop-key-test.true c.loop-key-item.is (c.is_none_below.ensures c.if-not-is_none_below.false) c.take_at-taken.ensures (c.in_ok-surely_stays.ensures c.if-not-branch.false) c.loop-key.invariant
+    c.loop-key-test.true c.loop-key-item.is (c.is_none_below.ensures c.if-not-is_none_below.false) c.take_at-taken.ensures (c.surely_stays.ensures c.if-not-surely_stays.false) c.loop-key.invariant
 
 pub returns : goal.returns
 returns g c =
