@@ -10,6 +10,7 @@ use Rattle.dac_wishes.specs.WishesValue.{WishesValue, AreWishes, join_wishes}
 use Rattle.dac_wishes.specs.laws.WishesValue.{known-join}
 use Rattle.dac_wishes.specs.PermissionsValue.{PermissionsValue, ArePermissions, IsPermissionsBelow, join_permissions}
 use Rattle.dac_wishes.specs.DrainsValue.{DrainsValue, AreDrains, AreDrainsBelow, join_drains}
+use Rattle.dac_wishes.specs.laws.DrainsValue.{drains_laws}
 use Rattle.dac_meaning.specs.StateValue.{StateValue, IsState, permissions_of, wishes_of, drains_of, join}
 use Rattle.dac_meaning.specs.laws.StateLaws.{heard-join, permissions-join, wishes-join, lives-join, claims-join, drains-join}
 use Rattle.dac_state.specs.Heard.{heard_beside}
@@ -89,6 +90,14 @@ module _ {h g : Dots} {p q : PermissionsValue} {w v : WishesValue} {l m : Lives}
 
   pub drains_shown_below : AreDrainsBelow (drains_of (state_of_parts h p w l c r)) (drains_of (state_of_parts g q v m d u)) → AreDrainsBelow r u
   drains_shown_below e = subst (λ x. AreDrainsBelow x u) (sym (drains_is one)) (subst (AreDrainsBelow (drains_of (state_of_parts h p w l c r))) (sym (drains_is other)) e)
+
+  -- drains that are below each other are one
+  pub one_drains : AreDrainsBelow r u → AreDrainsBelow u r → r ≡ u
+  one_drains = drains_laws.antisymm r u (subst AreDrains (sym (drains_is one)) one.state.drains) (subst AreDrains (sym (drains_is other)) other.state.drains)
+
+  -- and those of one state are
+  pub drains_of_one : state_of_parts h p w l c r ≡ state_of_parts g q v m d u → AreDrainsBelow u r
+  drains_of_one e = subst (AreDrainsBelow u) (sym (drains_is one ∙ ap drains_of e ∙ sym (drains_is other))) (drains_laws.refl u (subst AreDrains (sym (drains_is other)) other.state.drains))
 
 -- what is read makes a state: permissions, wishes and drains beside the dots known
 pub read_are_parts : {h k : Dots} {p : PermissionsValue} {w : WishesValue} {l : Lives} {c : Claims} {r : DrainsValue} → IsSubset h k → p.known ≡ k → w.known ≡ k → r.known ≡ k

@@ -115,6 +115,16 @@ impl Heard {
         other.has(other_known, self.beside(known))
     }
 
+    /// Whether both sides heard the same dots, where both know these.
+    pub(crate) fn equal(&self, other: &Self, known: &Context) -> bool
+        requires mine { IsSubset (heard_beside self.now known.now) known.now }
+        requires theirs { IsSubset (heard_beside other.now known.now) known.now }
+        ensures { IsTrue result
+            ↔ (heard_beside self.now known.now ≡ heard_beside other.now known.now) }
+    {
+        self.has(known, other.beside(known)) && other.has(known, self.beside(known))
+    }
+
     /// Equal dots. They share memory that never changes.
     pub(crate) fn copy(&self) -> Result<Self, NoMemory>
         ensures { IfOk result (λ copied. copied ≡ self.now) }

@@ -190,6 +190,28 @@ impl Parts {
         self.claims.leq(&other.claims) && self.drains.leq_beside(&other.drains)
     }
 
+    /// Whether each is equal to the other's. The dots known differ most often, and the wishes stand beside them.
+    pub(crate) fn equal(&self, other: &Self) -> bool
+        ensures { IsTrue result ↔ (self.now ≡ other.now) }
+    {
+        if !self.wishes.equal(&other.wishes) {
+            return false;
+        }
+        if !self.heard.equal(&other.heard, self.wishes.context()) {
+            return false;
+        }
+        if !self.lives.equal(&other.lives) {
+            return false;
+        }
+        if !self.claims.equal(&other.claims) {
+            return false;
+        }
+        if !self.permissions.equal(&other.permissions) {
+            return false;
+        }
+        self.drains.leq_beside(&other.drains) && other.drains.leq_beside(&self.drains)
+    }
+
     /// Equal parts. They may share memory that never changes.
     pub(crate) fn copy(&self) -> Result<Self, NoMemory>
         ensures { IfOk result (λ copied. copied ≡ self.now) }

@@ -178,9 +178,7 @@ impl Lattice for State {
     }
 
     fn equal(&self, other: &Self) -> bool {
-        Lattice::tells_invariant(self);
-        Lattice::tells_invariant(other);
-        self.leq(other) && other.leq(self)
+        self.parts().equal(other.parts())
     }
 
     fn copy(&self) -> Result<Self, NoMemory> {

@@ -218,11 +218,6 @@ pub part_shared : {K X : Type 0} (R : K → K → Ordering) (f : Combine K X) (p
 part_shared R f part old new ys s b e xs =
     ap (λ l. l ++ merge_entries R f xs ys) e ∙ append_assoc old part (merge_entries R f xs ys) ∙ ap (λ l. old ++ l) (sym (part_stays R f part xs ys s b))
 
--- a part that a merge leaves as it is, is put as it is
-pub passed_shared : {K X : Type 0} (R : K → K → Ordering) (f : Combine K X) (part old new ys zs : List (K × X)) → ArePassed R f part ys zs → new ≡ old ++ part → IsMergedPart R f part old ys new zs
-passed_shared R f part old new ys zs passed e xs =
-    ap (λ l. l ++ merge_entries R f xs zs) e ∙ append_assoc old part (merge_entries R f xs zs) ∙ ap (λ l. old ++ l) (passed xs)
-
 -- a store with dots that a join leaves stays
 pub stays_whole : {S : Type 0} (is_empty : S → Bool) (s joined : S) → joined ≡ s → is_empty s ≡ false → cond (is_empty joined) None (Some joined) ≡ Some s
 stays_whole is_empty s joined same filled = ap (λ t. cond (is_empty t) None (Some t)) same ∙ ap (λ b. cond b None (Some s)) filled

@@ -121,6 +121,28 @@ impl<S: DotStore> Causal<S> {
             .leq_in(self.context(), other.store(), other.context())
     }
 
+    /// Whether both have heard of the same dots.
+    fn has_same_context(&self, other: &Self) -> bool
+        ensures { IsTrue result ↔ (self.now.context ≡ other.now.context) }
+    {
+        let mine = self.context();
+        let theirs = other.context();
+        mine.is_subset(theirs) && theirs.is_subset(mine)
+    }
+
+    /// Whether both stores are equal, where both have heard of the same dots. Equal stores mostly show that at once.
+    fn has_same_store(&self, other: &Self) -> bool
+        requires { self.now.context ≡ other.now.context }
+        ensures { IsTrue result ↔ (self.now ≡ other.now) }
+    {
+        self.tells_invariant();
+        other.tells_invariant();
+        if self.store.is_same(&other.store) {
+            return true;
+        }
+        self.leq_beside(other) && other.leq_beside(self)
+    }
+
     /// Whether a join with this side surely leaves the other side's store as it is.
     fn leaves(&self, other: &Self) -> bool
         ensures nothing { result ≡ true → self.now.store ≡ S.nothing }
@@ -187,9 +209,7 @@ impl<S: DotStore> Lattice for Causal<S> {
     }
 
     fn equal(&self, other: &Self) -> bool {
-        self.tells_invariant();
-        other.tells_invariant();
-        self.leq(other) && other.leq(self)
+        self.has_same_context(other) && self.has_same_store(other)
     }
 
     fn copy(&self) -> Result<Self, NoMemory> {

@@ -27,10 +27,11 @@ use Rattle.dac_store.specs.laws.DotFuns.{fun_laws, find_join}
 use Rattle.dac_store.specs.DotMaps.{has_in, store_at, IsKept, IsKeyedBelow, join_keyed}
 use Rattle.dac_store.specs.laws.DotMaps.{keyed_laws, at_join, at_store}
 use Rattle.dac_wishes.specs.KeyedWrites.{KeyedWrite, keyed_write, same_dot}
-use Rattle.dac_wishes.specs.Votes.{AreVotes, AreVotesBelow, join_votes, joined_vote}
+use Rattle.dac_wishes.specs.Votes.{AreVotes, AreVotesBelow, VotesValue, join_votes, joined_vote}
 use Rattle.dac_wishes.specs.laws.Votes.{known-join_votes, standing-join_votes, same_votes}
 use Rattle.dac_wishes.specs.StoredVotes.{DotFlags, StoredVotes, AreKeyedVotes, AreStoredVotes, votes_of, votes_value_of, stored_vote}
-use Rattle.dac_wishes.specs.laws.VotesByKey.{get-votes_of}
+use Rattle.dac_wishes.specs.VotesByKey.{votes_by_key}
+use Rattle.dac_wishes.specs.laws.VotesByKey.{get-votes_of, votes_again}
 use Rattle.dac_wishes.specs.Replacing.{named_by}
 use Rattle.dac_wishes.specs.VoteMeaning.{vote_delta, says_of}
 use Rattle.dac_wishes.specs.laws.VoteMeaning.{get-vote_delta}
@@ -67,6 +68,12 @@ module _ {K : Type 0} {R : K → K → Ordering} (keys_total : IsTotalOrder R) (
   stored_votes v u w h = u.held w.dot (held_at R v.store w.key w.dot (ap is_some (sym (get-votes_of keys_total exact_keys v.store u.store.in_order w)) ∙ h))
 
   module _ (v w : StoredVotes K) (a : AreStoredVotes R v) (b : AreStoredVotes R w) where
+    -- what shows the same votes is stored the same
+    pub same_stored : votes_value_of R v ≡ votes_value_of R w → v ≡ w
+    same_stored e =
+        let stores = sym (votes_again keys_total exact_keys v.store a.store) ∙ ap (λ (x : VotesValue R). votes_by_key R x.standing) e ∙ votes_again keys_total exact_keys w.store b.store in
+        λ i. record { store = stores i; context = (e i).known }
+
     here : (q : KeyedWrite K) → map.get (votes_of R v.store) q ≡ find dot_cmp q.dot (store_at [] (find R q.key v.store))
     here q = get-votes_of keys_total exact_keys v.store a.store.in_order q
 

@@ -19,10 +19,11 @@ use Rattle.dac_wishes.specs.Keys.{key_cmp, same_key}
 use Rattle.dac_wishes.specs.laws.Keys.{keys_total, exact_keys}
 use Rattle.dac_wishes.specs.Writes.{Write, write, same_dot}
 use Rattle.dac_wishes.specs.laws.KeyedWrites.{same_dot_itself}
-use Rattle.dac_wishes.specs.WishesValue.{AreWishes, AreWishesBelow, join_wishes, is_wished, SomeStands}
+use Rattle.dac_wishes.specs.WishesValue.{AreWishes, AreWishesBelow, WishesValue, join_wishes, is_wished, SomeStands}
 use Rattle.dac_wishes.specs.laws.WishesValue.{known-join, standing-join, same_wishes}
 use Rattle.dac_wishes.specs.StoredWishes.{StoredDots, AreStoredDots, writes_of, wishes_of}
-use Rattle.dac_wishes.specs.laws.StartsByKey.{contains-writes_of}
+use Rattle.dac_wishes.specs.StartsByKey.{starts_by_key}
+use Rattle.dac_wishes.specs.laws.StartsByKey.{contains-writes_of, starts_again}
 use Rattle.dac_wishes.specs.laws.Wished.{is_wished-some}
 
 -- ---- what is stored is known
@@ -48,6 +49,12 @@ abbrev pub join_stored_wishes : StoredDots → StoredDots → StoredDots
 join_stored_wishes = join_stored (join_keyed key_cmp set.empty is_empty_set join_sets)
 
 module _ (v w : StoredDots) (a : AreStoredDots v) (b : AreStoredDots w) where
+  -- what shows the same wishes is stored the same
+  pub same_stored : wishes_of v ≡ wishes_of w → v ≡ w
+  same_stored e =
+      let stores = sym (starts_again v.store a.store) ∙ ap (λ (x : WishesValue). starts_by_key x.standing) e ∙ starts_again w.store b.store in
+      λ i. record { store = stores i; context = (e i).known }
+
   here : (q : Write) → set.contains (writes_of v.store) q ≡ set.contains (store_at set.empty (find key_cmp q.key v.store)) q.dot
   here q = contains-writes_of v.store a.store.in_order q
 

@@ -180,9 +180,7 @@ impl Lattice for Wishes {
     }
 
     fn equal(&self, other: &Self) -> bool {
-        self.tells_invariant();
-        other.tells_invariant();
-        self.leq(other) && other.leq(self)
+        self.causal.equal(&other.causal)
     }
 
     fn copy(&self) -> Result<Self, NoMemory> {

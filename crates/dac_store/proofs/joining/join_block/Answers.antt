@@ -1,9 +1,9 @@
 use Rattle.std.proofs.Common.{◌∙◌, subst}
 use Rattle.std.specs.Arc.{arc_value}
 use Rattle.dac_store.specs.DotMaps.{has_in}
-use Rattle.dac_store.specs.Joining.{AreBefore, ArePassed, IsMergedPart, joined_at}
+use Rattle.dac_store.specs.Joining.{AreBefore, IsMergedPart, joined_at}
 use Rattle.dac_store.specs.Stores.{IsUnheard}
-use Rattle.dac_store.proofs.JoinLemmas.{part_shared, passed_shared, unheard_stays}
+use Rattle.dac_store.proofs.JoinLemmas.{part_shared, unheard_stays}
 use Rattle.dac_store.proofs.joining.join_block.Goals as goal
 
 pub can_share-requires : goal.can_share-requires

@@ -1,6 +1,5 @@
 use Rattle.std.proofs.Common.{◌∙◌, ap, sym}
 use Rattle.std.specs.FinSet as set
-use Rattle.dac_store.specs.Few.{dots_of}
 use Rattle.dac_store.proofs.dot_set.DotSetDotStore.is_same.Goals as goal
 
 pub returns : goal.returns
