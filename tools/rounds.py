@@ -23,6 +23,8 @@ NO_GOAL = re.compile(r"has no field|has no `|ran out of (stack|the (steps|memory
 OF_OTHERS = re.compile(r"is not in scope|was not admitted")
 REFUSED = "refused, as it must be"
 MOST_SIGNS = 160
+# What the folder of a function's proof has before the name: nothing, or a plus where the function calls itself.
+BEFORE_NAMES = ("", "+")
 
 
 class Round(NamedTuple):
@@ -139,8 +141,8 @@ def is_of(match: "re.Match[str]", body: Body, name: str) -> bool:
     """Whether what is refused is a function's goal: it stands in the function's lines, or in the files of its proof."""
     if match["note"]:
         return is_within(match, body)
-    folder = "/".join((PROOFS.rstrip("/"), *name.split("::")[1:])) + "/"
-    return bool(name) and match["file"].startswith(folder)
+    *above, last = (PROOFS.rstrip("/"), *name.split("::")[1:])
+    return bool(name) and match["file"].startswith(tuple("/".join((*above, before + last, "")) for before in BEFORE_NAMES))
 
 
 def is_within(match: "re.Match[str]", body: Body) -> bool:

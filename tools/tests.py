@@ -450,6 +450,12 @@ class RoundsTest(unittest.TestCase):
     def test_a_goal_of_another_function(self) -> None:
         self.assertIsNone(refused_in(self.round("early", "second"), "dac_a", SAID_OF_A_ROUND))
 
+    def test_a_goal_of_a_function_that_calls_itself(self) -> None:
+        said = [line.replace("PairFrom/from/", "PairFrom/+from/") for line in SAID_OF_A_ROUND]
+        self.assertEqual(sorted(refused_in(self.round("early", "from"), "dac_a", said) or {}), ["early.edit", "from.edit"])
+        said = [line.replace("PairFrom/from/", "PairFrom/+caller/") for line in SAID_OF_A_ROUND]
+        self.assertIsNone(refused_in(self.round("early", "from"), "dac_a", said))
+
     def test_names(self) -> None:
         found = ["b::new", "a::Pair::new", "b::PairNew::new", "b::PairU8From::new"]
         of = [("", ""), ("Pair", ""), ("Pair", "New"), ("Pair", "From")]
