@@ -23,7 +23,7 @@ QUOTED = re.compile(r"`[^`]*`")
 NO_TEXT = re.compile(r"is not in scope|has no field|is no name|operand is missing|expected the end|cannot continue")
 NAMED = re.compile(r"(\./)?proofs/.*(has no field|is not in scope|has no `|was not admitted)")
 LIMIT = re.compile(r"(\./)?proofs/.*(ran out of (stack|the (steps|memory) )|outgrew the memory|stopped at the step limit)")
-LOWER_STEPS = re.compile(r"module .Rattle-\w+-.*Run the lower steps again")
+UNUSABLE = re.compile(r"module .Rattle-\w+-.*Run the lower steps again|rattle: error\[unusable-built-library\]")
 MOST_SIGNS, MOST_OF_A_FAULT, FIRST_LINES = 160, 200, 6
 
 
@@ -62,7 +62,7 @@ def judged(texts: Mapping[str, str], status: int, lines: Sequence[str]) -> str:
     unread = next((line for line in lines if is_unread(line, texts)), "")
     if unread:
         return UNREAD + unread[:MOST_OF_A_FAULT]
-    if any(map(LOWER_STEPS.search, lines)):
+    if any(map(UNUSABLE.search, lines)):
         return STALE
     if status == 1 and lines and lines[-1].startswith(NOT_PROVED):
         return refused_by(lines)

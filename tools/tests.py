@@ -531,6 +531,7 @@ JUDGED: Sequence[Tuple[int, Sequence[str], str]] = (
     (1, [UNREAD[1], *SAID_OF_A_MUTANT], judging.UNREAD + UNREAD[1]),
     (1, [FALSE, *SAID_OF_A_MUTANT], f"refused, as it must be: {FALSE}"),
     (1, ["module `Rattle-dac_a-A`: Run the lower steps again", *SAID_OF_A_MUTANT], judging.STALE),
+    (2, ["rattle: error[unusable-built-library]: the rlib of `dac_a` holds statements over another build"], judging.STALE),
     (3, ["rattle: no verdict", "it ended"], judging.NO_VERDICT + "rattle: no verdict | it ended"),
 )
 
