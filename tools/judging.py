@@ -19,7 +19,8 @@ FOLDERS = ("src/", "specs/", "proofs/")
 PLACE = re.compile(r"(note: )?\S+:\d+:\d+:")
 FAULT = re.compile(r"(?:\./)?(?P<file>\S+?):\d+:\d+: error: (?:(?P<goal>`[^`]*`): )?(?P<said>.*)")
 QUOTED = re.compile(r"`[^`]*`")
-# What is said of a text that can't be read, of a proof that names what is gone or cites such a proof, and of a limit.
+# What is said of a text that can't be read, of a proof that names what is gone or cites such a proof, of a limit, and of a library
+# that can't be used.
 NO_TEXT = re.compile(r"is not in scope|has no field|is no name|operand is missing|expected the end|cannot continue")
 NAMED = re.compile(r"(\./)?proofs/.*(has no field|is not in scope|has no `|was not admitted)")
 LIMIT = re.compile(r"(\./)?proofs/.*(ran out of (stack|the (steps|memory) )|outgrew the memory|stopped at the step limit)")
