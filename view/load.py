@@ -87,7 +87,7 @@ def row_by(down: list[str], side: Side, held: dict[str, Held]) -> Row:
     counts = {node: list(places.values()).count(node) for node in side.nodes if node not in down}
     ran = [name for name, each in side.page.held.items() if each.runs_at is not None]
     lost = [name for name in ran if name not in places]
-    last = [name for name in places if len({places[name], *held[name].nodes_marked("ok")}) == 1]
+    last = [name for name in places if held[name].is_alone]
     return Row(down, places, counts, lost, last)
 
 

@@ -45,6 +45,11 @@ class Held:
         """Whether something is left to be done about it."""
         return self.verdict in PENDING
 
+    @property
+    def is_alone(self) -> bool:
+        """Whether it runs at the last node that can run it."""
+        return self.runs_at is not None and set(self.nodes_marked("ok")) <= {self.runs_at}
+
     def nodes_marked(self, *marks: str) -> list[str]:
         """The nodes of its list that have one of some marks."""
         return [node for node, mark in marks_in(self.marks) if mark in marks]

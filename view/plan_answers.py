@@ -6,10 +6,11 @@ from typing import Iterable
 
 from view.changes import Answer, Change, Changes
 from view.cluster import Waiter
-from view.json_answers import Fields, json_of, name_or_none, names_of
+from view.json_answers import Fields, json_of, name_or_none, names_of, notes_fields
 from view.load import Load, Row
 from view.notes import Note
 from view.rolling import Move, Rolling, Step
+from view.settings import Differing
 from view.tokens import bare_name
 
 
@@ -61,6 +62,8 @@ def changes_answer(changes: Changes, notes: Iterable[Note]) -> str:
     fields: Fields = {"compared": changes.compared, "changes": [change_fields(change) for change in changes.changes]}
     fields["applications_added"], fields["applications_gone"] = map(names_of, changes.apps)
     fields["nodes_added"], fields["nodes_gone"] = map(names_of, changes.nodes)
+    fields["settings"] = [setting_fields(setting) for setting in changes.settings]
+    fields["notes_added"], fields["notes_gone"] = map(notes_fields, changes.notes)
     return json_of("then", fields, notes)
 
 
@@ -72,4 +75,15 @@ def change_fields(change: Change) -> Fields:
 
 def place_fields(answer: Answer) -> Fields:
     """The fields of where an application is."""
-    return {"node": name_or_none(answer.place), "milliseconds": answer.milliseconds}
+    return {
+        "node": name_or_none(answer.place),
+        "milliseconds": answer.milliseconds,
+        "longest_outage": answer.longest_outage,
+        "back": name_or_none(answer.back),
+        "last": answer.is_alone,
+    }
+
+
+def setting_fields(setting: Differing) -> Fields:
+    """The fields of a setting that differs."""
+    return {"setting": setting.name, "application": name_or_none(setting.app), "old": setting.old, "new": setting.new}

@@ -18,7 +18,7 @@ from view.distac import Distac
 from view.loading import Checked, load_config
 from view.noticing import USUAL_SECONDS, tick_time_of
 from view.openings import Side, opened, opened_after
-from view.pages import Held, Page
+from view.pages import Held, Page, marks_in
 from view.problems import Problem
 from view.running_now import Placed, opened_now, placed_by
 from view.texts import shown
@@ -60,6 +60,16 @@ class Fate:
     def stays(self) -> bool:
         """Whether nothing becomes of it: it is in one place all the time."""
         return self.how in ("stays", "nobody") and self.now == self.then == self.back
+
+    @property
+    def wait(self) -> int | None:
+        """For how many milliseconds it waits for its failover, if it fails over."""
+        return self.milliseconds if self.how == "failover" else None
+
+    @property
+    def is_alone(self) -> bool:
+        """Whether it is then at the last node that can run it."""
+        return self.then is not None and all(node == self.then for node, mark in marks_in(self.marks) if mark == "ok")
 
 
 @dataclass(frozen=True)

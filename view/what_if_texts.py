@@ -65,7 +65,7 @@ def case_rows(case: Case, nowhere: list[str], tick_time: int, shows_all: bool) -
 def cells_of(fate: Fate, tick_time: int) -> tuple[str, ...]:
     """The row of an application, without the nodes that are down."""
     after = "" if fate.milliseconds is None else f"{fate.milliseconds} ms"
-    outage = outage_of(fate.milliseconds, tick_time) if fate.how == "failover" and fate.milliseconds is not None else ""
+    outage = "" if fate.wait is None else outage_of(fate.wait, tick_time)
     how = "stays stopped" if fate.was_stopped and fate.how == "stays" else fate.how
     return (fate.app, fate.now or "-", fate.then or "-", how, after, outage, fate.back or "-")
 

@@ -20,6 +20,7 @@ from view.changes import changes_between
 from view.load import load_on
 from view.load_texts import budget_faults
 from view.openings import Side, opened
+from view.pages import marks_in
 from view.rolling import Planner, Standing, play_order, rolling_on
 from view.running_now import opened_now
 from view.what_if import Fate, Question, Reply, reply_on
@@ -30,6 +31,10 @@ SHOP = (
     "{mail,5000,[shop2@h,{shop1@h,shop3@h}]},{audit,0,[shop1@h,shop2@h]}]}]}].\n"
 )
 SYNC = "{sync_nodes_mandatory,[shop1@h,shop2@h,shop3@h]},{sync_nodes_timeout,5000}"
+FULL_SHOP = SHOP.replace(
+    "]}]}].",
+    "]},{sync_nodes_mandatory,[shop1@h,shop2@h,shop3@h]},{sync_nodes_optional,[]},{sync_nodes_timeout,30000},{net_ticktime,20}]}].",
+)
 GATED_SHOP = SHOP.replace("]}]}].", f"]}},{SYNC}]}}].")
 
 
@@ -191,8 +196,8 @@ class Changed(Files):
             changes = changes_between(distac(), Question("x"), old, new)
             before, behind = (fates_of(reply_on(distac(), checked, Question("x"))) for checked in (old, new))
             losses = [key for key in before if key in behind and what_follows(before[key]) != what_follows(behind[key])]
-            both = [name for name in old.configuration.names if name in new.configuration.names]
-            starts = [(name,) for name in both if now_of(before, name) != now_of(behind, name)]
+            starts = [(change.app,) for change in changes.changes if not change.down]
+            self.assertTrue(all((name,) in starts for name in moved_now(before, behind)))
             with self.subTest(number=number):
                 self.assertEqual(sorted((change.app, *change.down) for change in changes.changes), sorted([*losses, *starts]))
 
@@ -206,10 +211,43 @@ class Changed(Files):
             self.assertIn(line, said.output.splitlines())
         self.assertRegex(said.output, r"~ reports +now +shop3@h -> shop2@h\n")
         self.assertIn("of 16 answers change", said.output)
-        self.assertIn("end each other", said.output)
+        self.assertIn("The lists of reports differ: where nodes with both files meet, OTP ends one of them.", said.output)
         bad = self.path("bad.config", SHOP.replace("[{kernel", "[{kernel,"))
         for words in ((self.shop, "--then", bad), (bad, "--then", self.shop), (self.shop, "--then", "/no/such/file"), (self.shop, "--then", new, "--after", "x")):
             self.assertEqual(view("what-if", *words).status, 2, words)
+
+    def test_what_no_answer_shows(self) -> None:
+        old = self.path("old.config", FULL_SHOP)
+        rows: "tuple[tuple[str, str, str, str | None], ...]" = (
+            ("mandatory,[shop1@h,shop2@h,shop3@h]", "mandatory,[]", "~ all nodes  sync_nodes_mandatory  [shop1@h,shop2@h,shop3@h] -> []", None),
+            ("optional,[]", "optional,[shop1@h]", "~ all nodes  sync_nodes_optional  [] -> [shop1@h]", None),
+            ("timeout,30000", "timeout,300000", "~ all nodes  sync_nodes_timeout  30000 -> 300000", None),
+            ("net_ticktime,20", "net_ticktime,60", "~ reports    shop3@h down  away for at most 28 s -> 78 s", None),
+            ("shop2@h,shop3@h]},{reports", "shop2@h]},{reports", "~ billing  shop2@h down  one loss from nothing", "NoRollingChange"),
+            ("billing,8000", "billing,8001", "~ billing  shop1@h down  shop2@h after 8000 ms -> shop2@h after 8001 ms", "MixedTimes"),
+            ("{audit,", "{fax,[shop1@h]},{audit,", "+ fax (application)", "AddedMayRunTwice"),
+        )
+        for before, behind, line, note in rows:
+            self.assertIn(before, FULL_SHOP)
+            words = ("what-if", old, "--then", self.path("new.config", FULL_SHOP.replace(before, behind)))
+            said, answer = view(*words), json.loads(view(*words, "--json").output)
+            lines = [re.sub(" {2,}", "  ", row) for row in said.output.splitlines()]
+            self.assertEqual(said.status, 1, said)
+            self.assertIn(re.sub(" {2,}", "  ", line), lines)
+            self.assertEqual([each["id"] for each in answer["notes"]], [note] if note else [])
+
+    def test_a_node_that_can_not_come_back(self) -> None:
+        old, new = self.path("old.config", FULL_SHOP), self.path("new.config", FULL_SHOP.replace("mandatory,[shop1@h,", "mandatory,["))
+        said = view("what-if", old, "--then", new, "--down", "shop1@h", "shop2@h", "--back", "shop2@h")
+        self.assertIn("- shop2@h can't come back: it waits 30000 ms for shop1@h, mandatory, and ends. (note)", said.output)
+        self.assertRegex(said.output, r"~ mail +shop1@h shop2@h down +back: shop3@h -> shop2@h\n")
+        self.assertEqual(said.status, 1)
+
+    def test_a_hang_that_goes(self) -> None:
+        old = self.path("old.config", SHOP.replace("mail,5000,[shop2@h,", "mail,8000,[shop1@h,").replace("{shop1@h,shop3@h}", "{shop2@h,shop3@h}"))
+        said = view("what-if", old, "--then", self.path("new.config", Path(old).read_text().replace("mail,8000", "mail,9000")))
+        self.assertIn("- Without shop1@h OTP 25 may restart one of billing and mail alone and hang", said.output)
+        self.assertIn("The times of mail differ: such a file can be rolled out node by node.", said.output)
 
     def test_what_runs_now_moves(self) -> None:
         new = self.path("new.config", SHOP.replace("[shop2@h,{shop1@h,shop3@h}]", "[shop3@h,{shop1@h,shop2@h}]"))
@@ -222,9 +260,16 @@ def fates_of(reply: Reply) -> "dict[tuple[str, ...], Fate]":
     return {(fate.app, *case.down): fate for case in reply.cases for fate in case.fates}
 
 
-def what_follows(fate: Fate) -> "tuple[str | None, int | None]":
-    """What a loss does to an application."""
-    return fate.then, fate.milliseconds
+def what_follows(fate: Fate) -> "tuple[object, ...]":
+    """What a loss does to an application. All random files have one net_ticktime, so an outage is as long as its wait."""
+    able = {node for node, mark in marks_in(fate.marks) if mark == "ok"}
+    return fate.then, fate.milliseconds, fate.how == "failover", fate.back, fate.then is not None and able <= {fate.then}
+
+
+def moved_now(before: "dict[tuple[str, ...], Fate]", behind: "dict[tuple[str, ...], Fate]") -> "set[str]":
+    """The applications of both answers that are elsewhere before any loss."""
+    both = {key[0] for key in before} & {key[0] for key in behind}
+    return {app for app in both if now_of(before, app) != now_of(behind, app)}
 
 
 def now_of(fates: "dict[tuple[str, ...], Fate]", app: str) -> "str | None":
