@@ -15,7 +15,7 @@ from view.distac import Distac
 from view.loading import load_config
 from view.openings import Side
 from view.pages import Held, Page
-from view.what_if import Question, courses_of, held_on, sides_of
+from view.what_if import Question, courses_of, held_on, nowhere_at_first, sides_of
 
 
 @dataclass(frozen=True)
@@ -51,6 +51,11 @@ class Load:
     start: Row
     singles: list[Row]
     pairs: list[Row] = field(default_factory=list)
+
+    @property
+    def nowhere(self) -> list[str]:
+        """The applications that run nowhere before any loss."""
+        return [held.app for held in nowhere_at_first(self.side)]
 
     @property
     def rows(self) -> list[Row]:

@@ -8,14 +8,13 @@ from view.load import Load, Row
 from view.texts import columns_of, listed, shown
 from view.tokens import bare_name
 from view.what_if_notes import few_of
-from view.what_if_texts import lines_of_rows, nowhere_lines
+from view.what_if_texts import lines_of_rows
 
 MOST_COLUMNS = 8
 
 
 def table_of(load: Load, most: int | None) -> Iterator[str]:
-    """What runs nowhere at first, the table, and which applications are one loss from nothing."""
-    yield from nowhere_lines(load.side.page, load.configuration)
+    """The table, and which applications are one loss from nothing."""
     rows = shown_rows(load, most)
     yield from lines_of_rows(wide_rows(load, rows) if len(load.side.nodes) <= MOST_COLUMNS else narrow_rows(rows))
     left = len(load.rows) + 1 - len(rows)
@@ -78,8 +77,11 @@ def last_lines(load: Load) -> Iterator[str]:
 
 def budget_faults(load: Load, fail_on: list[str], most: int | None) -> Iterator[str]:
     """What a budget that stands in `--fail-on` doesn't allow, as sentences."""
+    nowhere = load.nowhere if "lost" in fail_on else []
     lost = [row for row in load.rows if row.lost] if "lost" in fail_on else []
     above = [row for row in (load.start, *load.rows) if is_above(row, most)] if "load" in fail_on else []
+    if nowhere:
+        yield f"lost: {shown(few_of(nowhere))} {'runs' if len(nowhere) == 1 else 'run'} nowhere before any loss"
     if lost:
         yield f"lost: {len(lost)} of {len(load.rows)} losses leave an application nowhere, first {down_of(lost[0])}"
     if above:

@@ -48,7 +48,7 @@ def waiter_fields(waiter: Waiter) -> Fields:
 def load_answer(load: Load, notes: Iterable[Note]) -> str:
     """The answer of `load`."""
     rows = [row_fields(row) for row in (load.start, *load.rows)]
-    return json_of("load", {"nodes": names_of(load.configuration.nodes), "losses": rows}, notes)
+    return json_of("load", {"nodes": names_of(load.configuration.nodes), "nowhere": names_of(load.nowhere), "losses": rows}, notes)
 
 
 def row_fields(row: Row) -> Fields:

@@ -100,7 +100,7 @@ def add_load(parser: argparse.ArgumentParser) -> None:
     add_now(parser)
     parser.add_argument("--pairs", action="store_true", help="ask about each two nodes that go down together too")
     parser.add_argument("--most", metavar="N", type=int, help="how many applications a node may have")
-    budget = "make the exit status 1 if an application is lost, or if a node has more than --most: lost, load or lost,load"
+    budget = "make the exit status 1 if an application is lost or runs nowhere, or a node has more than --most: lost, load or lost,load"
     parser.add_argument("--fail-on", metavar="WHAT", nargs="+", action="extend", default=[], help=budget)
     add_json(parser)
 

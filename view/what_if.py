@@ -177,6 +177,11 @@ def held_on(page: Page, configuration: Configuration) -> dict[str, Held]:
     return {name: page.held.get(name) or Held(name, None, 0, 0, "", "nobody", None, "") for name in configuration.names}
 
 
+def nowhere_at_first(side: Side) -> list[Held]:
+    """The applications that run nowhere before any node goes down."""
+    return [held for held in held_on(side.page, side.cluster.configuration).values() if held.runs_at is None]
+
+
 def fate_of(now: Held, at_once: Held, then: Held, back: Held, claimed: int | None) -> Fate:
     """What becomes of an application, by the pages before, at once behind, later and in the end."""
     how = at_once.verdict

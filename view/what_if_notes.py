@@ -12,7 +12,7 @@ from view.notes import Note
 from view.openings import Side
 from view.pages import marks_in
 from view.texts import cut, listed, shown
-from view.what_if import Answers, Case, Fate, Reply
+from view.what_if import Answers, Case, Fate, Reply, nowhere_at_first
 
 MOST_NAMED = 8
 TEXTS = {
@@ -55,8 +55,14 @@ def opening_notes(reply: Reply) -> Iterator[Note]:
 
 
 def start_notes(side: Side, is_now: bool) -> list[Note]:
-    """What to know of a start: nodes that can't act, and if it is where applications run now, what moves at once."""
-    return [*side_notes(side), *(now_notes(side) if is_now else ())]
+    """What to know of a start: what runs nowhere, nodes that can't act, and if it is where applications run now, what moves at once."""
+    return [*nowhere_notes(side), *side_notes(side), *(now_notes(side) if is_now else ())]
+
+
+def nowhere_notes(side: Side) -> Iterator[Note]:
+    """What runs nowhere before any node goes down, and why."""
+    for held in nowhere_at_first(side):
+        yield Note("RunsNowhere", shown(f"{held.app} runs nowhere before any loss: {held.marks or 'no node is up'}"))
 
 
 def now_notes(side: Side) -> Iterator[Note]:

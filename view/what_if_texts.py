@@ -4,11 +4,9 @@ from __future__ import annotations
 
 from typing import Iterable, Iterator
 
-from view.configuration import Configuration
 from view.noticing import outage_of
-from view.pages import Held, Page
 from view.texts import columns_of, listed, padded, shown
-from view.what_if import Answers, Case, Fate, Reply, held_on
+from view.what_if import Answers, Case, Fate, Reply, nowhere_at_first
 from view.what_if_notes import notes_on
 
 HEADS = ("down", "application", "now", "then", "how", "after", "outage", "back")
@@ -28,27 +26,12 @@ def table_of(reply: Reply, shows_all: bool = False) -> Iterator[str]:
 
 
 def side_table(reply: Reply, answers: Answers, shows_all: bool) -> Iterator[str]:
-    """What runs nowhere from the start on, and the table of one side."""
-    nowhere = nowhere_at_first(answers.side.page, reply.configuration)
-    yield from nowhere_lines(answers.side.page, reply.configuration)
+    """The table of one side. What runs nowhere from the start on is told below it."""
+    nowhere = [held.app for held in nowhere_at_first(answers.side)]
     rows: list[tuple[str, ...]] = [HEADS]
     for case in answers.cases:
-        rows += case_rows(case, [held.app for held in nowhere], reply.tick_time, shows_all)
+        rows += case_rows(case, nowhere, reply.tick_time, shows_all)
     yield from lines_of_rows(rows)
-
-
-def nowhere_at_first(page: Page, configuration: Configuration) -> list[Held]:
-    """The applications that run nowhere before any node goes down."""
-    return [held for held in held_on(page, configuration).values() if held.runs_at is None]
-
-
-def nowhere_lines(page: Page, configuration: Configuration) -> Iterator[str]:
-    """What runs nowhere before any node goes down, and why: said once, and not in each case."""
-    nowhere = nowhere_at_first(page, configuration)
-    for held in nowhere:
-        yield shown(f"{held.app} runs nowhere: {held.marks or 'no node is up'}")
-    if nowhere:
-        yield ""
 
 
 def case_rows(case: Case, nowhere: list[str], tick_time: int, shows_all: bool) -> Iterator[tuple[str, ...]]:

@@ -111,6 +111,16 @@ class Loads(Files):
         for word in ("load", "everything"):
             self.assertEqual(view("load", self.shop, "--fail-on", word).status, 2)
 
+    def test_what_never_runs_is_lost(self) -> None:
+        forbidden = self.path("forbidden.config", SHOP.replace("]}]}].", "]},{permissions,[{audit,false}]}]}]."))
+        now = (self.shop, "--now", "mail=shop2@h", "billing=shop1@h")
+        for words, names in (((forbidden,), ["audit"]), (now, ["reports", "audit"]), ((self.shop,), [])):
+            said, answer = view("load", *words, "--fail-on", "lost"), json.loads(view("load", *words, "--json").output)
+            self.assertEqual((said.status, answer["nowhere"]), (1 if names else 0, names), said)
+            self.assertEqual([note["text"].split(" ")[0] for note in answer["notes"] if note["id"] == "RunsNowhere"], names)
+        self.assertIn("- audit runs nowhere before any loss: shop1@h=barred shop2@h=barred\n", view("load", forbidden).output)
+        self.assertIn("distac-view: lost: audit runs nowhere before any loss\n", view("load", forbidden, "--fail-on", "lost").errors)
+
     def test_many_nodes_have_no_column_each(self) -> None:
         side = wide_side(Random("wide"), 12)
         self.assertEqual(list(budget_faults(load_on(distac(), side, False), ["lost"], None)), [])
