@@ -54,7 +54,7 @@ def what_if_answer(reply: Reply, notes: Iterable[Note]) -> str:
 def case_fields(case: Case, tick_time: int) -> Fields:
     """The fields of a case."""
     nodes = {"down": names_of(case.down), "returning": names_of(case.back)}
-    return {**nodes, "applications": [fate_fields(fate, tick_time) for fate in case.fates]}
+    return {**nodes, "applications": [fate_fields(fate, tick_time) for fate in case.fates], "may_hang": names_of(case.may_hang)}
 
 
 def fate_fields(fate: Fate, tick_time: int) -> Fields:

@@ -77,12 +77,14 @@ def last_lines(load: Load) -> Iterator[str]:
 
 def budget_faults(load: Load, fail_on: list[str], most: int | None) -> Iterator[str]:
     """What a budget that stands in `--fail-on` doesn't allow, as sentences."""
-    nowhere = load.nowhere if "lost" in fail_on else []
+    if "lost" in fail_on and load.nowhere:
+        yield f"lost: {shown(few_of(load.nowhere))} {'runs' if len(load.nowhere) == 1 else 'run'} nowhere before any loss"
     lost = [row for row in load.rows if row.lost] if "lost" in fail_on else []
-    above = [row for row in (load.start, *load.rows) if is_above(row, most)] if "load" in fail_on else []
-    if nowhere:
-        yield f"lost: {shown(few_of(nowhere))} {'runs' if len(nowhere) == 1 else 'run'} nowhere before any loss"
     if lost:
         yield f"lost: {len(lost)} of {len(load.rows)} losses leave an application nowhere, first {down_of(lost[0])}"
+    above = [row for row in (load.start, *load.rows) if is_above(row, most)] if "load" in fail_on else []
     if above:
         yield f"load: a node has more than {most} applications in {len(above)} of {len(load.rows) + 1} cases, first {down_of(above[0])}"
+    hanging = [row for row in load.rows if row.may_hang] if "hang" in fail_on else []
+    if hanging:
+        yield f"hang: OTP may hang in {len(hanging)} of {len(load.rows)} losses, first {down_of(hanging[0])}"

@@ -31,7 +31,8 @@ def step_fields(step: Step) -> Fields:
     """The fields of a step."""
     moves = {name: [move_fields(move) for move in getattr(step, name)] for name in ("drained", "down", "back")}
     waiters = [waiter_fields(waiter) for waiter in step.waiters]
-    return {"node": bare_name(step.node), **moves, "nowhere": names_of(step.nowhere), "barred": waiters}
+    names = {name: names_of(getattr(step, name)) for name in ("nowhere", "may_hang")}
+    return {"node": bare_name(step.node), **moves, **names, "barred": waiters}
 
 
 def move_fields(move: Move) -> Fields:
@@ -54,7 +55,8 @@ def load_answer(load: Load, notes: Iterable[Note]) -> str:
 def row_fields(row: Row) -> Fields:
     """The fields of a loss."""
     counts = [{"node": bare_name(node), "applications": count} for node, count in row.counts.items()]
-    return {"down": names_of(row.down), "load": counts, "lost": names_of(row.lost), "last": names_of(row.last)}
+    names = {name: names_of(getattr(row, name)) for name in ("lost", "last", "may_hang")}
+    return {"down": names_of(row.down), "load": counts, **names}
 
 
 def changes_answer(changes: Changes, notes: Iterable[Note]) -> str:

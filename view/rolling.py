@@ -14,6 +14,7 @@ from view.cases import Claimed, Loss, claims_in, course_of, first_pages
 from view.cluster import Cluster, Waiter, take_rounds
 from view.configuration import Configuration
 from view.distac import Distac
+from view.hangs import names_that_hang
 from view.loading import load_config
 from view.openings import Side
 from view.pages import Page
@@ -45,7 +46,7 @@ class Move:
 class Step:
     """A node that restarts: what moves before by a drain, while it is down, and once it is back; what runs nowhere meanwhile.
 
-    A waiter is a node that gives up at its start gate: then the restart can't go on.
+    A waiter is a node that gives up at its start gate: then the restart can't go on. Some applications OTP may fail to restart.
     """
 
     node: str
@@ -54,6 +55,7 @@ class Step:
     back: list[Move]
     nowhere: list[str]
     waiters: list[Waiter]
+    may_hang: list[str]
 
     @property
     def moves(self) -> int:
@@ -107,6 +109,11 @@ class Rolling:
     def waits(self) -> int:
         """For how many milliseconds applications wait in all steps together."""
         return sum(step.waits for step in self.steps)
+
+    @property
+    def hanging(self) -> list[Step]:
+        """The steps in which OTP may fail to restart applications."""
+        return [step for step in self.steps if step.may_hang]
 
     @property
     def is_barred(self) -> bool:
@@ -223,7 +230,8 @@ class Planner:
         waiters = end.ended[len(cluster.ended) :]
         moves = moves_of(standing.page, drained), moves_of(page, course.claims), moves_of(course.then, course.claims_back, page)
         nowhere = [held.app for held in page.held.values() if held.runs_at and not runs_at(course.then, held.app)]
-        return Step(node, *moves, nowhere, waiters), Standing(end, course.back)
+        may_hang = names_that_hang(course, cluster.nodes, cluster.configuration)
+        return Step(node, *moves, nowhere, waiters, may_hang), Standing(end, course.back)
 
 
 def drain(distac: Distac, cluster: Cluster, node: str) -> list[Claimed]:

@@ -29,6 +29,12 @@ def drain_notes(drains: bool) -> Iterator[Note]:
         yield Note("NoDrain", text)
 
 
+def hang_faults(rolling: Rolling, fail_on: list[str]) -> Iterator[str]:
+    """What `--fail-on` doesn't allow."""
+    if "hang" in fail_on and rolling.hanging:
+        yield shown(f"hang: OTP may hang in {len(rolling.hanging)} of {counted(len(rolling.steps), 'step')}, first {bare_name(rolling.hanging[0].node)}")
+
+
 def found_how(rolling: Rolling) -> str:
     """How the order was found."""
     if rolling.is_given:
@@ -43,6 +49,8 @@ def parts_of(step: Step) -> Iterator[str]:
     if step.drained:
         yield f"drained: {listed([target_of(move) for move in step.drained])}"
     yield f"down: {listed([moved(move) for move in step.down]) or 'nothing moves'}"
+    if step.may_hang:
+        yield f"OTP may hang: {few_of(step.may_hang)}"
     if step.nowhere:
         yield f"runs nowhere meanwhile: {few_of(step.nowhere)}"
     yield f"back: {listed([moved(move) for move in step.back]) or 'nothing moves'}"

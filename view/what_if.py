@@ -15,6 +15,7 @@ from view.cases import Course, Loss, course_of, first_pages
 from view.cluster import Waiter
 from view.configuration import Configuration, name_order
 from view.distac import Distac
+from view.hangs import names_that_hang
 from view.loading import Checked, load_config
 from view.noticing import USUAL_SECONDS, tick_time_of
 from view.openings import Side, opened, opened_after
@@ -74,12 +75,16 @@ class Fate:
 
 @dataclass(frozen=True)
 class Case:
-    """Some nodes that go down together, what becomes of each application, which nodes come back, and who waits at a start gate then."""
+    """Some nodes that go down together, what becomes of each application, which nodes come back, and who waits at a start gate then.
+
+    With it go the applications that OTP may fail to restart.
+    """
 
     down: list[str]
     fates: list[Fate]
     back: list[str] = field(default_factory=list)
     waiters: list[Waiter] = field(default_factory=list)
+    may_hang: list[str] = field(default_factory=list)
 
 
 @dataclass(frozen=True)
@@ -169,7 +174,7 @@ def case_of(side: Side, course: Course) -> Case:
     fates = [fate_of(now[name], at_once[name], then[name], back[name], claims.get(name)) for name in now]
     old = side.cluster
     waiters = [*course.cluster.ended[len(old.ended) :], *course.cluster.waiting]
-    return Case(course.loss.down, fates, course.loss.back, waiters)
+    return Case(course.loss.down, fates, course.loss.back, waiters, names_that_hang(course, side.nodes, old.configuration))
 
 
 def held_on(page: Page, configuration: Configuration) -> dict[str, Held]:

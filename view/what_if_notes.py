@@ -6,13 +6,13 @@ from typing import Iterable, Iterator
 
 from view.cluster import Waiter
 from view.configuration import Configuration
-from view.equal_times import pairs_among
+from view.hangs import hang_notes
 from view.noticing import notice_range, seconds_of
 from view.notes import Note
 from view.openings import Side
 from view.pages import marks_in
-from view.texts import cut, listed, shown
-from view.what_if import Answers, Case, Fate, Reply, nowhere_at_first
+from view.texts import listed, shown
+from view.what_if import Fate, Reply, nowhere_at_first
 
 MOST_NAMED = 8
 TEXTS = {
@@ -119,7 +119,7 @@ def time_notes(reply: Reply) -> Iterator[Note]:
 def otp_notes(reply: Reply) -> Iterator[Note]:
     """What differs from OTP, where it matters here."""
     fates = [fate for case in reply.cases for fate in case.fates]
-    yield from equal_times_notes(reply)
+    yield from hang_notes((case.down, case.may_hang) for case in reply.cases)
     yield from idle_notes(fates)
     if any(is_of_tuple(reply, fate) for fate in fates):
         yield Note("TupleLoad", TEXTS["TupleLoad"])
@@ -131,30 +131,6 @@ def otp_notes(reply: Reply) -> Iterator[Note]:
         yield Note("StopMoves", TEXTS["StopMoves"])
     if any(len(case.down) > 1 for case in reply.cases):
         yield Note("NoSplit", TEXTS["NoSplit"])
-
-
-def equal_times_notes(reply: Reply) -> Iterator[Note]:
-    """Applications of a case that OTP may fail to restart, because they wait equally long and their nodes may wait for each other."""
-    for answers in reply.sides:
-        for case in answers.cases:
-            names = names_that_hang(answers, case, reply.configuration)
-            if names:
-                text = f"Without {listed(case.down)} OTP 25 may restart one of {listed(names)} alone and hang"
-                yield Note("EqualTimes", shown(f"{text}: give each its own time, further apart than a start takes: 100 ms or more."))
-
-
-def names_that_hang(answers: Answers, case: Case, configuration: Configuration) -> list[str]:
-    """The applications that fail over at one moment, and that OTP may fail to restart with the nodes that are left."""
-    moments: dict[int, list[str]] = {}
-    for fate in case.fates:
-        if fate.how == "failover" and fate.milliseconds is not None:
-            moments.setdefault(fate.milliseconds, []).append(fate.app)
-    left = [node for node in answers.side.nodes if node not in case.down]
-    found: set[str] = set()
-    for names in moments.values():
-        lost = [each for each in configuration.applications if each.name in names]
-        found.update(each.name for pair in pairs_among(lost, left) for each in pair)
-    return [name for name in configuration.names if name in found]
 
 
 def idle_notes(fates: list[Fate]) -> Iterator[Note]:

@@ -30,6 +30,7 @@ SHOP = (
     "[{kernel,[{distributed,[{billing,8000,[shop1@h,shop2@h,shop3@h]},{reports,3000,[shop3@h,shop1@h]},"
     "{mail,5000,[shop2@h,{shop1@h,shop3@h}]},{audit,0,[shop1@h,shop2@h]}]}]}].\n"
 )
+FLEET = "[{kernel,[{distributed,[{a,5000,[n1@h,{n2@h,n3@h}]},{b,5000,[n1@h,{n2@h,n3@h}]},{c,5000,[n2@h,n3@h,n1@h]}]}]}].\n"
 SYNC = "{sync_nodes_mandatory,[shop1@h,shop2@h,shop3@h]},{sync_nodes_timeout,5000}"
 FULL_SHOP = SHOP.replace(
     "]}]}].",
@@ -137,6 +138,31 @@ def wide_side(random: Random, count: int = 7) -> Side:
         entries.append("{a%d,%d,[%s]}" % (number, random.choice((0, 500, 1000)), ",".join([items, *rest])))
     sync = "{sync_nodes_optional,[%s]}" % ",".join(nodes)
     return opened(distac(), checked_of("[{kernel,[{distributed,[%s]},%s]}].\n" % (",".join(entries), sync)), [])
+
+
+class Hangs(Files):
+    """Where OTP may fail to restart applications: told by each question that asks about the loss."""
+
+    def test_each_question_says_it(self) -> None:
+        fleet, cured = self.path("fleet.config", FLEET), self.path("cured.config", FLEET.replace("b,5000", "b,6000"))
+        for question, losses in (("what-if", "cases"), ("load", "losses"), ("rolling", "steps")):
+            answer = json.loads(view(question, fleet, "--json").output)
+            names = {str(loss.get("down") if question != "rolling" else [loss["node"]]): loss["may_hang"] for loss in answer[losses]}
+            self.assertEqual(names.pop("['n1@h']"), ["a", "b"], question)
+            self.assertFalse(any(names.values()), question)
+            self.assertIn("EqualTimes", [note["id"] for note in answer["notes"]], question)
+            self.assertIn("Without n1@h OTP 25 may restart one of a and b alone and hang", view(question, fleet).output)
+            self.assertNotIn("hang", view(question, cured).output, question)
+        self.assertIn("; OTP may hang: a and b; back:", view("rolling", fleet).output)
+
+    def test_it_can_fail(self) -> None:
+        fleet, cured = self.path("fleet.config", FLEET), self.path("cured.config", FLEET.replace("b,5000", "b,6000"))
+        for words in (("load", "--pairs"), ("rolling",)):
+            said = view(*words, fleet, "--fail-on", "hang")
+            self.assertEqual((said.status, said.errors.count("distac-view: hang: OTP may hang in 1 of")), (1, 1), words)
+            self.assertEqual(view(*words, fleet).status, 0)
+            self.assertEqual(view(*words, cured, "--fail-on", "hang").status, 0)
+        self.assertEqual(view("rolling", fleet, "--fail-on", "lost").status, 2)
 
 
 class Rolls(Files):
