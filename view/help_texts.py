@@ -48,6 +48,7 @@ EXAMPLES = {
                                                  what a new configuration changes""",
     "rolling": """\
   distac-view rolling sys.config                 the best order of restarts, and what moves in each step
+  distac-view rolling sys.config --takes 4000    the same if each node is back after 4 s
   distac-view rolling sys.config --now now.txt --order shop2@rack1 shop1@rack1 --drain
                                                  this order, from where applications run now, with drains""",
     "load": """\

@@ -45,6 +45,7 @@ def what_if_answer(reply: Reply, notes: Iterable[Note]) -> str:
     fields: Fields = {
         "nodes": names_of(reply.configuration.nodes),
         "net_ticktime": reply.tick_time,
+        "takes": reply.question.takes,
         "sides": [{"nodes": names_of(answers.side.members)} for answers in reply.sides],
         "cases": [case_fields(case, reply.tick_time) for case in reply.cases],
     }
@@ -67,6 +68,7 @@ def fate_fields(fate: Fate, tick_time: int) -> Fields:
         "milliseconds": fate.milliseconds,
         "longest_outage": None if fate.wait is None else longest_outage(fate.wait, tick_time),
         "back": name_or_none(fate.back),
+        "waits": fate.waits,
         "stopped": fate.was_stopped,
         "list": [{"node": bare_name(node), "mark": mark} for node, mark in marks_in(fate.marks)],
     }

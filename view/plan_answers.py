@@ -22,6 +22,7 @@ def rolling_answer(rolling: Rolling, notes: Iterable[Note]) -> str:
         "waits": rolling.waits,
         "compared": rolling.compared,
         "worst": rolling.worst,
+        "takes": rolling.takes,
         "steps": [step_fields(step) for step in rolling.steps],
     }
     return json_of("rolling", fields, notes)
@@ -31,7 +32,7 @@ def step_fields(step: Step) -> Fields:
     """The fields of a step."""
     moves = {name: [move_fields(move) for move in getattr(step, name)] for name in ("drained", "down", "back")}
     waiters = [waiter_fields(waiter) for waiter in step.waiters]
-    names = {name: names_of(getattr(step, name)) for name in ("nowhere", "may_hang")}
+    names = {name: names_of(getattr(step, name)) for name in ("nowhere", "waiting", "may_hang")}
     return {"node": bare_name(step.node), **moves, **names, "barred": waiters}
 
 

@@ -9,6 +9,7 @@ from view.changes import changes_by
 from view.changes_texts import lines_of as changes_lines
 from view.changes_texts import notes_on as change_notes
 from view.distac import Distac
+from view.equal_times import FOREVER
 from view.hangs import hang_notes
 from view.json_answers import what_if_answer
 from view.load import load_of
@@ -21,7 +22,8 @@ from view.problems import Problem, Status
 from view.rolling import rolling_of
 from view.rolling_texts import drain_notes, hang_faults
 from view.rolling_texts import lines_of as rolling_lines
-from view.texts import listed
+from view.texts import listed, shown
+from view.verbs import Role, fits
 from view.what_if import Question, reply_to
 from view.what_if_notes import below, notes_on, start_notes
 from view.what_if_texts import table_of
@@ -36,7 +38,7 @@ def written(output: Output, lines: Iterable[str]) -> None:
 
 def what_if(distac: Distac, words: argparse.Namespace, output: Output) -> Status:
     """Prints what becomes of each application if nodes go down, or what a new configuration changes."""
-    question = Question(words.config, words.down, words.not_started, words.after, words.back, words.now)
+    question = Question(words.config, words.down, words.not_started, words.after, words.back, words.now, takes=words.takes)
     if words.then:
         return what_changes(distac, question, words, output)
     reply = reply_to(distac, question)
@@ -87,7 +89,7 @@ def judged(faults: Iterable[str]) -> Status:
 def rolling(distac: Distac, words: argparse.Namespace, output: Output) -> Status:
     """Prints the steps of a rolling restart, in a given order or in the best one."""
     fail_on = failing(words.fail_on, ("hang",))
-    found = rolling_of(distac, Question(words.config, now=words.now), words.order, words.drain)
+    found = rolling_of(distac, Question(words.config, now=words.now, takes=words.takes), words.order, words.drain)
     hangs = hang_notes(([step.node], step.may_hang) for step in found.steps)
     notes = [*start_notes(found.side, bool(words.now)), *drain_notes(words.drain), *hangs]
     written(output, [rolling_answer(found, notes)] if words.json else [*rolling_lines(found), *below(notes)])
@@ -104,6 +106,7 @@ def add_what_if(parser: argparse.ArgumentParser) -> None:
     add_now(parser)
     back = "those of --down that come back: all, if this is absent"
     parser.add_argument("--back", metavar="NODE", nargs="+", action="extend", default=[], help=back)
+    add_takes(parser)
     then = "say what this configuration changes in place of CONFIG: the exit status is 1 if it changes anything"
     parser.add_argument("--then", metavar="NEW.config", help=then)
     parser.add_argument("--all", action="store_true", help="show the rows of applications that stay too")
@@ -127,6 +130,7 @@ def add_rolling(parser: argparse.ArgumentParser) -> None:
     order = "restart these nodes in this order; if absent, the best order of all nodes is looked for"
     parser.add_argument("--order", metavar="NODE", nargs="+", action="extend", default=[], help=order)
     parser.add_argument("--drain", action="store_true", help="drain each node before it goes down, so that nothing waits")
+    add_takes(parser)
     add_fail_on(parser, "hang (OTP may hang in a step)")
     add_json(parser)
 
@@ -135,6 +139,19 @@ def add_fail_on(parser: argparse.ArgumentParser, what: str) -> None:
     """The words of a budget."""
     more = f"make the exit status 1 by what is named, parted by commas: {what}"
     parser.add_argument("--fail-on", metavar="WHAT", nargs="+", action="extend", default=[], help=more)
+
+
+def add_takes(parser: argparse.ArgumentParser) -> None:
+    """The word that says how long a restart takes."""
+    more = "after how many milliseconds a node is back with all started: what waits longer doesn't move; longer than all waits if absent"
+    parser.add_argument("--takes", metavar="MS", type=milliseconds, help=more)
+
+
+def milliseconds(word: str) -> int:
+    """A time that the command line gives."""
+    if not fits(Role.NUMBER, word) or not 0 < int(word) <= FOREVER:
+        raise argparse.ArgumentTypeError(f"milliseconds from 1 to {FOREVER} are wanted, and not {shown(word)}")
+    return int(word)
 
 
 def add_json(parser: argparse.ArgumentParser) -> None:

@@ -9,12 +9,14 @@ from view.rolling import Move, Rolling, Step
 from view.texts import listed, shown
 from view.tokens import bare_name
 from view.what_if_notes import few_of, wait_of
+from view.what_if_texts import lasting
 
 
 def lines_of(rolling: Rolling) -> Iterator[str]:
     """The order with what it costs, and its steps."""
     names = " > ".join(bare_name(node) for node in rolling.order)
-    yield shown(f"order {names}: {counted(rolling.moves, 'move')}, {rolling.waits} ms of waits{found_how(rolling)}")
+    lasts = f"restarts of {rolling.takes} ms" if rolling.takes is not None else f"restarts {lasting(None, rolling.configuration)}"
+    yield shown(f"order {names}: {counted(rolling.moves, 'move')}, {rolling.waits} ms of waits, {lasts}{found_how(rolling)}")
     for number, step in enumerate(rolling.steps, 1):
         yield shown(f"{number} {bare_name(step.node)}: {'; '.join(parts_of(step))}")
         for waiter in step.waiters:
@@ -51,6 +53,8 @@ def parts_of(step: Step) -> Iterator[str]:
     yield f"down: {listed([moved(move) for move in step.down]) or 'nothing moves'}"
     if step.may_hang:
         yield f"OTP may hang: {few_of(step.may_hang)}"
+    if step.waiting:
+        yield f"back before its wait is over: {few_of(step.waiting)}"
     if step.nowhere:
         yield f"runs nowhere meanwhile: {few_of(step.nowhere)}"
     yield f"back: {listed([moved(move) for move in step.back]) or 'nothing moves'}"

@@ -32,7 +32,8 @@ MOST_AT_ONCE = 8
 class Question:
     """What is asked: the configuration, which nodes go down together and come back, where nothing is started, and how it begins.
 
-    It begins after a script, or with applications where they run now, or with a cluster that just came up.
+    It begins after a script, or with applications where they run now, or with a cluster that just came up. A restart takes so many
+    milliseconds, or longer than all waits.
     """
 
     config: str
@@ -42,11 +43,15 @@ class Question:
     back: list[str] = field(default_factory=list)
     now: list[str] = field(default_factory=list)
     placed: Placed | None = None
+    takes: int | None = None
 
 
 @dataclass(frozen=True)
 class Fate:
-    """What becomes of an application: where it is, then and later, how it comes there, after how long, and its list's marks."""
+    """What becomes of an application: where it is, then and later, how it comes there, after how long, and its list's marks.
+
+    It waits if its nodes are back before its time is over.
+    """
 
     app: str
     now: str | None
@@ -56,6 +61,7 @@ class Fate:
     back: str | None
     marks: str
     was_stopped: bool
+    waits: bool = False
 
     @property
     def stays(self) -> bool:
@@ -123,7 +129,8 @@ def reply_on(distac: Distac, checked: Checked, question: Question) -> Reply:
     found = []
     for side in sides_of(distac, checked, question, not_started):
         groups = [[node for node in down if node in side.members]] if down else [[node] for node in side.members]
-        losses = [Loss(group, [node for node in group if node in back or not back], not_started) for group in groups if group]
+        returns = [(group, [node for node in group if node in back or not back]) for group in groups if group]
+        losses = [Loss(group, returning, not_started, question.takes) for group, returning in returns]
         found.append(Answers(side, cases_of(distac, side, losses)))
     return Reply(checked.configuration, question, found, tick_time_of(checked.text))
 
@@ -171,7 +178,7 @@ def case_of(side: Side, course: Course) -> Case:
     """What becomes of each application in a case."""
     now, at_once, then, back = (held_on(page, side.cluster.configuration) for page in (side.page, course.at_once, course.then, course.back))
     claims = {each.app: each.milliseconds for each in course.claims}
-    fates = [fate_of(now[name], at_once[name], then[name], back[name], claims.get(name)) for name in now]
+    fates = [fate_of(now[name], at_once[name], then[name], back[name], claims.get(name), name in course.waiting) for name in now]
     old = side.cluster
     waiters = [*course.cluster.ended[len(old.ended) :], *course.cluster.waiting]
     return Case(course.loss.down, fates, course.loss.back, waiters, names_that_hang(course, side.nodes, old.configuration))
@@ -187,10 +194,10 @@ def nowhere_at_first(side: Side) -> list[Held]:
     return [held for held in held_on(side.page, side.cluster.configuration).values() if held.runs_at is None]
 
 
-def fate_of(now: Held, at_once: Held, then: Held, back: Held, claimed: int | None) -> Fate:
+def fate_of(now: Held, at_once: Held, then: Held, back: Held, claimed: int | None, waits: bool) -> Fate:
     """What becomes of an application, by the pages before, at once behind, later and in the end."""
     how = at_once.verdict
     if how in ("kept", "halted") or (how == "nobody" and at_once.runs_at):
         how = "stays"
     was_stopped = now.verdict == "halted"
-    return Fate(now.app, now.runs_at, then.runs_at, how, claimed, back.runs_at, then.marks, was_stopped)
+    return Fate(now.app, now.runs_at, then.runs_at, how, claimed, back.runs_at, then.marks, was_stopped, waits)

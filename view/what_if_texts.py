@@ -4,6 +4,7 @@ from __future__ import annotations
 
 from typing import Iterable, Iterator
 
+from view.configuration import Configuration
 from view.noticing import outage_of
 from view.texts import columns_of, listed, padded, shown
 from view.what_if import Answers, Case, Fate, Reply, nowhere_at_first
@@ -13,7 +14,8 @@ HEADS = ("down", "application", "now", "then", "how", "after", "outage", "back")
 
 
 def table_of(reply: Reply, shows_all: bool = False) -> Iterator[str]:
-    """The answer as a table for each side, and what is to be said of it. Rows that stay are left out, unless all are asked for."""
+    """How long nodes are down, a table for each side, and what is to be said of it. Rows that stay are left out, unless asked for."""
+    yield f"each loss lasts {lasting(reply.question.takes, reply.configuration)}"
     for number, answers in enumerate(reply.sides):
         if len(reply.sides) > 1:
             yield from [""] if number else []
@@ -23,6 +25,11 @@ def table_of(reply: Reply, shows_all: bool = False) -> Iterator[str]:
     if notes:
         yield ""
         yield from notes
+
+
+def lasting(takes: int | None, configuration: Configuration) -> str:
+    """How long a restart takes, or is presumed to take."""
+    return f"longer than {max(configuration.timeouts.values())} ms" if takes is None else f"{takes} ms"
 
 
 def side_table(reply: Reply, answers: Answers, shows_all: bool) -> Iterator[str]:
@@ -47,6 +54,8 @@ def case_rows(case: Case, nowhere: list[str], tick_time: int, shows_all: bool) -
 
 def cells_of(fate: Fate, tick_time: int) -> tuple[str, ...]:
     """The row of an application, without the nodes that are down."""
+    if fate.waits:
+        return (fate.app, fate.now or "-", fate.then or "-", "waits", "", "", fate.back or "-")
     after = "" if fate.milliseconds is None else f"{fate.milliseconds} ms"
     outage = "" if fate.wait is None else outage_of(fate.wait, tick_time)
     how = "stays stopped" if fate.was_stopped and fate.how == "stays" else fate.how
@@ -68,5 +77,5 @@ def nobody_lines(reply: Reply) -> Iterator[str]:
     """Why nobody has an application that ran before, by the marks of its list."""
     for case in reply.cases:
         for fate in case.fates:
-            if fate.then is None and fate.now is not None and fate.marks:
+            if fate.then is None and fate.now is not None and fate.marks and not fate.waits:
                 yield shown(f"{fate.app} without {listed(case.down)}: {fate.marks}")

@@ -12,17 +12,15 @@ from __future__ import annotations
 
 import argparse
 import json
-import re
 import signal
 import sys
 import tempfile
 import time
 from collections import Counter
 from dataclasses import dataclass, field
-from functools import partial
 from itertools import chain
 from pathlib import Path
-from typing import Any, Callable, Dict
+from typing import Any, Dict
 
 sys.dont_write_bytecode = True
 sys.path.insert(0, str(Path(__file__).resolve().parent))
@@ -36,6 +34,8 @@ NODES = tuple(f"{name}@{HOST}" for name in ("cp1", "cp2", "cp3"))
 SINGLE = tuple((node,) for node in NODES)
 LATE_SECONDS = 4.0
 NEVER = 3_600_000
+# How long a node takes until it starts its applications, on a busy machine.
+BOOT_SECONDS = 1.5
 
 
 @dataclass(frozen=True)
@@ -260,9 +260,17 @@ def kind_of(case: Case, observed: dict[str, dict[str, str | None]], wanted: str 
     return "started elsewhere" if observed["now"] != expected(case.fates, "now") else "differ"
 
 
-ROLLED = (("ladder", (0, 1, 2)), ("ladder", (2, 0, 1)), ("short lists", (1, 2, 0)))
-STEP = re.compile(r"(?m)^\d+ (?P<node>\S+): .*?down: (?P<down>.*?); (?:runs nowhere.*?; )?back: (?P<back>.*)$")
-MOVE = re.compile(r"(\S+) -> (\S+?)(?: after| \(|,|;|$)")
+QUICK = Scenario("restarts of 2 s", (("a1", "5000", TUPLE), ("a2", "6000", TUPLE), ("a3", "7000", "[cp2,cp3,cp1]")))
+HALF = Scenario("restarts of 4 s", (("a1", "1000", TUPLE), ("a2", "9000", TUPLE), ("a3", "12000", "[cp2,cp3,cp1]")))
+ROLLED = (
+    ("ladder", (0, 1, 2), None),
+    ("ladder", (2, 0, 1), None),
+    ("short lists", (1, 2, 0), None),
+    (QUICK.name, (0, 1, 2), 2_000),
+    (HALF.name, (1, 0, 2), 4_000),
+)
+# what `rolling --json` says of a step, or of a move
+Said = Dict[str, Any]
 
 
 def compare_rolling(score: Score) -> None:
@@ -270,13 +278,13 @@ def compare_rolling(score: Score) -> None:
     if "rolling" not in run_view("--help").output:
         print("rolling isn't among the subcommands: it isn't compared")
         return
-    for name, order in ROLLED:
-        scenario = next(each for each in SCENARIOS if each.name == name)
-        roll(scenario, [NODES[number] for number in order], score)
+    for name, order, takes in ROLLED:
+        scenario = next(each for each in (*SCENARIOS, QUICK, HALF) if each.name == name)
+        roll(scenario, [NODES[number] for number in order], takes, score)
 
 
-def roll(scenario: Scenario, order: list[str], score: Score) -> None:
-    """One rolling restart with nodes of its own."""
+def roll(scenario: Scenario, order: list[str], takes: int | None, score: Score) -> None:
+    """One rolling restart with nodes of its own. Each node is back after some milliseconds, or once all waits are over."""
     head = f"{scenario.name}, rolling {' > '.join(node.split('@')[0] for node in order)}"
     with tempfile.TemporaryDirectory(prefix="distac-nodes-") as room, Cluster(Path(room), dict.fromkeys(scenario.names, 0)) as cluster:
         config = prepared(scenario, NODES[:1], Path(room), {}).folder / "cluster.config"
@@ -284,27 +292,31 @@ def roll(scenario: Scenario, order: list[str], score: Score) -> None:
         time.sleep(LATE_SECONDS)
         places = seen(cluster, scenario.names)
         now = [f"{app}={node}" for app, node in places.items() if node]
-        said = run_view("rolling", str(config), "--order", *order, "--now", *now)
-        for step, node in zip(STEP.finditer(said.output), order):
-            changes: list[tuple[str, Callable[[], None]]]
-            changes = [("down", cluster.nodes[node].kill), ("back", partial(boot, cluster, (node,), scenario.names))]
-            for part, change in changes:
-                places = moved(places, step[part], node if part == "down" else "")
-                change()
-                found, _ = wait_for(cluster, places, LATE_SECONDS + 2)
-                for app, place in places.items():
-                    is_equal = found[app] == place
-                    row = f"{head}: {app} {part} of {node} {place}, and OTP has {found[app]}"
-                    score.add("agree" if is_equal else "differ", "" if is_equal else row)
-    steps = len(STEP.findall(said.output))
-    score.add("agree" if steps == len(order) else "differ", "" if steps == len(order) else f"{head}: {said.output}{said.errors}")
-    print(f"{head}: {said.output.splitlines()[0] if said.output else said.errors}", flush=True)
+        said = run_view("rolling", str(config), "--json", "--order", *order, "--now", *now, *(["--takes", str(takes)] if takes else []))
+        steps: list[Said] = json.loads(said.output)["steps"]
+        for step, node in zip(steps, order):
+            ended = time.monotonic()
+            cluster.nodes[node].kill()
+            places = {app: None if place == node else place for app, place in places.items()}
+            places = moved(places, step["down"])
+            tell_step(f"{head}: without {node}", wait_for(cluster, places, takes / 1000 if takes else LATE_SECONDS + 2)[0], places, score)
+            time.sleep(max(0.0, ended + (takes or 0) / 1000 - BOOT_SECONDS - time.monotonic()))
+            boot(cluster, (node,), scenario.names)
+            places = moved({**places, **dict.fromkeys(step["waiting"], node)}, step["back"])
+            tell_step(f"{head}: {node} back", wait_for(cluster, places, LATE_SECONDS + 2)[0], places, score)
+    score.add("agree" if len(steps) == len(order) else "differ", "" if len(steps) == len(order) else f"{head}: {said.output}{said.errors}")
+    print(f"{head}: {json.loads(said.output)['moves']} moves by rolling", flush=True)
 
 
-def moved(places: dict[str, str | None], moves: str, lost: str) -> dict[str, str | None]:
-    """Where applications are after some moves. What was at a lost node and moves nowhere runs nowhere."""
-    targets = {app: node if "@" in node else None for app, node in MOVE.findall(moves)}
-    return {app: targets.get(app, None if place == lost else place) for app, place in places.items()}
+def moved(places: dict[str, str | None], moves: list[Said]) -> dict[str, str | None]:
+    """Where applications are after some moves."""
+    return {**places, **{move["application"]: move["to"] for move in moves}}
+
+
+def tell_step(head: str, found: dict[str, str | None], places: dict[str, str | None], score: Score) -> None:
+    """Counts where applications are in a step."""
+    for app, place in places.items():
+        score.add("agree" if found[app] == place else "differ", "" if found[app] == place else f"{head}: {app} {place}, and OTP has {found[app]}")
 
 
 def compare_answers(score: Score) -> None:

@@ -195,12 +195,35 @@ class Rolls(Files):
 
     def test_what_is_printed(self) -> None:
         lines = view("rolling", self.shop).output.splitlines()
-        self.assertEqual(lines[0], "order shop1@h > shop2@h > shop3@h: 8 moves, 16000 ms of waits (least of 6 orders, the worst has 8)")
+        self.assertEqual(lines[0], "order shop1@h > shop2@h > shop3@h: 8 moves, 16000 ms of waits, restarts longer than 8000 ms (least of 6 orders, the worst has 8)")
         self.assertEqual(lines[2], "2 shop2@h: down: mail -> shop3@h after 5000 ms; back: mail -> shop2@h (takeover)")
         drained = view("rolling", self.shop, "--drain", "--order", "shop2@h").output.splitlines()
-        self.assertEqual(drained[0], "order shop2@h: 2 moves, 0 ms of waits")
+        self.assertEqual(drained[0], "order shop2@h: 2 moves, 0 ms of waits, restarts longer than 8000 ms")
         self.assertEqual(drained[1], "1 shop2@h: drained: mail -> shop3@h; down: nothing moves; back: mail -> shop2@h (takeover)")
         self.assertEqual(view("rolling", self.shop, "--order", "shop2@h", "shop2@h").status, 2)
+
+    def test_restarts_that_are_shorter_than_waits(self) -> None:
+        waits = {"reports": 3000, "billing": 8000, "mail": 5000, "audit": 0}
+        for takes, moving in ((1, ["audit"]), (3000, ["audit"]), (5500, ["reports", "mail", "audit"]), (8001, list(waits))):
+            answer = json.loads(view("rolling", self.shop, "--takes", str(takes), "--json").output)
+            moved = [move["application"] for step in answer["steps"] for move in (*step["down"], *step["back"])]
+            waiting = [app for step in answer["steps"] for app in step["waiting"]]
+            self.assertEqual((sorted(moved), sorted(waiting)), (sorted(2 * moving), sorted(set(waits) - set(moving))), takes)
+            self.assertEqual((answer["takes"], answer["moves"], answer["waits"]), (takes, len(moved), sum(waits[app] for app in moving)))
+            self.assertEqual([step["nowhere"] for step in answer["steps"]], [[], [], []])
+        lines = view("rolling", self.shop, "--takes", "4000").output.splitlines()
+        self.assertIn("4 moves, 3000 ms of waits, restarts of 4000 ms (", lines[0])
+        self.assertIn("; back before its wait is over: billing; back: audit -> shop1@h (takeover)", "".join(lines))
+        for word in ("0", "-1", "5s", "4294967296"):
+            self.assertEqual(view("rolling", self.shop, "--takes", word).status, 2)
+
+    def test_what_if_says_what_is_presumed(self) -> None:
+        self.assertEqual(view("what-if", self.shop).output.splitlines()[0], "each loss lasts longer than 8000 ms")
+        said = view("what-if", self.shop, "--takes", "4000", "--down", "shop1@h")
+        self.assertEqual(said.output.splitlines()[0], "each loss lasts 4000 ms")
+        self.assertRegex(said.output, r"shop1@h +billing +shop1@h +- +waits +shop1@h\n")
+        answer = json.loads(view("what-if", self.shop, "--takes", "4000", "--down", "shop1@h", "--json").output)
+        self.assertEqual([fate["waits"] for fate in answer["cases"][0]["applications"]], [True, False, False, False])
 
     def test_a_mandatory_node_bars_a_boot(self) -> None:
         path = self.path("gate.config", GATED_SHOP)
@@ -212,7 +235,7 @@ class Rolls(Files):
     def test_beyond_six_nodes(self) -> None:
         entries = ",".join("{a%d,100,[n%d@h,n%d@h]}" % (each, each, (each + 1) % 8) for each in range(8))
         output = view("rolling", self.path("eight.config", "[{kernel,[{distributed,[%s]}]}]." % entries)).output
-        self.assertIn("16 moves, 800 ms of waits (by taking the node with the fewest applications next: not proved least)", output)
+        self.assertIn("16 moves, 800 ms of waits, restarts longer than 100 ms (by taking the node with the fewest applications next: not proved least)", output)
 
 
 def cost_of(side: Side, order: "tuple[str, ...]") -> "tuple[int, ...]":
@@ -325,6 +348,8 @@ class Json(Files):
             ("load", gate, "--now", now),
             ("rolling", self.shop, "--drain"),
             ("rolling", gate, "--now", now),
+            ("rolling", self.shop, "--takes", "4000"),
+            ("what-if", self.shop, "--takes", "4000"),
             ("what-if", self.shop, "--then", gate),
             ("what-if", self.shop, "--then", self.path("new.config", SHOP.replace("shop3", "shop4").replace("audit", "fax"))),
             ("what-if", self.shop, "--down", "shop1@h", "shop2@h", "--back", "shop1@h"),

@@ -190,7 +190,8 @@ class Courses(Asked):
         """Some nodes that go down, and some of them that come back."""
         down = random.sample(side.members, random.choice((1, 1, min(2, len(side.members)))))
         back = [node for node in down if random.random() < 0.8]
-        return Loss(sorted(down), sorted(back), [node for node in down if random.random() < 0.1])
+        not_started = [node for node in down if random.random() < 0.1]
+        return Loss(sorted(down), sorted(back), not_started, random.choice((None, None, 1, 2000, 4000)))
 
     def compare(self, side: Side, loss: Loss) -> bool:
         """Compares a case that is written in one go with the same one step by step. Whether there is one."""
