@@ -7,6 +7,7 @@ import argparse
 from view.configuration import Configuration
 from view.distac import Distac
 from view.erlang_reader import Reader, reader_named
+from view.forbidden import comment_of
 from view.gathering import Gathered, gathered, node_named
 from view.loading import check_config
 from view.node_files import ANSWER_MARK, Library, NodeSettings, path_text, settings_of
@@ -70,7 +71,7 @@ def head_of(version: str, placements: list[Placement], found: Gathered) -> list[
         lines += [f"%% {shown(placement.node)} {path_text(file.path)} sha256 {file.mark}" for file in placement.settings.files]
     if found.tick_time is not None:
         lines.append(f"%% net_ticktime {found.tick_time}")
-    return lines
+    return [*lines, *(comment_of(app, node) for node, app in found.barred_at)]
 
 
 def opening_script(canonical: str, configuration: Configuration, found: Gathered) -> str:

@@ -221,7 +221,7 @@ def permission_differs(app: str, first: Placement, here: Iterable[Placement], ba
     """That an application is forbidden at some of its nodes alone."""
     nodes = shown(listed([placement.node for placement in barring]))
     others = shown(listed([placement.node for placement in here if placement not in barring]))
-    cure = "true is written, and -s opening.distac writes a script for what-if --after that forbids it there"
+    cure = "true is written, and a comment above it by which what-if, rolling and load forbid it there"
     return told_at(first.settings.kernel["permissions"], "PermissionDiffers", f"{shown(app)} is forbidden at {nodes} and not at {others}: {cure}")
 
 

@@ -11,6 +11,7 @@ from dataclasses import dataclass, field
 from view.cluster import Cluster, take_round
 from view.configuration import Application, Configuration
 from view.distac import MOST_INPUT, Distac
+from view.forbidden import forbidden_in
 from view.loading import Checked
 from view.near_names import near_to
 from view.openings import Side, new_story
@@ -94,10 +95,10 @@ def opened_now(distac: Distac, checked: Checked, placed: Placed) -> Side:
     """A cluster in which applications run where they do. What would move at the next ticks hasn't moved yet."""
     configuration = checked.configuration
     unused = [name for name in configuration.names if name not in placed.places and name not in placed.fresh]
-    cluster = Cluster(new_story(checked), [], unused=unused)
+    cluster = Cluster(new_story(checked), [], unused=unused, forbidden=forbidden_in(checked))
     open_gates(distac, cluster, placed.up)
     for app, node in placed.places.items():
-        if not application_of(app, configuration).is_permitted:
+        if not application_of(app, configuration).is_permitted or (node, app) in cluster.forbidden:
             cluster.story.command(f"permit {cluster.hub} {app} {node} true")
     if placed.places:
         cluster.start_at(placed.places.items())
@@ -107,7 +108,7 @@ def opened_now(distac: Distac, checked: Checked, placed: Placed) -> Side:
     for app, node in placed.places.items():
         if page.held[app].runs_at != node:
             raise Problem(f"distac doesn't place {shown(app)} at {shown(node)}: it says {page.held[app].verdict}")
-    return Side(cluster, page, configuration.nodes)
+    return Side(cluster, page, configuration.nodes, unsaid=placed.fresh)
 
 
 def open_gates(distac: Distac, cluster: Cluster, up: list[str]) -> None:

@@ -6,10 +6,11 @@ from dataclasses import dataclass
 from typing import Iterator
 
 from view.configuration import Application
+from view.forbidden import forbidden_in
 from view.loading import Checked
 from view.noticing import tick_time_of
 
-LIST, TIME, PERMISSION = "list", "time", "permission"
+LIST, TIME, PERMISSION, FORBIDDEN = "list", "time", "permission", "forbidden"
 
 
 @dataclass(frozen=True)
@@ -27,6 +28,7 @@ def differing_settings(old: Checked, new: Checked) -> list[Differing]:
     others = {each.name: each for each in new.configuration.applications}
     pairs = [(each, others[each.name]) for each in old.configuration.applications if each.name in others]
     found = [differing for one, other in pairs for differing in of_application(one, other)]
+    found += [Differing(FORBIDDEN, name, *each) for name, each in forbidden_of(old, new).items() if each[0] != each[1]]
     earlier, later = of_all_nodes(old), of_all_nodes(new)
     return found + [Differing(name, None, earlier[name], later[name]) for name in earlier if earlier[name] != later[name]]
 
@@ -39,6 +41,18 @@ def of_application(one: Application, other: Application) -> Iterator[Differing]:
         PERMISSION: (truth_of(one.is_permitted), truth_of(other.is_permitted)),
     }
     return (Differing(name, one.name, old, new) for name, (old, new) in values.items() if old != new)
+
+
+def forbidden_of(old: Checked, new: Checked) -> dict[str, tuple[str, str]]:
+    """At which single nodes each application is forbidden that both have."""
+    pairs = forbidden_in(old), forbidden_in(new)
+    names = [name for name in old.configuration.names if name in new.configuration.names]
+    return {name: (nodes_for(name, pairs[0]), nodes_for(name, pairs[1])) for name in names}
+
+
+def nodes_for(name: str, pairs: list[tuple[str, str]]) -> str:
+    """The nodes at which an application is forbidden."""
+    return list_of([[node] for node, app in pairs if app == name])
 
 
 def list_of(groups: list[list[str]]) -> str:

@@ -55,8 +55,9 @@ def opening_notes(reply: Reply) -> Iterator[Note]:
 
 
 def start_notes(side: Side, is_now: bool) -> list[Note]:
-    """What to know of a start: what runs nowhere, nodes that can't act, and if it is where applications run now, what moves at once."""
-    return [*nowhere_notes(side), *side_notes(side), *(now_notes(side) if is_now else ())]
+    """What to know of a start: what runs nowhere, nodes that can't act, and what moves at once if it is now, or what is guessed."""
+    guessed = [Note("StartedAtOnce", TEXTS["StartedAtOnce"])] if side.is_guessed else []
+    return [*nowhere_notes(side), *side_notes(side), *(now_notes(side) if is_now else ()), *guessed]
 
 
 def nowhere_notes(side: Side) -> Iterator[Note]:
@@ -123,8 +124,6 @@ def otp_notes(reply: Reply) -> Iterator[Note]:
     yield from idle_notes(fates)
     if any(is_of_tuple(reply, fate) for fate in fates):
         yield Note("TupleLoad", TEXTS["TupleLoad"])
-    if is_guessed(reply):
-        yield Note("StartedAtOnce", TEXTS["StartedAtOnce"])
     if any(fate.back != fate.then for fate in fates):
         yield Note("StartedAgain", TEXTS["StartedAgain"])
     if any(fate.was_stopped and fate.how == "failover" for fate in fates):
@@ -156,9 +155,3 @@ def is_of_tuple(reply: Reply, fate: Fate) -> bool:
     """Whether an application came to a node of a tuple."""
     application = next(each for each in reply.configuration.applications if each.name == fate.app)
     return fate.milliseconds is not None and any(fate.then in group and len(group) > 1 for group in application.groups)
-
-
-def is_guessed(reply: Reply) -> bool:
-    """Whether nobody said where applications run, and the load of a tuple's nodes decides it."""
-    is_chosen = any(len(each.groups[0]) > 1 for each in reply.configuration.applications)
-    return not reply.question.after and not reply.question.now and is_chosen and len(reply.configuration.applications) > 1
