@@ -9,11 +9,13 @@ from view.distac import Distac
 from view.erlang_reader import Reader, reader_named
 from view.forbidden import comment_of
 from view.gathering import Gathered, gathered, node_named
+from view.json_answers import Fields, json_of
 from view.loading import check_config
 from view.node_files import ANSWER_MARK, Library, NodeSettings, path_text, settings_of
-from view.output import Output, say
+from view.output import Output
 from view.placements import Placement, placement_of
 from view.problems import Problem, Status
+from view.remarks import warned, warnings_fields
 from view.texts import bytes_of, shown
 from view.writing import PIPE, write_whole
 
@@ -40,13 +42,15 @@ def gather(distac: Distac, words: argparse.Namespace, output: Output) -> Status:
     placements = [placement_of(settings) for settings in settings_by_node(words.nodes, reader_named(words.reader))]
     found = gathered(placements)
     checked = check_config(distac, "the gathered configuration", bytes_of(found.text))
-    lines = [*head_of(words.version, placements, found), checked.canonical]
-    write(words.output, "".join(line + "\n" for line in lines), placements, output)
+    text = "".join(line + "\n" for line in (*head_of(words.version, placements, found), checked.canonical))
+    if not words.json or words.output != PIPE:
+        write(words.output, text, placements, output)
     if words.script:
         write(words.script, opening_script(checked.canonical, checked.configuration, found), placements, output)
-    for warning in found.warnings:
-        say(warning)
-    return Status.FAULT if found.warnings and words.strict else Status.FINE
+    if words.json:
+        fields: Fields = {"text": text, "configuration": checked.canonical, "remarks": warnings_fields(words, found.warnings)}
+        output.line(json_of("gather", fields, []))
+    return warned(words, found.warnings)
 
 
 def settings_by_node(words: list[str], reader: Reader) -> list[NodeSettings]:

@@ -2,20 +2,27 @@
 
 from __future__ import annotations
 
-EPILOG = """\
-exit status:
-  0  done
-  1  a file has a fault; with --strict, a warning; load is above a budget, rolling is barred, --then changes something
-  2  wrong use, a file that can't be read or written, or no answer from distac
-
+PROGRAM = """\
 The program distac is taken from --distac PATH, else from the environment variable DISTAC, else from beside this one: the
 proved one, else one without proof, which is compiled first if there is none. --models asks the models in its place.
 A FILE that is a dash is standard input."""
 
+NO = {
+    "": "the answer is no: --strict warns, --fail-on fails, --then changes something, or rolling is barred",
+    "check": "with --strict, a warning that --allow doesn't name",
+    "gather": "with --strict, a warning that --allow doesn't name",
+    "play": "with --strict, a warning that --allow doesn't name",
+    "what-if": "--then changes something",
+    "rolling": "a step can't go on, or --fail-on fails",
+    "load": "--fail-on fails",
+}
+
 EXAMPLES = {
     "check": """\
   distac-view check sys.config                   one line: what distac understood, or the first fault
-  distac-view check --strict rel/*/sys.config    the files of all nodes, for CI: a warning ends it with 1""",
+  distac-view check --strict rel/*/sys.config    the files of all nodes, for CI: a warning ends it with 1
+  distac-view check sys.config --strict --allow SingleNode:audit
+                                                 but for this one, of this application""",
     "gather": """\
   distac-view gather shop1=shop1/sys.config shop2=shop2/sys.config -o cluster.config
                                                  one configuration from the files of two nodes
@@ -59,6 +66,8 @@ EXAMPLES = {
 
 
 def epilog_of(name: str) -> str:
-    """What stands below the help of a subcommand."""
-    examples = EXAMPLES.get(name)
-    return f"examples:\n{examples}\n\n{EPILOG}" if examples else EPILOG
+    """What stands below the help of a subcommand, or of the whole program."""
+    examples = [f"examples:\n{EXAMPLES[name]}\n"] if name in EXAMPLES else []
+    no = [f"  1  {NO[name]}"] if name in NO else []
+    trouble = "  2  a file has a fault or can't be read or written, wrong use, or no answer from distac\n"
+    return "\n".join([*examples, "exit status:", "  0  done", *no, trouble, PROGRAM])

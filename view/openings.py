@@ -10,7 +10,7 @@ from view.distac import Distac
 from view.forbidden import forbidden_in
 from view.loading import Checked, answers_of, load_script
 from view.pages import Page, page_of
-from view.problems import Problem, Status
+from view.problems import Problem
 from view.script import separator_in
 from view.story import Story
 from view.texts import bytes_of, shown
@@ -55,7 +55,7 @@ def new_story(checked: Checked) -> Story:
     configuration = checked.configuration
     for name in (*configuration.nodes, *configuration.names):
         if " " in name:
-            raise Problem(f"the name {shown(name)} has a space, and no script can name it: it can't be played", Status.FAULT)
+            raise Problem(f"the name {shown(name)} has a space, and no script can name it: it can't be played")
     return Story(playable(checked), configuration)
 
 
@@ -118,11 +118,11 @@ def story_after(distac: Distac, checked: Checked, path: str) -> Story:
     """The lines of a script of the same configuration, up to its last moment."""
     loaded = load_script(distac, path)
     if distac.check(loaded.script.config).lines != [checked.canonical]:
-        raise Problem(f"{path} has another configuration: the script of --after has to begin with the same one", Status.FAULT)
+        raise Problem(f"{path} has another configuration: the script of --after has to begin with the same one")
     events = [one.line for one in answers_of(distac, loaded) if one.line.is_event]
     story = new_story(checked)
     story.add_uncounted(*(line.text for line in events))
     story.now = max((int(word_of(line.words, Role.MOMENT) or 0) for line in events), default=0)
     if story.now > LATEST:
-        raise Problem(f"{path} ends at the moment {story.now}, and there is no room for later ones", Status.FAULT)
+        raise Problem(f"{path} ends at the moment {story.now}, and there is no room for later ones")
     return story

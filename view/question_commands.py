@@ -15,7 +15,6 @@ from view.json_answers import what_if_answer
 from view.load import load_of
 from view.load_texts import budget_faults
 from view.load_texts import table_of as load_table
-from view.loading import Faulty
 from view.output import Output, say
 from view.plan_answers import changes_answer, load_answer, rolling_answer
 from view.problems import Problem, Status
@@ -47,15 +46,10 @@ def what_if(distac: Distac, words: argparse.Namespace, output: Output) -> Status
 
 
 def what_changes(distac: Distac, question: Question, words: argparse.Namespace, output: Output) -> Status:
-    """Prints what a new configuration changes. The status is 1 if it changes anything, and 2 for all trouble, faults too."""
-    try:
-        changes = changes_by(distac, question, words.then)
-    except Faulty as faulty:
-        raise Problem(faulty.remark.text(faulty.path)) from faulty
-    except Problem as problem:
-        raise Problem(problem.sentence) from problem
+    """Prints what a new configuration changes. The status is 1 if it changes anything."""
+    changes = changes_by(distac, question, words.then)
     written(output, [changes_answer(changes, change_notes(changes))] if words.json else changes_lines(changes))
-    return Status.FAULT if changes.are_any else Status.FINE
+    return Status.NO if changes.are_any else Status.FINE
 
 
 def load(distac: Distac, words: argparse.Namespace, output: Output) -> Status:
@@ -82,7 +76,7 @@ def judged(faults: Iterable[str]) -> Status:
     status = Status.FINE
     for fault in faults:
         say(f"distac-view: {fault}")
-        status = Status.FAULT
+        status = Status.NO
     return status
 
 
@@ -93,7 +87,7 @@ def rolling(distac: Distac, words: argparse.Namespace, output: Output) -> Status
     hangs = hang_notes(([step.node], step.may_hang) for step in found.steps)
     notes = [*start_notes(found.side, bool(words.now)), *drain_notes(words.drain), *hangs]
     written(output, [rolling_answer(found, notes)] if words.json else [*rolling_lines(found), *below(notes)])
-    return max(Status.FAULT if found.is_barred else Status.FINE, judged(hang_faults(found, fail_on)))
+    return max(Status.NO if found.is_barred else Status.FINE, judged(hang_faults(found, fail_on)))
 
 
 def add_what_if(parser: argparse.ArgumentParser) -> None:

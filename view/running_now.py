@@ -15,7 +15,7 @@ from view.forbidden import forbidden_in
 from view.loading import Checked
 from view.near_names import near_to
 from view.openings import Side, new_story
-from view.problems import Problem, Status
+from view.problems import Problem
 from view.script import read_bytes
 from view.texts import cut, listed, shown, text_of
 from view.tokens import BARE_ATOM, name_of
@@ -62,7 +62,7 @@ def placed_in(path: str, text: str, configuration: Configuration) -> Placed:
             for app in words[1:]:
                 put(places, where, app, words[0], configuration)
     if not up:
-        raise Problem(f"{path} names no node: each of its lines is a node and what runs there", Status.FAULT)
+        raise Problem(f"{path} names no node: each of its lines is a node and what runs there")
     return Placed(places, [node for node in configuration.nodes if node in up])
 
 
@@ -71,9 +71,9 @@ def put(places: dict[str, str], where: str, app_word: str, node_word: str, confi
     app = named("application", app_word, configuration.names, where)
     node = named("node", node_word, configuration.nodes, where)
     if places.setdefault(app, node) != node:
-        raise Problem(f"{where}: {shown(app)} can't run at {shown(places[app])} and at {shown(node)}: name one of them", Status.FAULT)
+        raise Problem(f"{where}: {shown(app)} can't run at {shown(places[app])} and at {shown(node)}: name one of them")
     if node not in application_of(app, configuration).nodes:
-        raise Problem(f"{where}: {shown(node)} isn't in the list of {shown(app)}: it can't run there", Status.FAULT)
+        raise Problem(f"{where}: {shown(node)} isn't in the list of {shown(app)}: it can't run there")
 
 
 def application_of(name: str, configuration: Configuration) -> Application:
@@ -88,7 +88,7 @@ def named(what: str, word: str, names: list[str], where: str) -> str:
         return name
     meant = near_to(name, names)
     cure = f"is {shown(meant)} meant?" if meant else f"it has {cut(shown(listed(names)), 200)}"
-    raise Problem(f"{where}: the configuration has no {what} {cut(shown(name), 60)}: {cure}", Status.FAULT)
+    raise Problem(f"{where}: the configuration has no {what} {cut(shown(name), 60)}: {cure}")
 
 
 def opened_now(distac: Distac, checked: Checked, placed: Placed) -> Side:
