@@ -7,6 +7,7 @@ from dataclasses import dataclass, replace
 from view.configuration import Configuration
 from view.distac import Distac
 from view.loading import Checked, load_config
+from view.naming import node_meant
 from view.notes import Note
 from view.noticing import longest_outage
 from view.problems import Problem
@@ -107,8 +108,8 @@ def changes_between(distac: Distac, question: Question, old: Checked, new: Check
 
 def fitting(question: Question, old: Configuration, new: Configuration) -> Question:
     """The question for the new configuration: of nodes and places only those that it has."""
-    spelled = {node.strip("'") for node in new.nodes}
-    kept = {name: [word for word in getattr(question, name) if word.strip("'") in spelled] for name in ("down", "not_started", "back")}
+    names = ("down", "not_started", "back")
+    kept = {name: [word for word in getattr(question, name) if node_meant(word, new.nodes)] for name in names}
     if question.down and not kept["down"]:
         raise Problem("the new configuration has none of the nodes of --down")
     return replace(question, **kept, placed=placed_in_both(placed_by(question.now, old), old, new) if question.now else None)

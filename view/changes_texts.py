@@ -71,18 +71,13 @@ def seconds(milliseconds: int | None) -> str:
 def notes_on(changes: Changes) -> Iterator[Note]:
     """What is to be said of rolling a change out: of lists that differ, of times alone, and of applications that one file has."""
     if changes.other_lists:
-        text = f"The lists of {named_apps(changes.other_lists)} differ: where nodes with both files meet, OTP ends one of them."
+        text = f"The lists of {few_of(changes.other_lists)} differ: where nodes with both files meet, OTP ends one of them."
         yield Note("NoRollingChange", shown(f"{text} Stop all nodes, and start them with the new file."))
         return
     if changes.other_times:
-        text = f"The times of {named_apps(changes.other_times)} differ: such a file can be rolled out node by node."
+        text = f"The times of {few_of(changes.other_times)} differ: such a file can be rolled out node by node."
         yield Note("MixedTimes", shown(f"{text} Meanwhile each node counts the time of its own file."))
     alone = [name for names in changes.apps for name in names]
     if alone:
-        text = f"One file alone has {named_apps(alone)}: a node without it there starts it as its own, and it may run twice."
+        text = f"One file alone has {few_of(alone)}: a node without it there starts it as its own, and it may run twice."
         yield Note("AddedMayRunTwice", shown(f"{text} Start it once all nodes have one file."))
-
-
-def named_apps(names: list[str]) -> str:
-    """Some applications in a sentence."""
-    return few_of([bare_name(name) for name in names])

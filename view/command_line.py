@@ -9,7 +9,7 @@ from typing import IO, Callable
 from view.check import check
 from view.completion import bash_completion
 from view.distac import MODELS, Distac, found_distac, nobody
-from view.gather import gather
+from view.gather import LINES, gather
 from view.help_texts import epilog_of
 from view.loading import Faulty, Loaded, answers_of, load_script
 from view.looking import seen_lines
@@ -170,8 +170,8 @@ def gather_words(parser: argparse.ArgumentParser) -> None:
     more = "write a script too, in which all nodes come up: it says permissions that hold at some nodes alone"
     parser.add_argument("-s", "--script", metavar="SCRIPT", help=more)
     parser.add_argument("--reader", choices=("erl", "own"), help="read by Erlang or by distac-view: Erlang if escript is in PATH")
-    about_line = "print a line for a node's remote shell, whose answer is taken as a FILE"
-    parser.add_argument("--print-command", choices=("erlang", "elixir"), nargs="?", const="erlang", help=about_line)
+    about_line = "print a line for a node's remote shell, whose answer is taken as a FILE, or with now as that of --now"
+    parser.add_argument("--print-command", choices=tuple(LINES), nargs="?", const="erlang", help=about_line)
     add_strict(parser)
     add_json(parser)
 

@@ -29,7 +29,16 @@ ELIXIR_LINE = (
     f':io.format(~c"~n{ANSWER_MARK}~tw~n~tw.~n", '
     "[node(), [kernel: (for p <- k, {:ok, v} <- [:application.get_env(:kernel, p)], do: {p, v})]])"
 )
-LINES = {"erlang": ERLANG_LINE, "elixir": ELIXIR_LINE}
+NOW_LINE = (
+    "D=application:get_env(kernel,distributed,[]),"
+    'io:format("~n~tw~ts~n",[node(),[[" ",io_lib:format("~tw",[A])]||{A,_,_}<-application:which_applications(),lists:keymember(A,1,D)]]).'
+)
+ELIXIR_NOW_LINE = (
+    "d = :application.get_env(:kernel, :distributed, []); "
+    ':io.format(~c"~n~tw~ts~n", [node(), (for {a, _, _} <- :application.which_applications(), '
+    ':lists.keymember(a, 1, d), do: [" ", :io_lib.format(~c"~tw", [a])])])'
+)
+LINES = {"erlang": ERLANG_LINE, "elixir": ELIXIR_LINE, "now": NOW_LINE, "elixir-now": ELIXIR_NOW_LINE}
 
 
 def gather(distac: Distac, words: argparse.Namespace, output: Output) -> Status:

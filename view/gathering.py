@@ -6,6 +6,7 @@ from dataclasses import dataclass, field
 from typing import Iterable
 
 from view.configuration import name_order
+from view.naming import node_meant
 from view.node_files import NO_NAME, Setting
 from view.placements import SYNC_LISTS, Entry, Placement
 from view.places import Told
@@ -102,9 +103,9 @@ def resolve_nodes(found: Gathered, placements: list[Placement]) -> None:
 
 def resolve(placement: Placement, found: Gathered) -> None:
     """A node's whole name by the part of it before @, if there is one such node."""
-    short = [node for node in found.nodes if node.strip("'").split("@")[0] == placement.node.strip("'")]
-    if len(short) == 1:
-        placement.node = short[0]
+    meant = node_meant(placement.node, found.nodes)
+    if meant is not None:
+        placement.node = meant
         return
     some = cut(shown(", ".join(found.nodes)), 200)
     found.warnings.append(Told("UnknownNode", f"{shown(placement.node)} is in no list of the files, which name {some}"))

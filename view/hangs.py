@@ -9,6 +9,7 @@ from view.configuration import Configuration
 from view.equal_times import pairs_among
 from view.notes import Note
 from view.texts import listed, shown
+from view.tokens import bare_names
 
 CURE = "give each its own time, further apart than a start takes: 100 ms or more"
 
@@ -32,5 +33,5 @@ def hang_notes(cases: Iterable["tuple[list[str], list[str]]"]) -> Iterator[Note]
     """A note for each of some losses that may hang: the nodes that are down, and the applications."""
     for down, names in cases:
         if names:
-            text = f"Without {listed(down)} OTP 25 may restart one of {listed(names)} alone and hang"
+            text = f"Without {listed(bare_names(down))} OTP 25 may restart one of {listed(bare_names(names))} alone and hang"
             yield Note("EqualTimes", shown(f"{text}: {CURE}."))

@@ -31,7 +31,9 @@ EXAMPLES = {
   distac-view gather --print-command | erl_call -name shop1@10.0.0.1 -c COOKIE -fetch_stdout -e > shop1.answer
                                                  what a running node has: gather takes the answer as its FILE
   bin/shop rpc "$(distac-view gather --print-command elixir)" > shop1.answer
-                                                 the same of a release that mix made""",
+                                                 the same of a release that mix made
+  distac-view gather --print-command now | erl_call -name shop1@10.0.0.1 -c COOKIE -fetch_stdout -e >> now.txt
+                                                 what runs at a node, for --now of the other subcommands""",
     "play": """\
   distac-view play failover.distac               each answer beside its line
   distac-view play --page --explain split.distac

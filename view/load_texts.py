@@ -70,7 +70,7 @@ def last_lines(load: Load) -> Iterator[str]:
     for row in (load.start, *load.singles):
         last = row.last if row is load.start else [app for app in row.last if app not in load.start.last]
         if last:
-            names = few_of([f"{app} ({bare_name(row.places[app])})" for app in last])
+            names = few_of([f"{bare_name(app)} ({bare_name(row.places[app])})" for app in last])
             without = f"without {listed([bare_name(node) for node in row.down])}, " if row.down else ""
             yield shown(f"{without}one loss from nothing: {names}")
 

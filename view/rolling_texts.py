@@ -67,7 +67,7 @@ def moved(move: Move) -> str:
 
 def target_of(move: Move) -> str:
     """Where an application goes."""
-    return f"{move.app} -> {bare_name(move.node)}"
+    return f"{bare_name(move.app)} -> {bare_name(move.node)}"
 
 
 def counted(count: int, noun: str) -> str:

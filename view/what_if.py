@@ -17,13 +17,14 @@ from view.configuration import Configuration, name_order
 from view.distac import Distac
 from view.hangs import names_that_hang
 from view.loading import Checked, load_config
+from view.naming import node_meant, spelled
 from view.noticing import USUAL_SECONDS, tick_time_of
 from view.openings import Side, opened, opened_after
 from view.pages import Held, Page, marks_in
 from view.problems import Problem
 from view.running_now import Placed, opened_now, placed_by
 from view.texts import shown
-from view.tokens import BARE_ATOM, name_of
+from view.tokens import bare_name, bare_names
 
 MOST_AT_ONCE = 8
 
@@ -153,9 +154,10 @@ def known_nodes(words: list[str], configuration: Configuration) -> list[str]:
 
 def known_node(word: str, configuration: Configuration) -> str:
     """A node that somebody names, as the configuration spells it."""
-    name = name_of(word) if BARE_ATOM.match(word) or word.startswith("'") else f"'{word}'"
-    if name not in configuration.nodes:
-        raise Problem(f"the configuration has no node {shown(name)}: its nodes are {shown(', '.join(configuration.nodes))}")
+    name = node_meant(word, configuration.nodes)
+    if name is None:
+        some = shown(", ".join(bare_names(configuration.nodes)))
+        raise Problem(f"the configuration has no node {shown(bare_name(spelled(word)))}: its nodes are {some}")
     return name
 
 

@@ -10,8 +10,9 @@ from view.hangs import hang_notes
 from view.noticing import notice_range, seconds_of
 from view.notes import Note
 from view.openings import Side
-from view.pages import marks_in
+from view.pages import bare_marks, marks_in
 from view.texts import listed, shown
+from view.tokens import bare_name, bare_names
 from view.what_if import Fate, Reply, nowhere_at_first
 
 MOST_NAMED = 8
@@ -47,7 +48,7 @@ def opening_notes(reply: Reply) -> Iterator[Note]:
     """How the question begins: the sides of a split, and nodes that can't act."""
     sides = [answers.side for answers in reply.sides]
     if len(sides) > 1:
-        parts = "; ".join(listed(side.members) for side in sides)
+        parts = "; ".join(listed(bare_names(side.members)) for side in sides)
         text = f"--after ends in a split: {parts}. Each side is asked by itself, and both may run an application."
         yield Note("EndsInSplit", shown(text))
     for side in sides:
@@ -63,14 +64,15 @@ def start_notes(side: Side, is_now: bool) -> list[Note]:
 def nowhere_notes(side: Side) -> Iterator[Note]:
     """What runs nowhere before any node goes down, and why."""
     for held in nowhere_at_first(side):
-        yield Note("RunsNowhere", shown(f"{held.app} runs nowhere before any loss: {held.marks or 'no node is up'}"))
+        yield Note("RunsNowhere", shown(f"{bare_name(held.app)} runs nowhere before any loss: {bare_marks(held.marks) or 'no node is up'}"))
 
 
 def now_notes(side: Side) -> Iterator[Note]:
     """What distac moves at once from where it runs now, and what runs nowhere."""
     for held in side.page.held.values():
         if held.verdict == "takeover":
-            text = f"Here {held.at} takes over {held.app} at once: OTP leaves it at {held.holder} until {held.at} starts it."
+            app, at, holder = bare_names((held.app, str(held.at), str(held.holder)))
+            text = f"Here {at} takes over {app} at once: OTP leaves it at {holder} until {at} starts it."
             yield Note("MovesAtOnce", shown(text))
     unused = side.cluster.unused
     if unused:
@@ -80,11 +82,11 @@ def now_notes(side: Side) -> Iterator[Note]:
 def side_notes(side: Side) -> Iterator[Note]:
     """Nodes of a side that can't act."""
     for node in side.said_down:
-        yield Note("SaidDown", shown(f"{node} runs and was said to be down: it does nothing until it has booted again."))
+        yield Note("SaidDown", shown(f"{bare_name(node)} runs and was said to be down: it does nothing until it has booted again."))
     for waiter in side.cluster.ended:
-        yield Note("GaveUp", shown(f"{waiter.node} is down: it waited {wait_of(waiter, side.cluster.configuration)}, and ended."))
+        yield Note("GaveUp", shown(f"{bare_name(waiter.node)} is down: it waited {wait_of(waiter, side.cluster.configuration)}, and ended."))
     for waiter in side.cluster.waiting:
-        yield Note("WaitsOn", shown(f"{waiter.node} does nothing yet: it waits {wait_of(waiter, side.cluster.configuration)}."))
+        yield Note("WaitsOn", shown(f"{bare_name(waiter.node)} does nothing yet: it waits {wait_of(waiter, side.cluster.configuration)}."))
 
 
 def gate_notes(reply: Reply) -> Iterator[Note]:
@@ -93,16 +95,16 @@ def gate_notes(reply: Reply) -> Iterator[Note]:
         for waiter in case.waiters:
             wait = wait_of(waiter, reply.configuration)
             if waiter.gave_up:
-                yield Note("CannotComeBack", shown(f"{waiter.node} can't come back: it waits {wait}, and ends."))
+                yield Note("CannotComeBack", shown(f"{bare_name(waiter.node)} can't come back: it waits {wait}, and ends."))
             else:
-                yield Note("WaitsOn", shown(f"{waiter.node} does nothing when it is back: it waits {wait}."))
+                yield Note("WaitsOn", shown(f"{bare_name(waiter.node)} does nothing when it is back: it waits {wait}."))
 
 
 def wait_of(waiter: Waiter, configuration: Configuration) -> str:
     """How long a node waits at its start gate, and for whom."""
     time = configuration.sync_timeout
     groups = [(waiter.mandatory, "mandatory"), ([] if waiter.gave_up else waiter.optional, "optional")]
-    names = ", and ".join(f"{listed(nodes)}, {kind}" for nodes, kind in groups if nodes)
+    names = ", and ".join(f"{listed(bare_names(nodes))}, {kind}" for nodes, kind in groups if nodes)
     return f"without end for {names}" if time == "infinity" else f"{time} ms for {names}"
 
 
@@ -141,13 +143,13 @@ def idle_notes(fates: list[Fate]) -> Iterator[Note]:
             found.setdefault(fate.app, []).extend(node for node in idle if node not in found.get(fate.app, []))
     for app, nodes in found.items():
         if nodes:
-            text = f"{app} isn't started at {few_of(nodes)}: OTP waits for {few_of(nodes)} to start it, without end: it runs nowhere."
+            text = f"{bare_name(app)} isn't started at {few_of(nodes)}: OTP waits for {few_of(nodes)} to start it, without end: it runs nowhere."
             yield Note("NotStarted", shown(text))
 
 
 def few_of(names: list[str]) -> str:
     """Some names in a sentence, of many the first ones."""
-    more = len(names) - MOST_NAMED
+    more, names = len(names) - MOST_NAMED, bare_names(names)
     return listed(names if more <= 0 else [*names[:MOST_NAMED], f"{more} more"])
 
 

@@ -6,7 +6,9 @@ from typing import Iterable, Iterator
 
 from view.configuration import Configuration
 from view.noticing import outage_of
+from view.pages import bare_marks
 from view.texts import columns_of, listed, padded, shown
+from view.tokens import bare_name, bare_names
 from view.what_if import Answers, Case, Fate, Reply, nowhere_at_first
 from view.what_if_notes import notes_on
 
@@ -19,7 +21,7 @@ def table_of(reply: Reply, shows_all: bool = False) -> Iterator[str]:
     for number, answers in enumerate(reply.sides):
         if len(reply.sides) > 1:
             yield from [""] if number else []
-            yield shown(f"side of {listed(answers.side.members)}:")
+            yield shown(f"side of {listed(bare_names(answers.side.members))}:")
         yield from side_table(reply, answers, shows_all)
     notes = [*nobody_lines(reply), *(f"- {note.text}" for note in notes_on(reply))]
     if notes:
@@ -43,7 +45,7 @@ def side_table(reply: Reply, answers: Answers, shows_all: bool) -> Iterator[str]
 
 def case_rows(case: Case, nowhere: list[str], tick_time: int, shows_all: bool) -> Iterator[tuple[str, ...]]:
     """The rows of a case: the applications that go anywhere, and how many stay. What runs nowhere all the time is in neither."""
-    down, shown_ones = " ".join(case.down), case.fates if shows_all else [fate for fate in case.fates if not fate.stays]
+    down, shown_ones = " ".join(bare_names(case.down)), case.fates if shows_all else [fate for fate in case.fates if not fate.stays]
     for fate in shown_ones:
         yield tuple(shown(text) for text in (down, *cells_of(fate, tick_time)))
     count = sum(fate.app not in nowhere for fate in case.fates if fate.stays)
@@ -54,12 +56,13 @@ def case_rows(case: Case, nowhere: list[str], tick_time: int, shows_all: bool) -
 
 def cells_of(fate: Fate, tick_time: int) -> tuple[str, ...]:
     """The row of an application, without the nodes that are down."""
+    app, now, then, back = (bare_name(name or "-") for name in (fate.app, fate.now, fate.then, fate.back))
     if fate.waits:
-        return (fate.app, fate.now or "-", fate.then or "-", "waits", "", "", fate.back or "-")
+        return (app, now, then, "waits", "", "", back)
     after = "" if fate.milliseconds is None else f"{fate.milliseconds} ms"
     outage = "" if fate.wait is None else outage_of(fate.wait, tick_time)
     how = "stays stopped" if fate.was_stopped and fate.how == "stays" else fate.how
-    return (fate.app, fate.now or "-", fate.then or "-", how, after, outage, fate.back or "-")
+    return (app, now, then, how, after, outage, back)
 
 
 def lines_of_rows(rows: Iterable[tuple[str, ...]]) -> Iterator[str]:
@@ -78,4 +81,4 @@ def nobody_lines(reply: Reply) -> Iterator[str]:
     for case in reply.cases:
         for fate in case.fates:
             if fate.then is None and fate.now is not None and fate.marks and not fate.waits:
-                yield shown(f"{fate.app} without {listed(case.down)}: {fate.marks}")
+                yield shown(f"{bare_name(fate.app)} without {listed(bare_names(case.down))}: {bare_marks(fate.marks)}")

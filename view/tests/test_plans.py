@@ -30,6 +30,10 @@ SHOP = (
     "[{kernel,[{distributed,[{billing,8000,[shop1@h,shop2@h,shop3@h]},{reports,3000,[shop3@h,shop1@h]},"
     "{mail,5000,[shop2@h,{shop1@h,shop3@h}]},{audit,0,[shop1@h,shop2@h]}]}]}].\n"
 )
+QUOTED_SHOP = (
+    "[{kernel,[{distributed,[{'Billing',5000,['shop1@10.0.0.1','shop-2@h']},{audit,0,['shop-2@h','shop1@10.0.0.1']},"
+    "{'Once',['shop1@10.0.0.1']}]},{permissions,[{'Once',false}]}]}].\n"
+)
 FLEET = "[{kernel,[{distributed,[{a,5000,[n1@h,{n2@h,n3@h}]},{b,5000,[n1@h,{n2@h,n3@h}]},{c,5000,[n2@h,n3@h,n1@h]}]}]}].\n"
 SYNC = "{sync_nodes_mandatory,[shop1@h,shop2@h,shop3@h]},{sync_nodes_timeout,5000}"
 FULL_SHOP = SHOP.replace(
@@ -383,6 +387,32 @@ class Now(Files):
         said = view("what-if", self.shop, "--now", "billing=shop2@h", "--down", "shop3@h")
         self.assertIn("Here shop1@h takes over billing at once: OTP leaves it at shop2@h until shop1@h starts it.", said.output)
         self.assertIn("By --now reports, mail and audit run nowhere: no node starts it.", said.output)
+
+    def test_the_part_before_the_host(self) -> None:
+        whole = json.loads(view("what-if", self.shop, "--json", "--now", "mail=shop2@h", "billing=shop1@h", "--down", "shop1@h").output)
+        file = self.path("now", "shop1 billing\nshop2 mail\nshop3@h\n")
+        for now in (("mail=shop2", "billing=shop1"), (file,)):
+            short = view("what-if", self.shop, "--json", "--now", *now, "--down", "shop1", "--back", "shop1")
+            self.assertEqual(json.loads(short.output), whole)
+        self.assertEqual(view("what-if", self.shop, "--then", self.shop, "--down", "shop1").status, 0)
+        self.assertEqual(view("rolling", self.shop, "--order", "shop2", "shop1").output.splitlines()[0][:28], "order shop2@h > shop1@h: 6 m")
+        two = self.path("two.config", "[{kernel,[{distributed,[{a,1,[x@h,x@k,y@k]}]}]}].")
+        self.assertEqual((view("what-if", two, "--down", "x").status, view("what-if", two, "--down", "y").status), (2, 0))
+        self.assertIn("no node x: its nodes are x@h, x@k, y@k", view("what-if", two, "--down", "x").errors)
+
+    def test_what_nodes_answered(self) -> None:
+        answers = self.path("answers", "\nshop1@h billing audit\n{ok, ok}\nshop2@h mail\n{ok, ok}\n'shop3@h' reports\nok\n:ok\n{ok,ok}")
+        answer = json.loads(view("load", self.shop, "--json", "--now", answers).output)
+        self.assertEqual([count["applications"] for count in answer["losses"][0]["load"]], [2, 1, 1])
+        for language in ("now", "elixir-now"):
+            self.assertIn("which_applications", view("gather", "--print-command", language).output)
+
+    def test_no_table_shows_quotes(self) -> None:
+        path = self.path("quoted.config", QUOTED_SHOP)
+        now = ("--now", "Billing=shop-2@h", "audit=shop1@10.0.0.1")
+        new = self.path("new.config", QUOTED_SHOP.replace("5000", "6000").replace(",'shop1@10.0.0.1'", ""))
+        for words in (("what-if", path), ("what-if", path, *now), ("rolling", path), ("rolling", path, *now), ("load", path, *now), ("what-if", path, "--then", new)):
+            self.assertNotRegex(view(*words).output, r"'(shop|Billing)|@\S+'", words)
 
     def test_names_in_quotes(self) -> None:
         path = self.path("quoted.config", "[{kernel,[{distributed,[{'My-App',1,['a=b@h','c-d@h']}]}]}].")
