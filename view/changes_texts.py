@@ -7,7 +7,7 @@ from typing import Iterator
 from view.changes import Answer, Change, Changes
 from view.notes import Note
 from view.noticing import seconds_of
-from view.settings import Differing
+from view.settings import GATES, Differing
 from view.texts import shown
 from view.tokens import bare_name
 from view.what_if_notes import below, few_of
@@ -70,6 +70,9 @@ def seconds(milliseconds: int | None) -> str:
 
 def notes_on(changes: Changes) -> Iterator[Note]:
     """What is to be said of rolling a change out: of lists that differ, of times alone, and of applications that one file has."""
+    if any(setting.name in GATES for setting in changes.settings):
+        text = "Whom a starting node waits for differs: --down A B --back B says whether B comes back while A is down."
+        yield Note("OtherGates", text)
     if changes.other_lists:
         text = f"The lists of {few_of(changes.other_lists)} differ: where nodes with both files meet, OTP ends one of them."
         yield Note("NoRollingChange", shown(f"{text} Stop all nodes, and start them with the new file."))

@@ -11,6 +11,7 @@ from view.loading import Checked
 from view.noticing import tick_time_of
 
 LIST, TIME, PERMISSION, FORBIDDEN = "list", "time", "permission", "forbidden"
+GATES = ("sync_nodes_mandatory", "sync_nodes_optional", "sync_nodes_timeout")
 
 
 @dataclass(frozen=True)
@@ -68,9 +69,5 @@ def truth_of(value: bool) -> str:
 def of_all_nodes(checked: Checked) -> dict[str, str | None]:
     """The settings that hold for all nodes, by their names in the file."""
     configuration = checked.configuration
-    return {
-        "sync_nodes_mandatory": list_of([[node] for node in configuration.mandatory]),
-        "sync_nodes_optional": list_of([[node] for node in configuration.optional]),
-        "sync_nodes_timeout": configuration.sync_timeout,
-        "net_ticktime": str(tick_time_of(checked.text)),
-    }
+    lists = [list_of([[node] for node in nodes]) for nodes in (configuration.mandatory, configuration.optional)]
+    return {**dict(zip(GATES, (*lists, configuration.sync_timeout))), "net_ticktime": str(tick_time_of(checked.text))}

@@ -262,11 +262,16 @@ def kind_of(case: Case, observed: dict[str, dict[str, str | None]], wanted: str 
 
 QUICK = Scenario("restarts of 2 s", (("a1", "5000", TUPLE), ("a2", "6000", TUPLE), ("a3", "7000", "[cp2,cp3,cp1]")))
 HALF = Scenario("restarts of 4 s", (("a1", "1000", TUPLE), ("a2", "9000", TUPLE), ("a3", "12000", "[cp2,cp3,cp1]")))
+SHARED = Scenario(
+    "restarts of 2 s, tuples",
+    (("a1", "5000", "[{cp1,cp2},cp3]"), ("a2", "7000", "[{cp1,cp2},cp3]"), ("a3", "6000", "[{cp2,cp3},cp1]"), ("a4", "8000", "[{cp1,cp2,cp3}]")),
+)
 ROLLED = (
     ("ladder", (0, 1, 2), None),
     ("ladder", (2, 0, 1), None),
     ("short lists", (1, 2, 0), None),
     (QUICK.name, (0, 1, 2), 2_000),
+    (SHARED.name, (2, 1, 0), 2_000),
     (HALF.name, (1, 0, 2), 4_000),
 )
 # what `rolling --json` says of a step, or of a move
@@ -279,7 +284,7 @@ def compare_rolling(score: Score) -> None:
         print("rolling isn't among the subcommands: it isn't compared")
         return
     for name, order, takes in ROLLED:
-        scenario = next(each for each in (*SCENARIOS, QUICK, HALF) if each.name == name)
+        scenario = next(each for each in (*SCENARIOS, QUICK, SHARED, HALF) if each.name == name)
         roll(scenario, [NODES[number] for number in order], takes, score)
 
 

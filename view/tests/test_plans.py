@@ -282,9 +282,9 @@ class Changed(Files):
     def test_what_no_answer_shows(self) -> None:
         old = self.path("old.config", FULL_SHOP)
         rows: "tuple[tuple[str, str, str, str | None], ...]" = (
-            ("mandatory,[shop1@h,shop2@h,shop3@h]", "mandatory,[]", "~ all nodes  sync_nodes_mandatory  [shop1@h,shop2@h,shop3@h] -> []", None),
-            ("optional,[]", "optional,[shop1@h]", "~ all nodes  sync_nodes_optional  [] -> [shop1@h]", None),
-            ("timeout,30000", "timeout,300000", "~ all nodes  sync_nodes_timeout  30000 -> 300000", None),
+            ("mandatory,[shop1@h,shop2@h,shop3@h]", "mandatory,[]", "~ all nodes  sync_nodes_mandatory  [shop1@h,shop2@h,shop3@h] -> []", "OtherGates"),
+            ("optional,[]", "optional,[shop1@h]", "~ all nodes  sync_nodes_optional  [] -> [shop1@h]", "OtherGates"),
+            ("timeout,30000", "timeout,300000", "~ all nodes  sync_nodes_timeout  30000 -> 300000", "OtherGates"),
             ("net_ticktime,20", "net_ticktime,60", "~ reports    shop3@h down  away for at most 28 s -> 78 s", None),
             ("shop2@h,shop3@h]},{reports", "shop2@h]},{reports", "~ billing  shop2@h down  one loss from nothing", "NoRollingChange"),
             ("billing,8000", "billing,8001", "~ billing  shop1@h down  shop2@h after 8000 ms -> shop2@h after 8001 ms", "MixedTimes"),
@@ -304,6 +304,7 @@ class Changed(Files):
         said = view("what-if", old, "--then", new, "--down", "shop1@h", "shop2@h", "--back", "shop2@h")
         self.assertIn("- shop2@h can't come back: it waits 30000 ms for shop1@h, mandatory, and ends. (note)", said.output)
         self.assertRegex(said.output, r"~ mail +shop1@h shop2@h down +back: shop3@h -> shop2@h\n")
+        self.assertIn("- Whom a starting node waits for differs: --down A B --back B says whether", said.output)
         self.assertEqual(said.status, 1)
 
     def test_a_hang_that_goes(self) -> None:
