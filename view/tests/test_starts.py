@@ -18,7 +18,7 @@ from random_scripts import CALM, CONFIGS, DRAINS, PAUSES, ScriptMaker
 from test_what_if import random_config
 from view.cases import Course, Loss, careful_course, first_pages, quick_course
 from view.cluster import share_all
-from view.forbidden import forbidden_in
+from view.forbidden import comment_of, forbidden_in
 from view.loading import Checked, check_config
 from view.noticing import outage_of
 from view.openings import Side, opened, opened_after
@@ -237,6 +237,17 @@ class Courses(Asked):
                 with self.subTest(number=number, loss=loss):
                     quick_ones += self.compare(side, loss)
         self.assertGreater(quick_ones, COUNT // 3)
+
+    def test_permissions_of_single_nodes(self) -> None:
+        for number in range(COUNT // 2):
+            random = Random(f"forbidden {number}")
+            text = random_config(random)
+            pairs = [(each.name, node) for each in checked_of(text).configuration.applications for node in each.nodes]
+            checked = checked_of("".join(f"{comment_of(*pair)}\n" for pair in pairs if random.random() < 0.3) + text)
+            side = opened(distac(), checked, []) if random.random() < 0.5 else opened_now(distac(), checked, random_places(random, checked))
+            loss = self.random_loss(random, side)
+            with self.subTest(number=number, loss=loss):
+                self.compare(side, loss)
 
     def random_loss(self, random: Random, side: Side) -> Loss:
         """Some nodes that go down, and some of them that come back."""
