@@ -1,5 +1,5 @@
 #!/usr/bin/env python3
-"""Compares `gather`, `what-if`, `rolling` and the warnings of `check` with three real nodes of Erlang/OTP on the loopback interface.
+"""Compares `gather`, `what-if`, `rolling` and warnings with three real nodes of Erlang/OTP on the loopback interface.
 
     python3 view/tests/real_erlang.py [--only NAME ..] [--runs N] [--seconds N]
 
@@ -368,6 +368,38 @@ def compare_boots(score: Score) -> None:
         print(f"boot with {what}: gather says {is_fine}, OTP {has_booted}", flush=True)
 
 
+MIXED = (
+    ("equal files", "{a1,500,[cp1,cp2]}", "{a1,500,[cp1,cp2]}"),
+    ("other times", "{a1,500,[cp1,cp2]}", "{a1,900,[cp1,cp2]}"),
+    ("another order in a tuple", "{a1,500,[{cp1,cp2}]}", "{a1,500,[{cp2,cp1}]}"),
+    ("other lists", "{a1,500,[cp1,cp2]}", "{a1,500,[cp2,cp1]}"),
+    ("an application added", "{a1,500,[cp1,cp2]}", "{a1,500,[cp1,cp2]},{a2,500,[cp1,cp2]}"),
+)
+MIXED_FILE = "[{kernel,[{distributed,[%s]},{sync_nodes_optional,[cp1,cp2]},{sync_nodes_timeout,6000},{logger_level,critical}]}].\n"
+
+
+def compare_mixed(score: Score) -> None:
+    """Of two nodes with two files one ends if `what-if --then` says that lists differ, and what is added runs twice if it says so."""
+    for what, *entries in MIXED:
+        with tempfile.TemporaryDirectory(prefix="distac-nodes-") as room, Cluster(Path(room), {"a1": 0, "a2": 0}) as cluster:
+            paths = [Path(room) / f"{node}.config" for node in NODES[:2]]
+            for path, entry in zip(paths, entries):
+                path.write_text(whole(MIXED_FILE % entry))
+            notes = json.loads(run_view("what-if", str(paths[0]), "--then", str(paths[1]), "--json").output)["notes"]
+            ids = {note["id"] for note in notes}
+            nodes = [cluster.boot(node, node) for node in NODES[:2]]
+            time.sleep(1)
+            for node in nodes:
+                node.order("start a1 a2" if "a2" in entries[1] else "start a1")
+            time.sleep(2 * LATE_SECONDS)
+            has_ended = len(cluster.up()) < 2
+            runs_twice = len(cluster.where(["a2"])["a2"]) > 1
+        is_equal = (has_ended, runs_twice) == ("NoRollingChange" in ids, "AddedMayRunTwice" in ids)
+        row = f"{what}: what-if --then has {', '.join(ids) or 'no note'}, and in OTP a node ends: {has_ended}, a2 runs twice: {runs_twice}"
+        score.add("agree" if is_equal else "differ", "" if is_equal else row)
+        print(row, flush=True)
+
+
 def words_of(arguments: list[str]) -> argparse.Namespace:
     """The words of the command line."""
     parser = argparse.ArgumentParser(description=(__doc__ or "").split("\n")[0])
@@ -390,6 +422,7 @@ def main(arguments: list[str]) -> int:
     if not words.only:
         compare_answers(score)
         compare_boots(score)
+        compare_mixed(score)
         compare_rolling(score)
     for scenario, down in chain.from_iterable(((each, down) for down in each.cases) for each in chosen * words.runs):
         if time.monotonic() > end:
