@@ -6,6 +6,7 @@ from itertools import combinations
 from typing import Iterator
 
 from view.boot_warnings import boot_warnings
+from view.forbidden import unknown_in
 from view.loading import Checked
 from view.near_names import looks_misspelt, near_to
 from view.places import Remark, place_of
@@ -66,6 +67,7 @@ def warnings_on(checked: Checked, path: str) -> list[Remark]:
         *sync_without_time(checked, source),
         *single_nodes(checked, source),
         *near_names(checked, source),
+        *unknown_in(checked),
         *boot_warnings(checked, path),
     ]
     return sorted(found, key=lambda remark: (remark.place.line, remark.place.column))

@@ -6,9 +6,11 @@ A configuration of `distac` forbids an application at all nodes or at none. A no
 from __future__ import annotations
 
 import re
+from typing import Iterator
 
 from view.loading import Checked
-from view.texts import text_of
+from view.places import Remark, place_of
+from view.texts import bytes_of, shown, text_of
 from view.tokens import name_of
 
 NAME = r"(?:'[^'\n]*'|[a-z][A-Za-z0-9_@]*)"
@@ -18,6 +20,15 @@ REMEMBERED = re.compile(rf"^%+ *forbidden (?P<app>{NAME}) at (?P<node>{NAME})\s*
 def comment_of(app: str, node: str) -> str:
     """The comment that an application is forbidden at a node."""
     return f"%% forbidden {app} at {node}"
+
+
+def unknown_in(checked: Checked) -> Iterator[Remark]:
+    """What is to be said of such comments that name no application, or no node of its list."""
+    known = forbidden_in(checked)
+    for found in REMEMBERED.finditer(text_of(checked.text)):
+        if (name_of(found["node"]), name_of(found["app"])) not in known:
+            sentence = f"{shown(found['node'])} is in no list of an application {shown(found['app'])}: this comment forbids nothing"
+            yield Remark(place_of(checked.text, len(bytes_of(found.string[: found.start("app")]))), "UnknownForbidden", sentence)
 
 
 def forbidden_in(checked: Checked) -> list[tuple[str, str]]:

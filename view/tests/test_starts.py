@@ -195,6 +195,14 @@ class Forbidden(Asked):
             self.assertEqual(forbidden_in(checked_of(f"{comment}\n{config}")), [], comment)
         self.assertEqual(forbidden_in(checked_of(f"%forbidden 'myapp' at 'a@h'\r\n{config}")), [("a@h", "myapp")])
 
+    def test_comments_that_forbid_nothing(self) -> None:
+        self.path.write_text(FORBIDDEN.replace("other at a@h", "other at d@h"))
+        said = view("check", str(self.path), "--strict")
+        self.assertEqual(said.status, 1)
+        self.assertIn("script:2:14: UnknownForbidden: d@h is in no list of an application other: this comment forbids nothing", said.errors)
+        self.path.write_text(FORBIDDEN)
+        self.assertEqual(view("check", str(self.path), "--strict").status, 0)
+
     def test_what_another_file_forbids_is_a_change(self) -> None:
         new = self.path.with_name("new")
         new.write_text(FORBIDDEN.replace("myapp at b@h", "myapp at c@h"))
