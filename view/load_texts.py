@@ -5,6 +5,7 @@ from __future__ import annotations
 from typing import Iterator
 
 from view.load import Load, Row
+from view.notes import Failure
 from view.texts import columns_of, listed, shown
 from view.tokens import bare_name
 from view.what_if_notes import few_of
@@ -75,16 +76,17 @@ def last_lines(load: Load) -> Iterator[str]:
             yield shown(f"{without}one loss from nothing: {names}")
 
 
-def budget_faults(load: Load, fail_on: list[str], most: int | None) -> Iterator[str]:
+def budget_faults(load: Load, fail_on: list[str], most: int | None) -> Iterator[Failure]:
     """What a budget that stands in `--fail-on` doesn't allow, as sentences."""
     if "lost" in fail_on and load.nowhere:
-        yield f"lost: {shown(few_of(load.nowhere))} {'runs' if len(load.nowhere) == 1 else 'run'} nowhere before any loss"
+        yield Failure("lost", shown(f"{few_of(load.nowhere)} {'runs' if len(load.nowhere) == 1 else 'run'} nowhere before any loss"))
     lost = [row for row in load.rows if row.lost] if "lost" in fail_on else []
     if lost:
-        yield f"lost: {len(lost)} of {len(load.rows)} losses leave an application nowhere, first {down_of(lost[0])}"
+        yield Failure("lost", f"{len(lost)} of {len(load.rows)} losses leave an application nowhere, first {down_of(lost[0])}")
     above = [row for row in (load.start, *load.rows) if is_above(row, most)] if "load" in fail_on else []
     if above:
-        yield f"load: a node has more than {most} applications in {len(above)} of {len(load.rows) + 1} cases, first {down_of(above[0])}"
+        cases = f"{len(above)} of {len(load.rows) + 1} cases"
+        yield Failure("load", f"a node has more than {most} applications in {cases}, first {down_of(above[0])}")
     hanging = [row for row in load.rows if row.may_hang] if "hang" in fail_on else []
     if hanging:
-        yield f"hang: OTP may hang in {len(hanging)} of {len(load.rows)} losses, first {down_of(hanging[0])}"
+        yield Failure("hang", f"OTP may hang in {len(hanging)} of {len(load.rows)} losses, first {down_of(hanging[0])}")

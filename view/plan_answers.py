@@ -8,13 +8,13 @@ from view.changes import Answer, Change, Changes
 from view.cluster import Waiter
 from view.json_answers import Fields, json_of, name_or_none, names_of, notes_fields
 from view.load import Load, Row
-from view.notes import Note
+from view.notes import Failure, Note
 from view.rolling import Move, Rolling, Step
 from view.settings import Differing
 from view.tokens import bare_name
 
 
-def rolling_answer(rolling: Rolling, notes: Iterable[Note]) -> str:
+def rolling_answer(rolling: Rolling, failures: Iterable[Failure], notes: Iterable[Note]) -> str:
     """The answer of `rolling`."""
     fields: Fields = {
         "order": names_of(rolling.order),
@@ -24,8 +24,14 @@ def rolling_answer(rolling: Rolling, notes: Iterable[Note]) -> str:
         "worst": rolling.worst,
         "takes": rolling.takes,
         "steps": [step_fields(step) for step in rolling.steps],
+        "failed": failed_fields(failures),
     }
     return json_of("rolling", fields, notes)
+
+
+def failed_fields(failures: Iterable[Failure]) -> list[Fields]:
+    """The fields of what an answer fails for."""
+    return [{"what": failure.what, "text": failure.text} for failure in failures]
 
 
 def step_fields(step: Step) -> Fields:
@@ -47,10 +53,11 @@ def waiter_fields(waiter: Waiter) -> Fields:
     return {"node": bare_name(waiter.node), "mandatory": names_of(waiter.mandatory), "optional": names_of(waiter.optional)}
 
 
-def load_answer(load: Load, notes: Iterable[Note]) -> str:
+def load_answer(load: Load, failures: Iterable[Failure], notes: Iterable[Note]) -> str:
     """The answer of `load`."""
     rows = [row_fields(row) for row in (load.start, *load.rows)]
-    return json_of("load", {"nodes": names_of(load.configuration.nodes), "nowhere": names_of(load.nowhere), "losses": rows}, notes)
+    fields: Fields = {"nodes": names_of(load.configuration.nodes), "nowhere": names_of(load.nowhere), "losses": rows}
+    return json_of("load", {**fields, "failed": failed_fields(failures)}, notes)
 
 
 def row_fields(row: Row) -> Fields:

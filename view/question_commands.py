@@ -15,6 +15,7 @@ from view.json_answers import what_if_answer
 from view.load import load_of
 from view.load_texts import budget_faults
 from view.load_texts import table_of as load_table
+from view.notes import Failure
 from view.output import Output, say
 from view.plan_answers import changes_answer, load_answer, rolling_answer
 from view.problems import Problem, Status
@@ -59,8 +60,9 @@ def load(distac: Distac, words: argparse.Namespace, output: Output) -> Status:
         raise Problem("--fail-on load wants --most N: how many applications a node may have")
     found = load_of(distac, Question(words.config, now=words.now), words.pairs)
     notes = [*start_notes(found.side, bool(words.now)), *hang_notes((row.down, row.may_hang) for row in found.rows)]
-    written(output, [load_answer(found, notes)] if words.json else [*load_table(found, words.most), *below(notes)])
-    return judged(budget_faults(found, fail_on, words.most))
+    failures = list(budget_faults(found, fail_on, words.most))
+    written(output, [load_answer(found, failures, notes)] if words.json else [*load_table(found, words.most), *below(notes)])
+    return judged(failures)
 
 
 def failing(words: list[str], known: tuple[str, ...]) -> list[str]:
@@ -71,13 +73,11 @@ def failing(words: list[str], known: tuple[str, ...]) -> list[str]:
     return found
 
 
-def judged(faults: Iterable[str]) -> Status:
+def judged(failures: list[Failure]) -> Status:
     """Says what isn't allowed, and the status that it leads to."""
-    status = Status.FINE
-    for fault in faults:
-        say(f"distac-view: {fault}")
-        status = Status.NO
-    return status
+    for failure in failures:
+        say(f"distac-view: {failure.what}: {failure.text}")
+    return Status.NO if failures else Status.FINE
 
 
 def rolling(distac: Distac, words: argparse.Namespace, output: Output) -> Status:
@@ -86,8 +86,9 @@ def rolling(distac: Distac, words: argparse.Namespace, output: Output) -> Status
     found = rolling_of(distac, Question(words.config, now=words.now, takes=words.takes), words.order, words.drain)
     hangs = hang_notes(([step.node], step.may_hang) for step in found.steps)
     notes = [*start_notes(found.side, bool(words.now)), *drain_notes(words.drain), *hangs]
-    written(output, [rolling_answer(found, notes)] if words.json else [*rolling_lines(found), *below(notes)])
-    return max(Status.NO if found.is_barred else Status.FINE, judged(hang_faults(found, fail_on)))
+    failures = list(hang_faults(found, fail_on))
+    written(output, [rolling_answer(found, failures, notes)] if words.json else [*rolling_lines(found), *below(notes)])
+    return max(Status.NO if found.is_barred else Status.FINE, judged(failures))
 
 
 def add_what_if(parser: argparse.ArgumentParser) -> None:

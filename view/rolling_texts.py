@@ -4,7 +4,7 @@ from __future__ import annotations
 
 from typing import Iterator
 
-from view.notes import Note
+from view.notes import Failure, Note
 from view.rolling import Move, Rolling, Step
 from view.texts import listed, shown
 from view.tokens import bare_name
@@ -31,10 +31,11 @@ def drain_notes(drains: bool) -> Iterator[Note]:
         yield Note("NoDrain", text)
 
 
-def hang_faults(rolling: Rolling, fail_on: list[str]) -> Iterator[str]:
+def hang_faults(rolling: Rolling, fail_on: list[str]) -> Iterator[Failure]:
     """What `--fail-on` doesn't allow."""
     if "hang" in fail_on and rolling.hanging:
-        yield shown(f"hang: OTP may hang in {len(rolling.hanging)} of {counted(len(rolling.steps), 'step')}, first {bare_name(rolling.hanging[0].node)}")
+        count, first = len(rolling.hanging), bare_name(rolling.hanging[0].node)
+        yield Failure("hang", shown(f"OTP may hang in {count} of {counted(len(rolling.steps), 'step')}, first {first}"))
 
 
 def found_how(rolling: Rolling) -> str:
