@@ -9,13 +9,13 @@ from __future__ import annotations
 
 from dataclasses import dataclass
 from view.answers import Answered
-from view.cluster import GAVE_UP, HELD_BACK, Cluster, come_to_rest, share_all, take_round, take_rounds
+from view.cluster import GAVE_UP, HELD_BACK, Cluster, come_to_rest, longest_wait, share_all, take_round, take_rounds
 from view.distac import Distac
 from view.drafts import Draft, named_on, takers_of, waits_of
 from view.pages import CLAIM, Held, Page, page_of
 from view.story import Miscounted
 
-WIDE_ROUNDS = 3
+LAST_ROUNDS = 2
 
 
 @dataclass(frozen=True)
@@ -128,7 +128,9 @@ def quick_course(distac: Distac, settled: Cluster, loss: Loss, at_once: Page, is
     then_at = cluster.story.look(cluster.hub)
     if loss.back:
         boot_again(cluster, loss, begin)
-        draft.write_rounds(takers_of(cluster, at_once, *loss.back) if is_wide else loss.back, WIDE_ROUNDS if is_wide else 1)
+        takers, moments = takers_of(cluster, at_once, *loss.back), [cluster.story.now, *later_moments(cluster, at_once, loss, begin)]
+        last = moments[-1] + longest_wait(cluster.configuration)
+        draft.write_rounds(takers if is_wide else loss.back, [*moments, *[last] * LAST_ROUNDS] if is_wide else moments[:1])
     back_at = cluster.story.look(cluster.hub)
     cluster.story.play(distac)
     then, back = (page_of(cluster.story.answers[place].answer) for place in (then_at, back_at))
@@ -152,6 +154,9 @@ def careful_course(distac: Distac, settled: Cluster, loss: Loss) -> Course:
     then, then_at = cluster.page(distac), len(cluster.story.lines)
     if loss.back:
         boot_again(cluster, loss, begin)
+        for moment in later_moments(cluster, at_once, loss, begin):
+            take_round(distac, cluster)
+            cluster.story.now = moment
         come_to_rest(distac, cluster)
     claims = claims_in(cluster, start, then_at)
     return Course(loss, at_once, then, cluster.page(distac), claims, claims_in(cluster, then_at), cluster)
@@ -165,6 +170,11 @@ def wait_out(distac: Distac, cluster: Cluster, at_once: Page, loss: Loss) -> Non
         take_round(distac, cluster)
     if waits:
         take_rounds(distac, cluster)
+
+
+def later_moments(cluster: Cluster, at_once: Page, loss: Loss, begin: int) -> list[int]:
+    """The moments at which waits are over that nodes interrupted by coming back: they count from the loss."""
+    return sorted({begin + wait for wait in waits_of(cluster, at_once) if not loss.outlasts(wait)})
 
 
 def boot_again(cluster: Cluster, loss: Loss, begin: int) -> None:

@@ -21,7 +21,8 @@ from view.what_if_notes import notes_on
 class Answer:
     """Where an application is, now or in the end of a loss, and after how many milliseconds it comes there.
 
-    With it go how long it is away at most, where it is once the nodes are back, and whether no other node could run it.
+    With it go how long it is away at most, where it is once the nodes are back, whether no other node could run it, and whether the
+    nodes are back before its wait is over.
     """
 
     place: str | None
@@ -29,6 +30,7 @@ class Answer:
     longest_outage: int | None = None
     back: str | None = None
     is_alone: bool = False
+    waits: bool = False
 
 
 @dataclass(frozen=True)
@@ -140,4 +142,4 @@ def answers_now(reply: Reply) -> dict[str, Answer]:
 def answer_of(fate: Fate, tick_time: int) -> Answer:
     """What a loss does to an application."""
     outage = None if fate.wait is None else longest_outage(fate.wait, tick_time)
-    return Answer(fate.then, fate.milliseconds, outage, fate.back, fate.is_alone)
+    return Answer(fate.then, fate.milliseconds, outage, fate.back, fate.is_alone, fate.waits)

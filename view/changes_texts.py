@@ -41,8 +41,8 @@ def row_of(change: Change) -> tuple[str, ...]:
 
 def parts_of(old: Answer, new: Answer) -> Iterator[str]:
     """What differs between two answers. Times are told of one place alone, and an outage where the wait is equal."""
-    if old.place != new.place:
-        yield f"{named(old.place)} -> {named(new.place)}"
+    if (old.place, old.waits) != (new.place, new.waits):
+        yield " -> ".join("it waits" if answer.waits else named(answer.place) for answer in (old, new))
     elif old.milliseconds != new.milliseconds:
         yield " -> ".join(timed(answer) for answer in (old, new))
     elif old.longest_outage != new.longest_outage:

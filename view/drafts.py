@@ -8,7 +8,7 @@ from __future__ import annotations
 from dataclasses import dataclass, field
 from typing import Callable
 
-from view.cluster import Cluster, longest_wait
+from view.cluster import Cluster
 from view.pages import Page, page_of
 
 
@@ -31,11 +31,10 @@ class Draft:
             self.write_round(nodes, is_new, len(waits))
             is_new = wait > 0 or 0 in waits
 
-    def write_rounds(self, nodes: list[str], count: int) -> None:
-        """Rounds of nodes that come back: the first one at once, and the others when all waits are over."""
-        begin = self.cluster.story.now
-        for number in range(count):
-            self.cluster.story.now = begin + (longest_wait(self.cluster.configuration) if number else 0)
+    def write_rounds(self, nodes: list[str], moments: list[int]) -> None:
+        """Rounds of some nodes once others came back, one at each of some moments."""
+        for moment in moments:
+            self.cluster.story.now = moment
             self.write_round(nodes, True, len(self.cluster.configuration.applications))
 
     def write_round(self, nodes: list[str], is_new: bool, most: int) -> None:

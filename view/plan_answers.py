@@ -91,6 +91,7 @@ def place_fields(answer: Answer) -> Fields:
         "longest_outage": answer.longest_outage,
         "back": name_or_none(answer.back),
         "last": answer.is_alone,
+        "waits": answer.waits,
     }
 
 

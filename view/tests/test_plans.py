@@ -223,11 +223,21 @@ class Rolls(Files):
         for word in ("0", "-1", "5s", "4294967296"):
             self.assertEqual(view("rolling", self.shop, "--takes", word).status, 2)
 
+    def test_a_restart_of_a_later_node(self) -> None:
+        """OTP 25 does it so: the node that is back waits for the one before it, whose wait counts from the loss."""
+        now = ("--now", "billing=shop2@h", "mail=shop2@h", "reports=shop3@h", "audit=shop1@h")
+        lines = view("rolling", self.shop, "--takes", "2500", "--order", "shop2@h", *now).output.splitlines()
+        self.assertEqual(lines[0], "order shop2@h: 1 move, 5500 ms of waits, restarts of 2500 ms")
+        self.assertEqual(lines[1], "1 shop2@h: down: nothing moves; back before its wait is over: billing and mail; back: billing -> shop1@h after 5500 ms")
+
     def test_what_if_says_what_is_presumed(self) -> None:
         self.assertEqual(view("what-if", self.shop).output.splitlines()[0], "each loss lasts longer than 8000 ms")
         said = view("what-if", self.shop, "--takes", "4000", "--down", "shop1@h")
         self.assertEqual(said.output.splitlines()[0], "each loss lasts 4000 ms")
         self.assertRegex(said.output, r"shop1@h +billing +shop1@h +- +waits +shop1@h\n")
+        new = self.path("new.config", SHOP.replace("8000", "3000"))
+        then = view("what-if", self.shop, "--then", new, "--takes", "4000").output
+        self.assertRegex(then, r"~ billing +shop1@h down +it waits -> shop2@h\n")
         answer = json.loads(view("what-if", self.shop, "--takes", "4000", "--down", "shop1@h", "--json").output)
         self.assertEqual([fate["waits"] for fate in answer["cases"][0]["applications"]], [True, False, False, False])
 
