@@ -6,6 +6,7 @@ import os
 from typing import Iterator
 
 from view.equal_times import Pair, pairs_that_hang
+from view.hangs import CURE
 from view.erlang_reader import decoded
 from view.erlang_terms import Atom, term_of
 from view.erlang_tokens import Misread
@@ -26,9 +27,9 @@ def boot_warnings(checked: Checked, path: str) -> Iterator[Remark]:
     yield from equal_times(checked)
 
 
-def remark_at(checked: Checked, token: Token, name: str, sentence: str) -> Remark:
-    """A warning at a token."""
-    return Remark(place_of(checked.text, token.start), name, sentence)
+def remark_at(checked: Checked, token: Token, name: str, sentence: str, *apps: str) -> Remark:
+    """A warning at a token, about some applications."""
+    return Remark(place_of(checked.text, token.start), name, sentence, apps)
 
 
 def not_erlang(checked: Checked) -> Iterator[Remark]:
@@ -116,9 +117,8 @@ def equal_times_remark(checked: Checked, pairs: list[Pair]) -> Remark:
     pair = pairs[0]
     names = [each.name for each in checked.configuration.applications if any(each in (other.one, other.other) for other in pairs)]
     what = f"{cut(shown(listed(names)), 200)} have the same time and may run at {shown(pair.node)} together"
-    effect = "if it goes down, OTP 25 may restart one of them alone and hang"
-    sentence = f"{what}: {effect}; give each its own time, further apart than a start takes: 100 ms or more"
-    return remark_at(checked, token_of_entry(checked.text, names[-1]), "EqualTimes", sentence)
+    sentence = f"{what}: if it goes down, OTP 25 may restart one of them alone and hang; {CURE}"
+    return remark_at(checked, token_of_entry(checked.text, names[-1]), "EqualTimes", sentence, *names)
 
 
 def token_of_entry(text: bytes, app: str) -> Token:

@@ -9,22 +9,34 @@ from __future__ import annotations
 
 from dataclasses import dataclass
 from view.answers import Answered
-from view.cluster import GAVE_UP, HELD_BACK, Cluster, come_to_rest, share_all, take_round, take_rounds
+from view.cluster import GAVE_UP, HELD_BACK, Cluster, come_to_rest, longest_wait, share_all, take_round, take_rounds
 from view.distac import Distac
 from view.drafts import Draft, named_on, takers_of, waits_of
-from view.pages import CLAIM, Page, page_of
+from view.pages import CLAIM, Held, Page, page_of
 from view.story import Miscounted
 
-WIDE_ROUNDS = 3
+LAST_ROUNDS = 2
 
 
 @dataclass(frozen=True)
 class Loss:
-    """Nodes that go down together, which of them come back, and where nothing is started then."""
+    """Nodes that go down together, which of them come back, where nothing is started then, and after how many milliseconds.
+
+    Without such a number they come back once all waits are over.
+    """
 
     down: list[str]
     back: list[str]
     not_started: list[str]
+    takes: int | None = None
+
+    def outlasts(self, wait: int) -> bool:
+        """Whether an application's wait is over before they are back."""
+        return self.takes is None or wait < self.takes
+
+    def leaves(self, held: Held, timeouts: dict[str, int]) -> bool:
+        """Whether nothing is to be done about an application before they are back: it waits for longer than that."""
+        return not held.is_pending or (held.verdict == "failover" and not self.outlasts(timeouts[held.app]))
 
 
 @dataclass(frozen=True)
@@ -51,6 +63,11 @@ class Course:
     claims: list[Claimed]
     claims_back: list[Claimed]
     cluster: Cluster
+
+    @property
+    def waiting(self) -> list[str]:
+        """The applications that still wait when nodes are back, if that is after some milliseconds."""
+        return [] if self.loss.takes is None else [held.app for held in self.then.held.values() if held.verdict == "failover"]
 
 
 def first_pages(distac: Distac, cluster: Cluster, losses: list[Loss]) -> list[Page]:
@@ -101,22 +118,26 @@ def course_of(distac: Distac, settled: Cluster, loss: Loss, at_once: Page) -> Co
 
 def quick_course(distac: Distac, settled: Cluster, loss: Loss, at_once: Page, is_wide: bool) -> Course | None:
     """How a case goes, if that can be had in one play. By default those nodes alone take part that a page names for a claim."""
-    cluster, start = settled.copy(), len(settled.story.lines)
+    cluster, start, begin = settled.copy(), len(settled.story.lines), settled.story.now
     left = [node for node in cluster.nodes if node not in loss.down]
     if cluster.is_untold:
         cluster.tell(left[:1])
     cluster.crash(loss.down)
     draft = Draft(cluster, settled.story.issued)
-    draft.write_wait(at_once, takers_of(cluster, at_once) if is_wide else named_on(cluster, at_once))
+    draft.write_wait(at_once, takers_of(cluster, at_once) if is_wide else named_on(cluster, at_once), loss.outlasts)
     then_at = cluster.story.look(cluster.hub)
     if loss.back:
-        boot_again(cluster, loss)
-        draft.write_rounds(takers_of(cluster, at_once, *loss.back) if is_wide else loss.back, WIDE_ROUNDS if is_wide else 1)
+        boot_again(cluster, loss, begin)
+        takers, moments = takers_of(cluster, at_once, *loss.back), [cluster.story.now, *later_moments(cluster, at_once, loss, begin)]
+        last = moments[-1] + longest_wait(cluster.configuration)
+        draft.write_rounds(takers if is_wide else loss.back, [*moments, *[last] * LAST_ROUNDS] if is_wide else moments[:1])
     back_at = cluster.story.look(cluster.hub)
     cluster.story.play(distac)
     then, back = (page_of(cluster.story.answers[place].answer) for place in (then_at, back_at))
     held_up = any(one.first in (GAVE_UP, HELD_BACK) for one in cluster.story.answers[start:])
-    if held_up or not draft.is_whole() or not then.is_at_rest or not back.is_at_rest:
+    timeouts = cluster.configuration.timeouts
+    is_left = all(loss.leaves(held, timeouts) for held in then.held.values())
+    if held_up or not draft.is_whole() or not is_left or not back.is_at_rest:
         return None
     claims = claims_in(cluster, start, then_at)
     return Course(loss, at_once, then, back, claims, claims_in(cluster, then_at + 1), cluster)
@@ -124,22 +145,26 @@ def quick_course(distac: Distac, settled: Cluster, loss: Loss, at_once: Page, is
 
 def careful_course(distac: Distac, settled: Cluster, loss: Loss) -> Course:
     """How a case goes, played step by step with all nodes."""
-    cluster, start = settled.copy(), len(settled.story.lines)
+    cluster, start, begin = settled.copy(), len(settled.story.lines), settled.story.now
     cluster.tell_all()
     cluster.crash(loss.down)
     share_all(distac, cluster)
     at_once = cluster.page(distac)
-    wait_out(distac, cluster, at_once)
+    wait_out(distac, cluster, at_once, loss)
     then, then_at = cluster.page(distac), len(cluster.story.lines)
     if loss.back:
-        come_back(distac, cluster, loss)
+        boot_again(cluster, loss, begin)
+        for moment in later_moments(cluster, at_once, loss, begin):
+            take_round(distac, cluster)
+            cluster.story.now = moment
+        come_to_rest(distac, cluster)
     claims = claims_in(cluster, start, then_at)
     return Course(loss, at_once, then, cluster.page(distac), claims, claims_in(cluster, then_at), cluster)
 
 
-def wait_out(distac: Distac, cluster: Cluster, at_once: Page) -> None:
-    """Those that are left tick at once, and at each moment at which an application's wait is over."""
-    begin, waits = cluster.story.now, waits_of(cluster, at_once)
+def wait_out(distac: Distac, cluster: Cluster, at_once: Page, loss: Loss) -> None:
+    """Those that are left tick at once, and at each moment at which an application's wait is over before nodes are back."""
+    begin, waits = cluster.story.now, [wait for wait in waits_of(cluster, at_once) if loss.outlasts(wait)]
     for moment in [begin, *(begin + wait for wait in sorted(waits))]:
         cluster.story.now = moment
         take_round(distac, cluster)
@@ -147,15 +172,14 @@ def wait_out(distac: Distac, cluster: Cluster, at_once: Page) -> None:
         take_rounds(distac, cluster)
 
 
-def come_back(distac: Distac, cluster: Cluster, loss: Loss) -> None:
-    """Nodes come up again, everything is started there, and all comes to rest."""
-    boot_again(cluster, loss)
-    come_to_rest(distac, cluster)
+def later_moments(cluster: Cluster, at_once: Page, loss: Loss, begin: int) -> list[int]:
+    """The moments at which waits are over that nodes interrupted by coming back: they count from the loss."""
+    return sorted({begin + wait for wait in waits_of(cluster, at_once) if not loss.outlasts(wait)})
 
 
-def boot_again(cluster: Cluster, loss: Loss) -> None:
-    """Nodes come up again, and everything is started there."""
-    cluster.story.now += 1
+def boot_again(cluster: Cluster, loss: Loss, begin: int) -> None:
+    """Nodes come up again, so long after they went down or once all waits are over, and everything is started there."""
+    cluster.story.now = cluster.story.now + 1 if loss.takes is None else begin + loss.takes
     cluster.boot(loss.back, loss.not_started)
 
 

@@ -1,4 +1,4 @@
-"""What a new configuration changes: where applications run now, and where each one goes if a node goes down."""
+"""What a new configuration changes: where applications run now, what each loss of a node does, settings, and what is to be noted."""
 
 from __future__ import annotations
 
@@ -7,17 +7,30 @@ from dataclasses import dataclass, replace
 from view.configuration import Configuration
 from view.distac import Distac
 from view.loading import Checked, load_config
+from view.naming import node_meant
+from view.notes import Note
+from view.noticing import longest_outage
 from view.problems import Problem
 from view.running_now import Placed, placed_by
-from view.what_if import Question, Reply, held_on, reply_on
+from view.settings import LIST, TIME, Differing, differing_settings
+from view.what_if import Fate, Question, Reply, held_on, reply_on
+from view.what_if_notes import notes_on
 
 
 @dataclass(frozen=True)
 class Answer:
-    """Where an application is, now or in the end of a loss, and after how many milliseconds it comes there."""
+    """Where an application is, now or in the end of a loss, and after how many milliseconds it comes there.
+
+    With it go how long it is away at most, where it is once the nodes are back, whether no other node could run it, and whether the
+    nodes are back before its wait is over.
+    """
 
     place: str | None
     milliseconds: int | None = None
+    longest_outage: int | None = None
+    back: str | None = None
+    is_alone: bool = False
+    waits: bool = False
 
 
 @dataclass(frozen=True)
@@ -38,11 +51,12 @@ class Changes:
     new: Reply
     changes: list[Change]
     compared: int
+    settings: list[Differing]
 
     @property
     def are_any(self) -> bool:
-        """Whether the two configurations differ in anything that is asked about."""
-        return bool(self.changes) or any((*self.apps, *self.nodes))
+        """Whether the two configurations differ in anything: in what is answered, noted or set."""
+        return any((self.changes, self.settings, *self.apps, *self.nodes, *self.notes))
 
     @property
     def apps(self) -> tuple[list[str], list[str]]:
@@ -55,19 +69,25 @@ class Changes:
         return differences(self.old.configuration.nodes, self.new.configuration.nodes)
 
     @property
-    def is_no_rolling_one(self) -> bool:
-        """Whether the two have another `distributed`, with which nodes of OTP end each other."""
-        return entries_of(self.old.configuration) != entries_of(self.new.configuration)
+    def notes(self) -> tuple[list[Note], list[Note]]:
+        """The notes that stand below the new answer alone, and those that stand below the old one alone."""
+        old, new = notes_on(self.old), notes_on(self.new)
+        return [note for note in new if note not in old], [note for note in old if note not in new]
+
+    @property
+    def other_lists(self) -> list[str]:
+        """The applications whose lists differ. Where nodes with both files meet, OTP ends one of them."""
+        return [each.app for each in self.settings if each.name == LIST and each.app]
+
+    @property
+    def other_times(self) -> list[str]:
+        """The applications whose times differ. OTP doesn't compare them."""
+        return [each.app for each in self.settings if each.name == TIME and each.app]
 
 
 def differences(old: list[str], new: list[str]) -> tuple[list[str], list[str]]:
     """What only the new list has, and what only the old one has."""
     return [name for name in new if name not in old], [name for name in old if name not in new]
-
-
-def entries_of(configuration: Configuration) -> dict[str, tuple[int, list[list[str]]]]:
-    """The entries of `distributed`, by their names."""
-    return {each.name: (each.timeout, each.groups) for each in configuration.applications}
 
 
 def changes_by(distac: Distac, question: Question, path: str) -> Changes:
@@ -85,13 +105,13 @@ def changes_between(distac: Distac, question: Question, old: Checked, new: Check
     answers, others = answers_in(first), answers_in(second)
     both = [key for key in answers if key in others]
     found = [Change(key[0], list(key[1]), answers[key], others[key]) for key in both if answers[key] != others[key]]
-    return Changes(first, second, found, len(both))
+    return Changes(first, second, found, len(both), differing_settings(old, new))
 
 
 def fitting(question: Question, old: Configuration, new: Configuration) -> Question:
     """The question for the new configuration: of nodes and places only those that it has."""
-    spelled = {node.strip("'") for node in new.nodes}
-    kept = {name: [word for word in getattr(question, name) if word.strip("'") in spelled] for name in ("down", "not_started", "back")}
+    names = ("down", "not_started", "back")
+    kept = {name: [word for word in getattr(question, name) if node_meant(word, new.nodes)] for name in names}
     if question.down and not kept["down"]:
         raise Problem("the new configuration has none of the nodes of --down")
     return replace(question, **kept, placed=placed_in_both(placed_by(question.now, old), old, new) if question.now else None)
@@ -107,13 +127,19 @@ def placed_in_both(placed: Placed, old: Configuration, new: Configuration) -> Pl
 
 def answers_in(reply: Reply) -> dict[tuple[str, tuple[str, ...]], Answer]:
     """All answers of a reply: by application, and by the nodes that are down."""
-    found: dict[tuple[str, tuple[str, ...]], Answer] = {(name, ()): Answer(place) for name, place in places_now(reply).items()}
+    found: dict[tuple[str, tuple[str, ...]], Answer] = {(name, ()): answer for name, answer in answers_now(reply).items()}
     for case in reply.cases:
-        found.update({(fate.app, tuple(case.down)): Answer(fate.then, fate.milliseconds) for fate in case.fates})
+        found.update({(fate.app, tuple(case.down)): answer_of(fate, reply.tick_time) for fate in case.fates})
     return found
 
 
-def places_now(reply: Reply) -> dict[str, str | None]:
+def answers_now(reply: Reply) -> dict[str, Answer]:
     """Where each application is now, or where it goes next if it stands where it isn't left."""
     held = held_on(reply.sides[0].side.page, reply.configuration)
-    return {name: each.at if each.is_pending else each.runs_at for name, each in held.items()}
+    return {name: Answer(each.at if each.is_pending else each.runs_at, is_alone=each.is_alone) for name, each in held.items()}
+
+
+def answer_of(fate: Fate, tick_time: int) -> Answer:
+    """What a loss does to an application."""
+    outage = None if fate.wait is None else longest_outage(fate.wait, tick_time)
+    return Answer(fate.then, fate.milliseconds, outage, fate.back, fate.is_alone, fate.waits)

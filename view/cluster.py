@@ -32,7 +32,7 @@ class Cluster:
     """Nodes that are up, can act and hear each other, and the script that brought them here. The first one is the hub.
 
     It is untold if the hub heard something since it last told all others. Beside the nodes stand those that gave up at their start
-    gate, those that still wait there, and the applications that are never started.
+    gate, those that still wait there, the applications that are never started, and those that nodes forbid to themselves as they boot.
     """
 
     story: Story
@@ -41,6 +41,7 @@ class Cluster:
     ended: list[Waiter] = field(default_factory=list)
     waiting: list[Waiter] = field(default_factory=list)
     unused: list[str] = field(default_factory=list)
+    forbidden: list[tuple[str, str]] = field(default_factory=list)
 
     def copy(self) -> Cluster:
         """The same cluster, to be gone on with apart."""
@@ -61,6 +62,7 @@ class Cluster:
         first = self.nodes[0] if self.nodes else nodes[0]
         for node in nodes:
             self.story.command(f"boot {node} {self.story.now}")
+            self.story.command(*(f"permit {node} {app} {node} false" for by, app in self.forbidden if by == node))
             if node not in not_started:
                 names = [each.name for each in self.configuration.applications if node in each.nodes and each.name not in self.unused]
                 self.story.command(*(f"start {node} {name} {node}" for name in names))

@@ -6,17 +6,18 @@ import argparse
 import sys
 from typing import IO, Callable
 
+from view.check import check
 from view.completion import bash_completion
-from view.config_warnings import warnings_on
 from view.distac import MODELS, Distac, found_distac, nobody
-from view.gather import gather
-from view.help_texts import EPILOG, epilog_of
-from view.loading import Faulty, Loaded, answers_of, load_config, load_script
+from view.gather import LINES, gather
+from view.help_texts import epilog_of
+from view.loading import Faulty, Loaded, answers_of, load_script
 from view.looking import seen_lines
 from view.output import Output, Progress, drop, open_streams, say, why_not_written
 from view.playing import answers_in, rows_of, unknown_names
 from view.problems import Problem, Status
-from view.question_commands import add_load, add_rolling, add_what_if, load, rolling, what_if
+from view.question_commands import add_json, add_load, add_rolling, add_what_if, load, rolling, what_if
+from view.remarks import add_strict, ended_by, warned
 from view.texts import shown
 from view.timeline import Drafting
 from view.verbs import Role, fits
@@ -26,22 +27,6 @@ from view.writing import PIPE, write_whole
 
 VERSION = "distac-view 1"
 MOST_DRAWN = 1_000
-
-
-def check(distac: Distac, words: argparse.Namespace, output: Output) -> Status:
-    """Prints the canonical text of each configuration, with warnings on standard error. The worst status counts."""
-    return max([check_one(distac, words, path, output) for path in words.files])
-
-
-def check_one(distac: Distac, words: argparse.Namespace, path: str, output: Output) -> Status:
-    """Prints the canonical text of a configuration: behind its name, if there are several."""
-    try:
-        checked = load_config(distac, path)
-    except (Faulty, Problem) as ended:
-        return told(ended, output)
-    output.line((f"{path}: " if len(words.files) > 1 else "") + checked.canonical)
-    output.flush()
-    return warned(words, [remark.text(path) for remark in warnings_on(checked, path)])
 
 
 def play(distac: Distac, words: argparse.Namespace, output: Output) -> Status:
@@ -55,14 +40,7 @@ def play(distac: Distac, words: argparse.Namespace, output: Output) -> Status:
         output.line(row)
     output.flush()
     remarks = [*unknown_names(each, loaded.configuration), *too_wide(each)]
-    return warned(words, [remark.text(words.script) for remark in remarks])
-
-
-def warned(words: argparse.Namespace, warnings: list[str]) -> Status:
-    """Says warnings, and the status that they lead to."""
-    for warning in warnings:
-        say(warning)
-    return Status.FAULT if warnings and words.strict else Status.FINE
+    return warned(words, [remark.told(words.script) for remark in remarks])
 
 
 def timeline(distac: Distac, words: argparse.Namespace, output: Output) -> Status:
@@ -108,7 +86,7 @@ Subcommand = Callable[[Distac, argparse.Namespace, Output], Status]
 def parser_of_words() -> argparse.ArgumentParser:
     """The parser of the command line."""
     description = "For people around distac: where a fault is, what a script did, and what happens if a node goes down."
-    parser = Parser("distac-view", description=description, epilog=EPILOG, formatter_class=Formatter)
+    parser = Parser("distac-view", description=description, epilog=epilog_of(""), formatter_class=Formatter)
     parser.add_argument("--version", action="version", version=VERSION)
     more = "print what bash reads to complete the words of distac-view"
     parser.add_argument("--print-completion", choices=["bash"], metavar="bash", help=more)
@@ -155,7 +133,8 @@ class Formatter(argparse.RawDescriptionHelpFormatter):
 def check_words(parser: argparse.ArgumentParser) -> None:
     """The words of `check`."""
     parser.add_argument("files", metavar="FILE", nargs="+", help="a configuration, as erl -config takes it")
-    parser.add_argument("--strict", action="store_true", help="a warning makes the exit status 1")
+    add_strict(parser)
+    add_json(parser)
 
 
 def play_words(parser: argparse.ArgumentParser) -> None:
@@ -164,7 +143,7 @@ def play_words(parser: argparse.ArgumentParser) -> None:
     parser.add_argument("--page", action="store_true", help="show what the nodes know behind each share and each tell")
     parser.add_argument("--explain", action="store_true", help="say why a line is refused, as is done on a terminal")
     parser.add_argument("--plain", action="store_true", help="print the script that distac sim gets, each tell written out")
-    parser.add_argument("--strict", action="store_true", help="an unknown name makes the exit status 1")
+    add_strict(parser)
 
 
 def timeline_words(parser: argparse.ArgumentParser) -> None:
@@ -191,9 +170,10 @@ def gather_words(parser: argparse.ArgumentParser) -> None:
     more = "write a script too, in which all nodes come up: it says permissions that hold at some nodes alone"
     parser.add_argument("-s", "--script", metavar="SCRIPT", help=more)
     parser.add_argument("--reader", choices=("erl", "own"), help="read by Erlang or by distac-view: Erlang if escript is in PATH")
-    about_line = "print a line for a node's remote shell, whose answer is taken as a FILE"
-    parser.add_argument("--print-command", choices=("erlang", "elixir"), nargs="?", const="erlang", help=about_line)
-    parser.add_argument("--strict", action="store_true", help="a warning makes the exit status 1")
+    about_line = "print a line for a node's remote shell, whose answer is taken as a FILE, or with now as that of --now"
+    parser.add_argument("--print-command", choices=tuple(LINES), nargs="?", const="erlang", help=about_line)
+    add_strict(parser)
+    add_json(parser)
 
 
 SUBCOMMANDS: "list[tuple[str, str, Subcommand, Callable[[argparse.ArgumentParser], None]]]" = [
@@ -216,7 +196,7 @@ def run(arguments: list[str]) -> int:
         return Status.FINE
     if words.command is None:
         parser.print_usage(sys.stderr)
-        return Status.WRONG_USE
+        return Status.TROUBLE
     output, progress = Output(), Progress()
     try:
         distac = nobody() if getattr(words, "print_command", None) else found_distac(words.distac)
@@ -225,19 +205,9 @@ def run(arguments: list[str]) -> int:
         return status
     except (Faulty, Problem) as ended:
         progress.end()
-        return told(ended, output)
+        return ended_by(ended, words, output)
     finally:
         progress.end()
-
-
-def told(ended: Faulty | Problem, output: Output) -> Status:
-    """Says what ended a subcommand, or its work on one of several files. The exit status of that."""
-    if isinstance(ended, Faulty):
-        output.line(ended.remark.text(ended.path))
-        output.flush()
-        return Status.FAULT
-    say(f"distac-view: {ended.sentence}")
-    return ended.status
 
 
 def watched(distac: Distac, progress: Progress) -> Distac:
@@ -258,7 +228,7 @@ def main() -> int:
     except OSError as error:
         drop(sys.stdout)
         say(f"distac-view: standard output can't be written: {why_not_written(error)}")
-        return Status.WRONG_USE
+        return Status.TROUBLE
     except KeyboardInterrupt:
         drop(sys.stdout)
         return 130

@@ -6,6 +6,7 @@ from itertools import combinations
 from typing import Iterator
 
 from view.boot_warnings import boot_warnings
+from view.forbidden import unknown_in
 from view.loading import Checked
 from view.near_names import looks_misspelt, near_to
 from view.places import Remark, place_of
@@ -47,9 +48,9 @@ class Source:
                 return place + 2
         return None
 
-    def remark(self, token: Token, name: str, sentence: str) -> Remark:
-        """A warning at a token."""
-        return Remark(place_of(self.text, token.start), name, sentence)
+    def remark(self, token: Token, name: str, sentence: str, *apps: str) -> Remark:
+        """A warning at a token, about some applications."""
+        return Remark(place_of(self.text, token.start), name, sentence, apps)
 
     def token_of(self, parameter: str, name: str) -> Token:
         """The first token of a name in a parameter, or the text's first one."""
@@ -66,6 +67,7 @@ def warnings_on(checked: Checked, path: str) -> list[Remark]:
         *sync_without_time(checked, source),
         *single_nodes(checked, source),
         *near_names(checked, source),
+        *unknown_in(checked),
         *boot_warnings(checked, path),
     ]
     return sorted(found, key=lambda remark: (remark.place.line, remark.place.column))
@@ -80,7 +82,7 @@ def unknown_permissions(checked: Checked, source: Source) -> Iterator[Remark]:
             continue
         meant = near_to(name, names)
         cure = f"is {shown(meant)} meant?" if meant else "it is ignored"
-        yield source.remark(token, "UnknownPermission", f"no application {cut(shown(name), 60)} is in distributed: {cure}")
+        yield source.remark(token, "UnknownPermission", f"no application {cut(shown(name), 60)} is in distributed: {cure}", name)
 
 
 def unlisted_sync_nodes(checked: Checked, source: Source) -> Iterator[Remark]:
@@ -111,18 +113,18 @@ def single_nodes(checked: Checked, source: Source) -> Iterator[Remark]:
     for application in checked.configuration.applications:
         if len(application.nodes) == 1:
             sentence = f"{shown(application.nodes[0])} alone can run {shown(application.name)}: it never fails over"
-            yield source.remark(source.token_of("distributed", application.name), "SingleNode", sentence)
+            yield source.remark(source.token_of("distributed", application.name), "SingleNode", sentence, application.name)
 
 
 def near_names(checked: Checked, source: Source) -> Iterator[Remark]:
     """Names that look like another one with a letter changed."""
     configuration = checked.configuration
-    for names in (configuration.nodes, configuration.names):
+    for is_app, names in enumerate((configuration.nodes, configuration.names)):
         for one, other in combinations(names, 2):
             if looks_misspelt(one, other):
                 token = max(first_token(source, one), first_token(source, other), key=lambda found: found.start)
                 sentence = f"{listed([shown(one), shown(other)])} differ by one change: are they two?"
-                yield source.remark(token, "NearName", sentence)
+                yield source.remark(token, "NearName", sentence, *((one, other) if is_app else ()))
 
 
 def first_token(source: Source, name: str) -> Token:

@@ -40,6 +40,11 @@ class Configuration:
         """The names of the applications."""
         return [application.name for application in self.applications]
 
+    @property
+    def timeouts(self) -> dict[str, int]:
+        """The failover times of the applications, in milliseconds."""
+        return {application.name: application.timeout for application in self.applications}
+
 
 class TermReader:
     """Reads the terms of a canonical text as lists, names and numbers."""

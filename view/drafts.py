@@ -6,8 +6,9 @@ Of each round it is looked up behind the play whether it was a whole one: whethe
 from __future__ import annotations
 
 from dataclasses import dataclass, field
+from typing import Callable
 
-from view.cluster import Cluster, longest_wait
+from view.cluster import Cluster
 from view.pages import Page, page_of
 
 
@@ -22,19 +23,18 @@ class Draft:
     known: int
     looks: list[tuple[int, list[str]]] = field(default_factory=list)
 
-    def write_wait(self, at_once: Page, nodes: list[str]) -> None:
-        """Nodes tick at once, and at each moment at which an application's wait is over: in a round for each such application."""
+    def write_wait(self, at_once: Page, nodes: list[str], is_over: Callable[[int], bool]) -> None:
+        """Nodes tick at once, and at each moment at which a wait is over that ends in time: in a round for each application."""
         waits, begin, is_new = waits_of(self.cluster, at_once), self.cluster.story.now, True
-        for wait in [0, *sorted(waits)] if waits else []:
+        for wait in [0, *sorted(filter(is_over, waits))] if waits else []:
             self.cluster.story.now = begin + wait
             self.write_round(nodes, is_new, len(waits))
             is_new = wait > 0 or 0 in waits
 
-    def write_rounds(self, nodes: list[str], count: int) -> None:
-        """Rounds of nodes that come back: the first one at once, and the others when all waits are over."""
-        begin = self.cluster.story.now
-        for number in range(count):
-            self.cluster.story.now = begin + (longest_wait(self.cluster.configuration) if number else 0)
+    def write_rounds(self, nodes: list[str], moments: list[int]) -> None:
+        """Rounds of some nodes once others came back, one at each of some moments."""
+        for moment in moments:
+            self.cluster.story.now = moment
             self.write_round(nodes, True, len(self.cluster.configuration.applications))
 
     def write_round(self, nodes: list[str], is_new: bool, most: int) -> None:
@@ -56,7 +56,7 @@ class Draft:
 
 def waits_of(cluster: Cluster, at_once: Page) -> list[int]:
     """For each application about which something is to be done, after how long it can be done."""
-    timeouts = {each.name: each.timeout for each in cluster.configuration.applications}
+    timeouts = cluster.configuration.timeouts
     pending = [held for held in at_once.held.values() if held.is_pending]
     return [timeouts[held.app] if held.verdict == "failover" and held.at != held.holder else 0 for held in pending]
 

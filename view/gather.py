@@ -7,12 +7,15 @@ import argparse
 from view.configuration import Configuration
 from view.distac import Distac
 from view.erlang_reader import Reader, reader_named
+from view.forbidden import comment_of
 from view.gathering import Gathered, gathered, node_named
+from view.json_answers import Fields, json_of
 from view.loading import check_config
 from view.node_files import ANSWER_MARK, Library, NodeSettings, path_text, settings_of
-from view.output import Output, say
+from view.output import Output
 from view.placements import Placement, placement_of
 from view.problems import Problem, Status
+from view.remarks import warned, warnings_fields
 from view.texts import bytes_of, shown
 from view.writing import PIPE, write_whole
 
@@ -26,7 +29,16 @@ ELIXIR_LINE = (
     f':io.format(~c"~n{ANSWER_MARK}~tw~n~tw.~n", '
     "[node(), [kernel: (for p <- k, {:ok, v} <- [:application.get_env(:kernel, p)], do: {p, v})]])"
 )
-LINES = {"erlang": ERLANG_LINE, "elixir": ELIXIR_LINE}
+NOW_LINE = (
+    "D=application:get_env(kernel,distributed,[]),"
+    'io:format("~n~tw~ts~n",[node(),[[" ",io_lib:format("~tw",[A])]||{A,_,_}<-application:which_applications(),lists:keymember(A,1,D)]]).'
+)
+ELIXIR_NOW_LINE = (
+    "d = :application.get_env(:kernel, :distributed, []); "
+    ':io.format(~c"~n~tw~ts~n", [node(), (for {a, _, _} <- :application.which_applications(), '
+    ':lists.keymember(a, 1, d), do: [" ", :io_lib.format(~c"~tw", [a])])])'
+)
+LINES = {"erlang": ERLANG_LINE, "elixir": ELIXIR_LINE, "now": NOW_LINE, "elixir-now": ELIXIR_NOW_LINE}
 
 
 def gather(distac: Distac, words: argparse.Namespace, output: Output) -> Status:
@@ -39,13 +51,15 @@ def gather(distac: Distac, words: argparse.Namespace, output: Output) -> Status:
     placements = [placement_of(settings) for settings in settings_by_node(words.nodes, reader_named(words.reader))]
     found = gathered(placements)
     checked = check_config(distac, "the gathered configuration", bytes_of(found.text))
-    lines = [*head_of(words.version, placements, found), checked.canonical]
-    write(words.output, "".join(line + "\n" for line in lines), placements, output)
+    text = "".join(line + "\n" for line in (*head_of(words.version, placements, found), checked.canonical))
+    if not words.json or words.output != PIPE:
+        write(words.output, text, placements, output)
     if words.script:
         write(words.script, opening_script(checked.canonical, checked.configuration, found), placements, output)
-    for warning in found.warnings:
-        say(warning)
-    return Status.FAULT if found.warnings and words.strict else Status.FINE
+    if words.json:
+        fields: Fields = {"text": text, "configuration": checked.canonical, "remarks": warnings_fields(words, found.warnings)}
+        output.line(json_of("gather", fields, []))
+    return warned(words, found.warnings)
 
 
 def settings_by_node(words: list[str], reader: Reader) -> list[NodeSettings]:
@@ -70,7 +84,7 @@ def head_of(version: str, placements: list[Placement], found: Gathered) -> list[
         lines += [f"%% {shown(placement.node)} {path_text(file.path)} sha256 {file.mark}" for file in placement.settings.files]
     if found.tick_time is not None:
         lines.append(f"%% net_ticktime {found.tick_time}")
-    return lines
+    return [*lines, *(comment_of(app, node) for node, app in found.barred_at)]
 
 
 def opening_script(canonical: str, configuration: Configuration, found: Gathered) -> str:

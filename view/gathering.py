@@ -6,9 +6,11 @@ from dataclasses import dataclass, field
 from typing import Iterable
 
 from view.configuration import name_order
-from view.node_files import NO_NAME, Setting, Told
+from view.naming import node_meant
+from view.node_files import NO_NAME, Setting
 from view.placements import SYNC_LISTS, Entry, Placement
-from view.problems import Problem, Status
+from view.places import Told
+from view.problems import Problem
 from view.texts import cut, listed, shown
 from view.tokens import name_of
 
@@ -24,7 +26,7 @@ class Gathered:
     sync: dict[str, list[str]] = field(default_factory=dict)
     sync_time: float | None = None
     tick_time: int | None = None
-    warnings: list[str] = field(default_factory=list)
+    warnings: list[Told] = field(default_factory=list)
 
     @property
     def text(self) -> str:
@@ -58,12 +60,12 @@ def gathered(placements: list[Placement]) -> Gathered:
     return found
 
 
-def once_each(warnings: Iterable[Told]) -> list[str]:
-    """Warnings as they are printed. What is said of many files is said of the first one."""
+def once_each(warnings: Iterable[Told]) -> list[Told]:
+    """Warnings, of which those on many files are said of the first one."""
     by_sentence: dict[str, Told] = {}
     for told in warnings:
-        by_sentence.setdefault(told.remark.sentence, told)
-    return [told.text() for told in by_sentence.values()]
+        by_sentence.setdefault(told.sentence, told)
+    return list(by_sentence.values())
 
 
 def without_distributed(placement: Placement, placements: list[Placement]) -> Exception:
@@ -72,9 +74,9 @@ def without_distributed(placement: Placement, placements: list[Placement]) -> Ex
     other = next((each for each in placements if "distributed" in each.settings.kernel), None)
     if other is not None:
         line = other.settings.kernel["distributed"].origin.line
-        return Problem(f"Differs: kernel has distributed at {line}, and {files} has none: OTP wants it equal at all nodes", Status.FAULT)
+        return Problem(f"kernel has distributed at {line}, and {files} has none: OTP wants it equal at all nodes", "Differs")
     advice = "name each node's files in the order of -config, or take the answer of the running node (gather --print-command)"
-    return Problem(f"NoDistributed: kernel has no distributed in {files}: {advice}", Status.FAULT)
+    return Problem(f"kernel has no distributed in {files}: {advice}", "NoDistributed")
 
 
 def nodes_named(entries: list[Entry], placements: list[Placement]) -> list[str]:
@@ -92,7 +94,7 @@ def resolve_nodes(found: Gathered, placements: list[Placement]) -> None:
         others = [file.answered_by for file in placement.settings.files if file.answered_by not in ("", NO_NAME)]
         if any(node_named(other) != placement.node for other in others):
             what = f"an answer of {shown(listed(others))} is taken for {shown(placement.node)}"
-            found.warnings.append(f"distac-view: OtherNode: {what}: each node has to be asked itself")
+            found.warnings.append(Told("OtherNode", f"{what}: each node has to be asked itself"))
     names = [placement.node for placement in placements]
     twice = next((name for name in names if names.count(name) > 1), None)
     if twice is not None:
@@ -101,12 +103,12 @@ def resolve_nodes(found: Gathered, placements: list[Placement]) -> None:
 
 def resolve(placement: Placement, found: Gathered) -> None:
     """A node's whole name by the part of it before @, if there is one such node."""
-    short = [node for node in found.nodes if node.strip("'").split("@")[0] == placement.node.strip("'")]
-    if len(short) == 1:
-        placement.node = short[0]
+    meant = node_meant(placement.node, found.nodes)
+    if meant is not None:
+        placement.node = meant
         return
     some = cut(shown(", ".join(found.nodes)), 200)
-    found.warnings.append(f"distac-view: UnknownNode: {shown(placement.node)} is in no list of the files, which name {some}")
+    found.warnings.append(Told("UnknownNode", f"{shown(placement.node)} is in no list of the files, which name {some}"))
 
 
 def merged_entry(entry: Entry, placements: list[Placement]) -> Entry:
@@ -135,7 +137,7 @@ def differs(setting: Setting, what: str) -> Exception:
     return setting.fault("Differs", f"{what}: OTP wants distributed equal at all nodes")
 
 
-def time_warnings(placements: list[Placement]) -> list[str]:
+def time_warnings(placements: list[Placement]) -> list[Told]:
     """Failover times that differ."""
     found = []
     for entry in placements[0].entries:
@@ -144,14 +146,14 @@ def time_warnings(placements: list[Placement]) -> list[str]:
         if len({time for time, _ in times}) > 1:
             most, least = max(times, key=lambda time: time[0]), min(times, key=lambda time: time[0])
             what = f"the failover time of {shown(entry.app)} is {least[0]} here, and {most[0]} at {most[1].origin.line}"
-            found.append(told_at(least[1], "TimeDiffers", f"{what}: the greater one is written"))
+            found.append(told_at(least[1], "TimeDiffers", f"{what}: the greater one is written", entry.app))
     return found
 
 
-def told_at(setting: Setting, name: str, sentence: str) -> str:
-    """A warning at a parameter, as it is printed."""
+def told_at(setting: Setting, name: str, sentence: str, *apps: str) -> Told:
+    """A warning at a parameter, about some applications."""
     origin = setting.origin
-    return Told(origin.file.path, origin.file.remark(origin.place, name, sentence)).text()
+    return Told(name, sentence, origin.file.path, origin.file.remark(origin.place, name, sentence).place, apps)
 
 
 def greatest(found: Gathered, placements: list[Placement], name: str, values: list[float | None]) -> float | None:
@@ -184,7 +186,7 @@ def gather_sync(found: Gathered, placements: list[Placement]) -> None:
         add_own(found, placement, placements)
 
 
-def sync_differs(name: str, placement: Placement, missing: list[str], placements: list[Placement]) -> str:
+def sync_differs(name: str, placement: Placement, missing: list[str], placements: list[Placement]) -> Told:
     """That a node doesn't wait for nodes for which another one waits."""
     other = next(each for each in placements if missing[0] in each.sync[name])
     there = other.settings.kernel[name]
@@ -217,24 +219,24 @@ def gather_permissions(found: Gathered, placements: list[Placement]) -> None:
             found.warnings.append(permission_differs(entry.app, barring[0], here, barring))
 
 
-def permission_differs(app: str, first: Placement, here: Iterable[Placement], barring: list[Placement]) -> str:
+def permission_differs(app: str, first: Placement, here: Iterable[Placement], barring: list[Placement]) -> Told:
     """That an application is forbidden at some of its nodes alone."""
     nodes = shown(listed([placement.node for placement in barring]))
     others = shown(listed([placement.node for placement in here if placement not in barring]))
-    cure = "true is written, and -s opening.distac writes a script for what-if --after that forbids it there"
-    return told_at(first.settings.kernel["permissions"], "PermissionDiffers", f"{shown(app)} is forbidden at {nodes} and not at {others}: {cure}")
+    cure = "true is written, and a comment above it by which what-if, rolling and load forbid it there"
+    return told_at(first.settings.kernel["permissions"], "PermissionDiffers", f"{shown(app)} is forbidden at {nodes} and not at {others}: {cure}", app)
 
 
-def coverage_warnings(found: Gathered, placements: list[Placement]) -> list[str]:
+def coverage_warnings(found: Gathered, placements: list[Placement]) -> list[Told]:
     """Nodes of lists for which no file was given, and sync lists without a time."""
     known = {placement.node for placement in placements}
     missing = [node for node in found.nodes if node not in known]
     warnings = []
     if missing:
         what = f"no file was given for {cut(shown(listed(missing)), 300)}"
-        warnings.append(f"distac-view: NoFile: {what}: the configuration says of them what the other files say")
+        warnings.append(Told("NoFile", f"{what}: the configuration says of them what the other files say"))
     if any(found.sync.values()) and found.sync_time is None:
-        warnings.append("distac-view: NoSyncTime: no node waits for those of the sync lists, because sync_nodes_timeout is in no file")
+        warnings.append(Told("NoSyncTime", "no node waits for those of the sync lists, because sync_nodes_timeout is in no file"))
     return warnings
 
 

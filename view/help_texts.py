@@ -2,20 +2,27 @@
 
 from __future__ import annotations
 
-EPILOG = """\
-exit status:
-  0  done
-  1  a file has a fault; with --strict, a warning; load is above a budget, rolling is barred, --then changes something
-  2  wrong use, a file that can't be read or written, or no answer from distac
-
+PROGRAM = """\
 The program distac is taken from --distac PATH, else from the environment variable DISTAC, else from beside this one: the
 proved one, else one without proof, which is compiled first if there is none. --models asks the models in its place.
 A FILE that is a dash is standard input."""
 
+NO = {
+    "": "the answer is no: --strict warns, --fail-on fails, --then changes something, or rolling is barred",
+    "check": "with --strict, a warning that --allow doesn't name",
+    "gather": "with --strict, a warning that --allow doesn't name",
+    "play": "with --strict, a warning that --allow doesn't name",
+    "what-if": "--then changes something",
+    "rolling": "a step can't go on, or --fail-on fails",
+    "load": "--fail-on fails",
+}
+
 EXAMPLES = {
     "check": """\
   distac-view check sys.config                   one line: what distac understood, or the first fault
-  distac-view check --strict rel/*/sys.config    the files of all nodes, for CI: a warning ends it with 1""",
+  distac-view check --strict rel/*/sys.config    the files of all nodes, for CI: a warning ends it with 1
+  distac-view check sys.config --strict --allow SingleNode:audit
+                                                 but for this one, of this application""",
     "gather": """\
   distac-view gather shop1=shop1/sys.config shop2=shop2/sys.config -o cluster.config
                                                  one configuration from the files of two nodes
@@ -24,7 +31,9 @@ EXAMPLES = {
   distac-view gather --print-command | erl_call -name shop1@10.0.0.1 -c COOKIE -fetch_stdout -e > shop1.answer
                                                  what a running node has: gather takes the answer as its FILE
   bin/shop rpc "$(distac-view gather --print-command elixir)" > shop1.answer
-                                                 the same of a release that mix made""",
+                                                 the same of a release that mix made
+  distac-view gather --print-command now | erl_call -name shop1@10.0.0.1 -c COOKIE -fetch_stdout -e >> now.txt
+                                                 what runs at a node, for --now of the other subcommands""",
     "play": """\
   distac-view play failover.distac               each answer beside its line
   distac-view play --page --explain split.distac
@@ -48,6 +57,7 @@ EXAMPLES = {
                                                  what a new configuration changes""",
     "rolling": """\
   distac-view rolling sys.config                 the best order of restarts, and what moves in each step
+  distac-view rolling sys.config --takes 4000    the same if each node is back after 4 s
   distac-view rolling sys.config --now now.txt --order shop2@rack1 shop1@rack1 --drain
                                                  this order, from where applications run now, with drains""",
     "load": """\
@@ -58,6 +68,8 @@ EXAMPLES = {
 
 
 def epilog_of(name: str) -> str:
-    """What stands below the help of a subcommand."""
-    examples = EXAMPLES.get(name)
-    return f"examples:\n{examples}\n\n{EPILOG}" if examples else EPILOG
+    """What stands below the help of a subcommand, or of the whole program."""
+    examples = [f"examples:\n{EXAMPLES[name]}\n"] if name in EXAMPLES else []
+    no = [f"  1  {NO[name]}"] if name in NO else []
+    trouble = "  2  a file has a fault or can't be read or written, wrong use, or no answer from distac\n"
+    return "\n".join([*examples, "exit status:", "  0  done", *no, trouble, PROGRAM])

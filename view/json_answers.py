@@ -9,7 +9,7 @@ import json
 from typing import Dict, Iterable, List
 
 from view.notes import Note
-from view.noticing import notice_range
+from view.noticing import longest_outage
 from view.pages import marks_in
 from view.tokens import bare_name
 from view.what_if import Case, Fate, Reply
@@ -22,8 +22,12 @@ Fields = Dict[str, object]
 def json_of(question: str, fields: Fields, notes: Iterable[Note]) -> str:
     """A whole answer: the version, which question it answers, the fields that the question has, and the notes."""
     head: Fields = {"version": VERSION, "question": question}
-    tail: Fields = {"notes": [{"id": note.id, "text": note.text} for note in notes]}
-    return json.dumps({**head, **fields, **tail}, indent=2)
+    return json.dumps({**head, **fields, "notes": notes_fields(notes)}, indent=2)
+
+
+def notes_fields(notes: Iterable[Note]) -> List[Fields]:
+    """The fields of notes."""
+    return [{"id": note.id, "text": note.text} for note in notes]
 
 
 def names_of(names: Iterable[str]) -> List[str]:
@@ -41,6 +45,7 @@ def what_if_answer(reply: Reply, notes: Iterable[Note]) -> str:
     fields: Fields = {
         "nodes": names_of(reply.configuration.nodes),
         "net_ticktime": reply.tick_time,
+        "takes": reply.question.takes,
         "sides": [{"nodes": names_of(answers.side.members)} for answers in reply.sides],
         "cases": [case_fields(case, reply.tick_time) for case in reply.cases],
     }
@@ -50,20 +55,20 @@ def what_if_answer(reply: Reply, notes: Iterable[Note]) -> str:
 def case_fields(case: Case, tick_time: int) -> Fields:
     """The fields of a case."""
     nodes = {"down": names_of(case.down), "returning": names_of(case.back)}
-    return {**nodes, "applications": [fate_fields(fate, tick_time) for fate in case.fates]}
+    return {**nodes, "applications": [fate_fields(fate, tick_time) for fate in case.fates], "may_hang": names_of(case.may_hang)}
 
 
 def fate_fields(fate: Fate, tick_time: int) -> Fields:
     """The fields of an application in a case."""
-    wait = fate.milliseconds if fate.how == "failover" else None
     return {
         "application": bare_name(fate.app),
         "now": name_or_none(fate.now),
         "then": name_or_none(fate.then),
         "how": fate.how,
         "milliseconds": fate.milliseconds,
-        "longest_outage": None if wait is None else wait + notice_range(tick_time)[1],
+        "longest_outage": None if fate.wait is None else longest_outage(fate.wait, tick_time),
         "back": name_or_none(fate.back),
+        "waits": fate.waits,
         "stopped": fate.was_stopped,
         "list": [{"node": bare_name(node), "mark": mark} for node, mark in marks_in(fate.marks)],
     }

@@ -12,17 +12,19 @@ from itertools import combinations
 from view.cases import Course, Loss
 from view.configuration import Configuration
 from view.distac import Distac
+from view.hangs import names_that_hang
 from view.loading import load_config
 from view.openings import Side
-from view.pages import Held, Page
-from view.what_if import Question, courses_of, held_on, sides_of
+from view.pages import Held
+from view.what_if import Question, courses_of, held_on, nowhere_at_first, sides_of
 
 
 @dataclass(frozen=True)
 class Row:
     """Some nodes that are down: how many applications each other node has, which are lost, and which have one node left.
 
-    An application is lost if it ran before and runs nowhere. It has one node left if no other one could run it.
+    An application is lost if it ran before and runs nowhere. It has one node left if no other one could run it. With it go the
+    applications that OTP may fail to restart.
     """
 
     down: list[str]
@@ -30,6 +32,7 @@ class Row:
     counts: dict[str, int]
     lost: list[str]
     last: list[str]
+    may_hang: list[str]
 
     @property
     def most(self) -> int:
@@ -53,6 +56,11 @@ class Load:
     pairs: list[Row] = field(default_factory=list)
 
     @property
+    def nowhere(self) -> list[str]:
+        """The applications that run nowhere before any loss."""
+        return [held.app for held in nowhere_at_first(self.side)]
+
+    @property
     def rows(self) -> list[Row]:
         """All rows with nodes that are down."""
         return [*self.singles, *self.pairs]
@@ -67,28 +75,33 @@ def load_of(distac: Distac, question: Question, has_pairs: bool) -> Load:
 
 def load_on(distac: Distac, side: Side, has_pairs: bool) -> Load:
     """The answer for a cluster at its start."""
-    start = row_of([], side, side.page)
+    start = row_by([], side, held_on(side.page, side.cluster.configuration), [])
     nodes = side.nodes
     singles = {course.loss.down[0]: course for course in courses_of(distac, side, [Loss([node], [], []) for node in nodes])}
-    rows = [row_of([node], side, singles[node].then) for node in nodes]
+    rows = [row_of(side, singles[node]) for node in nodes]
     pairs = pair_rows(distac, side, singles) if has_pairs else []
     return Load(side.cluster.configuration, side, start, rows, pairs)
 
 
-def row_of(down: list[str], side: Side, page: Page) -> Row:
-    """The row of a page on which nothing is left to be done, and which no node at all may have."""
-    held = held_on(page, side.cluster.configuration)
-    return row_by(down, side, held)
+def row_of(side: Side, course: Course) -> Row:
+    """The row of a loss, in the end of which nothing is left to be done."""
+    held = held_on(course.then, side.cluster.configuration)
+    return row_by(course.loss.down, side, held, hanging(side, course))
 
 
-def row_by(down: list[str], side: Side, held: dict[str, Held]) -> Row:
+def hanging(side: Side, course: Course) -> list[str]:
+    """The applications that OTP may fail to restart in a loss."""
+    return names_that_hang(course, side.nodes, side.cluster.configuration)
+
+
+def row_by(down: list[str], side: Side, held: dict[str, Held], may_hang: list[str]) -> Row:
     """The row of applications as they are held."""
     places = {name: each.runs_at for name, each in held.items() if each.runs_at is not None}
     counts = {node: list(places.values()).count(node) for node in side.nodes if node not in down}
     ran = [name for name, each in side.page.held.items() if each.runs_at is not None]
     lost = [name for name in ran if name not in places]
-    last = [name for name in places if len({places[name], *held[name].nodes_marked("ok")}) == 1]
-    return Row(down, places, counts, lost, last)
+    last = [name for name in places if held[name].is_alone]
+    return Row(down, places, counts, lost, last, may_hang)
 
 
 def pair_rows(distac: Distac, side: Side, singles: dict[str, Course]) -> list[Row]:
@@ -96,7 +109,7 @@ def pair_rows(distac: Distac, side: Side, singles: dict[str, Course]) -> list[Ro
     pairs = list(combinations(side.nodes, 2))
     touching = [pair for pair in pairs if can_touch(side, *(singles[node] for node in pair))]
     losses = [Loss(list(pair), [], []) for pair in touching]
-    played = {tuple(course.loss.down): row_of(course.loss.down, side, course.then) for course in courses_of(distac, side, losses)}
+    played = {tuple(course.loss.down): row_of(side, course) for course in courses_of(distac, side, losses)}
     return [played.get(pair) or put_together(side, *(singles[node] for node in pair)) for pair in pairs]
 
 
@@ -126,7 +139,8 @@ def put_together(side: Side, one: Course, other: Course) -> Row:
         first, second = (held_on(course.then, side.cluster.configuration)[name] for course in (one, other))
         moved = first if first.runs_at != start[name].runs_at else second
         held[name] = without_marks(moved, first, second)
-    return row_by(down, side, held)
+    may_hang = {*hanging(side, one), *hanging(side, other)}
+    return row_by(down, side, held, [name for name in start if name in may_hang])
 
 
 def without_marks(moved: Held, first: Held, second: Held) -> Held:

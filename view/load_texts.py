@@ -5,17 +5,17 @@ from __future__ import annotations
 from typing import Iterator
 
 from view.load import Load, Row
+from view.notes import Failure
 from view.texts import columns_of, listed, shown
 from view.tokens import bare_name
 from view.what_if_notes import few_of
-from view.what_if_texts import lines_of_rows, nowhere_lines
+from view.what_if_texts import lines_of_rows
 
 MOST_COLUMNS = 8
 
 
 def table_of(load: Load, most: int | None) -> Iterator[str]:
-    """What runs nowhere at first, the table, and which applications are one loss from nothing."""
-    yield from nowhere_lines(load.side.page, load.configuration)
+    """The table, and which applications are one loss from nothing."""
     rows = shown_rows(load, most)
     yield from lines_of_rows(wide_rows(load, rows) if len(load.side.nodes) <= MOST_COLUMNS else narrow_rows(rows))
     left = len(load.rows) + 1 - len(rows)
@@ -71,16 +71,22 @@ def last_lines(load: Load) -> Iterator[str]:
     for row in (load.start, *load.singles):
         last = row.last if row is load.start else [app for app in row.last if app not in load.start.last]
         if last:
-            names = few_of([f"{app} ({bare_name(row.places[app])})" for app in last])
+            names = few_of([f"{bare_name(app)} ({bare_name(row.places[app])})" for app in last])
             without = f"without {listed([bare_name(node) for node in row.down])}, " if row.down else ""
             yield shown(f"{without}one loss from nothing: {names}")
 
 
-def budget_faults(load: Load, fail_on: list[str], most: int | None) -> Iterator[str]:
+def budget_faults(load: Load, fail_on: list[str], most: int | None) -> Iterator[Failure]:
     """What a budget that stands in `--fail-on` doesn't allow, as sentences."""
+    if "lost" in fail_on and load.nowhere:
+        yield Failure("lost", shown(f"{few_of(load.nowhere)} {'runs' if len(load.nowhere) == 1 else 'run'} nowhere before any loss"))
     lost = [row for row in load.rows if row.lost] if "lost" in fail_on else []
-    above = [row for row in (load.start, *load.rows) if is_above(row, most)] if "load" in fail_on else []
     if lost:
-        yield f"lost: {len(lost)} of {len(load.rows)} losses leave an application nowhere, first {down_of(lost[0])}"
+        yield Failure("lost", f"{len(lost)} of {len(load.rows)} losses leave an application nowhere, first {down_of(lost[0])}")
+    above = [row for row in (load.start, *load.rows) if is_above(row, most)] if "load" in fail_on else []
     if above:
-        yield f"load: a node has more than {most} applications in {len(above)} of {len(load.rows) + 1} cases, first {down_of(above[0])}"
+        cases = f"{len(above)} of {len(load.rows) + 1} cases"
+        yield Failure("load", f"a node has more than {most} applications in {cases}, first {down_of(above[0])}")
+    hanging = [row for row in load.rows if row.may_hang] if "hang" in fail_on else []
+    if hanging:
+        yield Failure("hang", f"OTP may hang in {len(hanging)} of {len(load.rows)} losses, first {down_of(hanging[0])}")

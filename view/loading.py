@@ -10,7 +10,7 @@ from view.configuration import Configuration, configuration_of
 from view.distac import MOST_INPUT, Answer, Distac
 from view.faults import Part, fault_of
 from view.places import Remark
-from view.problems import Problem, Status
+from view.problems import Problem
 from view.script import Line, Script, read_bytes, script_of
 from view.script_faults import remark_on_input, remark_on_line
 from view.telling import fault_in, written_out
@@ -112,7 +112,7 @@ def play_lines(distac: Distac, path: str, script: Script, lines: list[Line], con
     """Some lines of a script with their answers, or the first fault of any."""
     source = plain_of(script, lines)
     if len(source) > MOST_INPUT and source is not script.source:
-        raise Problem("with what is added to its lines the script has more than 2,097,152 bytes: play it in parts", Status.FAULT)
+        raise Problem("with what is added to its lines the script has more than 2,097,152 bytes: play it in parts")
     answer = distac.sim(source)
     if answer.is_fault:
         raise Faulty(path, remark_on_fault(answer, source, lines, configuration))

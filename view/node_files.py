@@ -13,8 +13,8 @@ from view.erlang_reader import Reader, decoded, is_latin
 from view.erlang_terms import Atom, Term
 from view.erlang_tokens import Misread, Sort, lexemes_of
 from view.loading import Faulty
-from view.places import Remark, place_of
-from view.problems import Problem, Status
+from view.places import Remark, Told, place_of
+from view.problems import Problem
 from view.script import read_bytes
 from view.templates import FILLED_IN, template_in
 from view.texts import bytes_of, cut, shown
@@ -81,18 +81,6 @@ class Setting:
         return self.origin.file.fault(self.origin.place, name, sentence)
 
 
-@dataclass(frozen=True)
-class Told:
-    """A warning, and the file that it is about."""
-
-    path: str
-    remark: Remark
-
-    def text(self) -> str:
-        """The warning as it is printed."""
-        return self.remark.text(self.path)
-
-
 @dataclass
 class NodeSettings:
     """What the files of a node say of kernel, the files, and what is to be warned of."""
@@ -109,7 +97,7 @@ def file_at(path: str) -> NodeFile:
         path = f"{path}.config"
     source = read_bytes(path, MOST_INPUT)
     if len(source) > MOST_INPUT:
-        raise Problem(f"{path} has more than 2,097,152 bytes: move what isn't kernel's to another file", Status.FAULT)
+        raise Problem(f"{path} has more than 2,097,152 bytes: move what isn't kernel's to another file")
     try:
         return NodeFile(path, source, answer_in(decoded(source)))
     except Misread as misread:
@@ -208,7 +196,7 @@ def add_file(settings: NodeSettings, path: str, library: Library) -> None:
             add_section(settings, file, item, places)
     if names_in(path, library) and os.path.basename(file.path) != "sys.config":
         sentence = "OTP follows names of files in sys.config alone, and refuses this file under another name"
-        settings.warnings.append(Told(file.path, file.remark(places.first_string, "NotSysConfig", sentence)))
+        settings.warnings.append(file.remark(places.first_string, "NotSysConfig", sentence).told(file.path))
     warn_of_twice(settings, file, places)
 
 
@@ -242,10 +230,10 @@ def warn_of_twice(settings: NodeSettings, file: NodeFile, places: Places) -> Non
     for section, place in places.twice_sections():
         if os.path.basename(file.path) != "sys.config":
             sentence = f"the section {cut(shown(section), 60)} stands twice: OTP boots with that in sys.config alone; put both into one"
-            settings.warnings.append(Told(file.path, file.remark(place, "TwiceSection", sentence)))
+            settings.warnings.append(file.remark(place, "TwiceSection", sentence).told(file.path))
     for parameter, place in places.twice_parameters():
         sentence = f"the parameter {cut(shown(parameter), 60)} stands twice: OTP doesn't boot with that, and the last one is taken here"
-        settings.warnings.append(Told(file.path, file.remark(place, "TwiceParameter", sentence)))
+        settings.warnings.append(file.remark(place, "TwiceParameter", sentence).told(file.path))
 
 
 class Places:

@@ -25,9 +25,14 @@ def notice_range(tick_time: int) -> tuple[int, int]:
     return tick_time * 750, tick_time * 1250
 
 
+def longest_outage(wait: int, tick_time: int) -> int:
+    """For how many milliseconds an application is away at most: its wait, and the noticing of a dead host before it."""
+    return wait + notice_range(tick_time)[1]
+
+
 def outage_of(wait: int, tick_time: int) -> str:
     """How long an application is away: its wait alone if its node ends, and up to the noticing of a dead host more."""
-    return f"{seconds_of(wait)} to {seconds_of(wait + notice_range(tick_time)[1])} s"
+    return f"{seconds_of(wait)} to {seconds_of(longest_outage(wait, tick_time))} s"
 
 
 def seconds_of(milliseconds: int) -> str:

@@ -57,7 +57,7 @@ def main() -> int:
         os.chmod(path, 0o755)
     except Problem as problem:
         sys.stderr.write(f"pack: {problem.sentence}\n")
-        return problem.status
+        return Status.TROUBLE
     return Status.FINE
 
 

@@ -5,6 +5,8 @@ from __future__ import annotations
 import re
 from dataclasses import dataclass, field
 
+from view.tokens import bare_name
+
 NAME = r"(?:'[^']*'|[a-z][A-Za-z0-9_@]*|\d+)"
 HOW = rf"normal|failover from {NAME}|takeover from {NAME}"
 HEAD = re.compile(rf"node (?P<node>{NAME}) (?P<inc>\d+)\Z")
@@ -44,6 +46,11 @@ class Held:
     def is_pending(self) -> bool:
         """Whether something is left to be done about it."""
         return self.verdict in PENDING
+
+    @property
+    def is_alone(self) -> bool:
+        """Whether it runs at the last node that can run it."""
+        return self.runs_at is not None and set(self.nodes_marked("ok")) <= {self.runs_at}
 
     def nodes_marked(self, *marks: str) -> list[str]:
         """The nodes of its list that have one of some marks."""
@@ -94,3 +101,8 @@ def held_of(found: "re.Match[str]", marks: str, lives: dict[str, tuple[str, int]
 def marks_in(marks: str) -> list[tuple[str, str]]:
     """The nodes of an application's list with their marks."""
     return [(found["node"], found["mark"]) for found in MARK.finditer(marks)]
+
+
+def bare_marks(marks: str) -> str:
+    """An application's list as it is shown, names without quotes."""
+    return " ".join(f"{bare_name(node)}={mark}" for node, mark in marks_in(marks))

@@ -6,7 +6,7 @@ import re
 from dataclasses import dataclass, field
 
 from view.erlang_terms import Atom, Other, Term
-from view.node_files import NodeSettings, Setting, Told
+from view.node_files import NodeSettings, Setting
 from view.templates import FILLED_IN, TEMPLATE
 from view.texts import cut, shown
 from view.tokens import name_of
@@ -101,7 +101,7 @@ def time_of(placement: Placement, setting: Setting, app: str, value: Term) -> in
     if value == Atom("infinity"):
         sentence = f"the failover time of {shown(app)} is infinity: OTP never fails it over; {FOREVER} ms (49 days) is written in its place"
         place = setting.origin
-        placement.settings.warnings.append(Told(place.file.path, place.file.remark(place.place, "InfiniteTime", sentence)))
+        placement.settings.warnings.append(place.file.remark(place.place, "InfiniteTime", sentence).told(place.file.path))
         return FOREVER
     if value == Other("number") or (isinstance(value, int) and value > FOREVER):
         raise setting.fault("NumberTooLarge", f"the failover time of {shown(app)} is above {FOREVER} ms, which is 49 days: write a lesser one")

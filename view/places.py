@@ -25,16 +25,38 @@ class Place:
 
 @dataclass(frozen=True)
 class Remark:
-    """What is to be said of a place: the name of the fault, refusal or warning, and a sentence."""
+    """What is to be said of a place: the name of the fault, refusal or warning, a sentence, and the applications that it is about."""
 
     place: Place
     name: str
     sentence: str
+    apps: tuple[str, ...] = ()
 
     def text(self, path: str) -> str:
         """The remark as it is printed: the place in the file, the sentence, the line and a caret."""
         head = f"{path}:{self.place.line}:{self.place.column}: {self.name}: {self.sentence}"
         return "\n".join((head, *quoted(self.place)))
+
+    def told(self, path: str) -> Told:
+        """The remark, and the file that it is about."""
+        return Told(self.name, self.sentence, path, self.place, self.apps)
+
+
+@dataclass(frozen=True)
+class Told:
+    """A fault or a warning: its name, if it has one, a sentence, and its place in a file, if it has one; about which applications."""
+
+    name: str
+    sentence: str
+    path: str | None = None
+    place: Place | None = None
+    apps: tuple[str, ...] = ()
+
+    def text(self) -> str:
+        """What is printed of it."""
+        if self.path is None or self.place is None:
+            return "distac-view: " + (f"{self.name}: {self.sentence}" if self.name else self.sentence)
+        return Remark(self.place, self.name, self.sentence).text(self.path)
 
 
 def place_of(source: bytes, offset: int) -> Place:

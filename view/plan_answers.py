@@ -6,14 +6,15 @@ from typing import Iterable
 
 from view.changes import Answer, Change, Changes
 from view.cluster import Waiter
-from view.json_answers import Fields, json_of, name_or_none, names_of
+from view.json_answers import Fields, json_of, name_or_none, names_of, notes_fields
 from view.load import Load, Row
-from view.notes import Note
+from view.notes import Failure, Note
 from view.rolling import Move, Rolling, Step
+from view.settings import Differing
 from view.tokens import bare_name
 
 
-def rolling_answer(rolling: Rolling, notes: Iterable[Note]) -> str:
+def rolling_answer(rolling: Rolling, failures: Iterable[Failure], notes: Iterable[Note]) -> str:
     """The answer of `rolling`."""
     fields: Fields = {
         "order": names_of(rolling.order),
@@ -21,16 +22,24 @@ def rolling_answer(rolling: Rolling, notes: Iterable[Note]) -> str:
         "waits": rolling.waits,
         "compared": rolling.compared,
         "worst": rolling.worst,
+        "takes": rolling.takes,
         "steps": [step_fields(step) for step in rolling.steps],
+        "failed": failed_fields(failures),
     }
     return json_of("rolling", fields, notes)
+
+
+def failed_fields(failures: Iterable[Failure]) -> list[Fields]:
+    """The fields of what an answer fails for."""
+    return [{"what": failure.what, "text": failure.text} for failure in failures]
 
 
 def step_fields(step: Step) -> Fields:
     """The fields of a step."""
     moves = {name: [move_fields(move) for move in getattr(step, name)] for name in ("drained", "down", "back")}
     waiters = [waiter_fields(waiter) for waiter in step.waiters]
-    return {"node": bare_name(step.node), **moves, "nowhere": names_of(step.nowhere), "barred": waiters}
+    names = {name: names_of(getattr(step, name)) for name in ("nowhere", "waiting", "may_hang")}
+    return {"node": bare_name(step.node), **moves, **names, "barred": waiters}
 
 
 def move_fields(move: Move) -> Fields:
@@ -44,16 +53,18 @@ def waiter_fields(waiter: Waiter) -> Fields:
     return {"node": bare_name(waiter.node), "mandatory": names_of(waiter.mandatory), "optional": names_of(waiter.optional)}
 
 
-def load_answer(load: Load, notes: Iterable[Note]) -> str:
+def load_answer(load: Load, failures: Iterable[Failure], notes: Iterable[Note]) -> str:
     """The answer of `load`."""
     rows = [row_fields(row) for row in (load.start, *load.rows)]
-    return json_of("load", {"nodes": names_of(load.configuration.nodes), "losses": rows}, notes)
+    fields: Fields = {"nodes": names_of(load.configuration.nodes), "nowhere": names_of(load.nowhere), "losses": rows}
+    return json_of("load", {**fields, "failed": failed_fields(failures)}, notes)
 
 
 def row_fields(row: Row) -> Fields:
     """The fields of a loss."""
     counts = [{"node": bare_name(node), "applications": count} for node, count in row.counts.items()]
-    return {"down": names_of(row.down), "load": counts, "lost": names_of(row.lost), "last": names_of(row.last)}
+    names = {name: names_of(getattr(row, name)) for name in ("lost", "last", "may_hang")}
+    return {"down": names_of(row.down), "load": counts, **names}
 
 
 def changes_answer(changes: Changes, notes: Iterable[Note]) -> str:
@@ -61,6 +72,8 @@ def changes_answer(changes: Changes, notes: Iterable[Note]) -> str:
     fields: Fields = {"compared": changes.compared, "changes": [change_fields(change) for change in changes.changes]}
     fields["applications_added"], fields["applications_gone"] = map(names_of, changes.apps)
     fields["nodes_added"], fields["nodes_gone"] = map(names_of, changes.nodes)
+    fields["settings"] = [setting_fields(setting) for setting in changes.settings]
+    fields["notes_added"], fields["notes_gone"] = map(notes_fields, changes.notes)
     return json_of("then", fields, notes)
 
 
@@ -72,4 +85,16 @@ def change_fields(change: Change) -> Fields:
 
 def place_fields(answer: Answer) -> Fields:
     """The fields of where an application is."""
-    return {"node": name_or_none(answer.place), "milliseconds": answer.milliseconds}
+    return {
+        "node": name_or_none(answer.place),
+        "milliseconds": answer.milliseconds,
+        "longest_outage": answer.longest_outage,
+        "back": name_or_none(answer.back),
+        "last": answer.is_alone,
+        "waits": answer.waits,
+    }
+
+
+def setting_fields(setting: Differing) -> Fields:
+    """The fields of a setting that differs."""
+    return {"setting": setting.name, "application": name_or_none(setting.app), "old": setting.old, "new": setting.new}

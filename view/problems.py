@@ -6,17 +6,17 @@ from enum import IntEnum
 
 
 class Status(IntEnum):
-    """The exit statuses of all subcommands."""
+    """The exit statuses of all subcommands: done and good, the "no" of a question that was asked, and no answer at all."""
 
     FINE = 0
-    FAULT = 1
-    WRONG_USE = 2
+    NO = 1
+    TROUBLE = 2
 
 
 class Problem(Exception):
-    """A sentence on why the program can't go on, with the exit status."""
+    """A sentence on why the program can't go on, and a name where the fault has one."""
 
-    def __init__(self, sentence: str, status: Status = Status.WRONG_USE) -> None:
+    def __init__(self, sentence: str, name: str = "") -> None:
         super().__init__(sentence)
         self.sentence = sentence
-        self.status = status
+        self.name = name

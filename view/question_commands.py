@@ -9,17 +9,21 @@ from view.changes import changes_by
 from view.changes_texts import lines_of as changes_lines
 from view.changes_texts import notes_on as change_notes
 from view.distac import Distac
+from view.equal_times import FOREVER
+from view.hangs import hang_notes
 from view.json_answers import what_if_answer
 from view.load import load_of
 from view.load_texts import budget_faults
 from view.load_texts import table_of as load_table
-from view.loading import Faulty
+from view.notes import Failure
 from view.output import Output, say
 from view.plan_answers import changes_answer, load_answer, rolling_answer
 from view.problems import Problem, Status
 from view.rolling import rolling_of
-from view.rolling_texts import drain_notes
+from view.rolling_texts import drain_notes, hang_faults
 from view.rolling_texts import lines_of as rolling_lines
+from view.texts import listed, shown
+from view.verbs import Role, fits
 from view.what_if import Question, reply_to
 from view.what_if_notes import below, notes_on, start_notes
 from view.what_if_texts import table_of
@@ -34,7 +38,7 @@ def written(output: Output, lines: Iterable[str]) -> None:
 
 def what_if(distac: Distac, words: argparse.Namespace, output: Output) -> Status:
     """Prints what becomes of each application if nodes go down, or what a new configuration changes."""
-    question = Question(words.config, words.down, words.not_started, words.after, words.back, words.now)
+    question = Question(words.config, words.down, words.not_started, words.after, words.back, words.now, takes=words.takes)
     if words.then:
         return what_changes(distac, question, words, output)
     reply = reply_to(distac, question)
@@ -43,39 +47,48 @@ def what_if(distac: Distac, words: argparse.Namespace, output: Output) -> Status
 
 
 def what_changes(distac: Distac, question: Question, words: argparse.Namespace, output: Output) -> Status:
-    """Prints what a new configuration changes. The status is 1 if it changes anything, and 2 for all trouble, faults too."""
-    try:
-        changes = changes_by(distac, question, words.then)
-    except Faulty as faulty:
-        raise Problem(faulty.remark.text(faulty.path)) from faulty
-    except Problem as problem:
-        raise Problem(problem.sentence) from problem
+    """Prints what a new configuration changes. The status is 1 if it changes anything."""
+    changes = changes_by(distac, question, words.then)
     written(output, [changes_answer(changes, change_notes(changes))] if words.json else changes_lines(changes))
-    return Status.FAULT if changes.are_any else Status.FINE
+    return Status.NO if changes.are_any else Status.FINE
 
 
 def load(distac: Distac, words: argparse.Namespace, output: Output) -> Status:
     """Prints how many applications each node has under each loss, and holds them to a budget."""
-    fail_on = [part for word in words.fail_on for part in word.split(",") if part]
-    if not set(fail_on) <= {"lost", "load"}:
-        raise Problem("--fail-on takes lost, load, or both parted by a comma")
+    fail_on = failing(words.fail_on, ("lost", "load", "hang"))
     if "load" in fail_on and words.most is None:
         raise Problem("--fail-on load wants --most N: how many applications a node may have")
     found = load_of(distac, Question(words.config, now=words.now), words.pairs)
-    notes = start_notes(found.side, bool(words.now))
-    written(output, [load_answer(found, notes)] if words.json else [*load_table(found, words.most), *below(notes)])
-    faults = list(budget_faults(found, fail_on, words.most))
-    for fault in faults:
-        say(f"distac-view: {fault}")
-    return Status.FAULT if faults else Status.FINE
+    notes = [*start_notes(found.side, bool(words.now)), *hang_notes((row.down, row.may_hang) for row in found.rows)]
+    failures = list(budget_faults(found, fail_on, words.most))
+    written(output, [load_answer(found, failures, notes)] if words.json else [*load_table(found, words.most), *below(notes)])
+    return judged(failures)
+
+
+def failing(words: list[str], known: tuple[str, ...]) -> list[str]:
+    """What `--fail-on` names, by several words or parted by commas."""
+    found = [part for word in words for part in word.split(",") if part]
+    if not set(found) <= set(known):
+        raise Problem(f"--fail-on takes {listed(list(known))}, parted by commas")
+    return found
+
+
+def judged(failures: list[Failure]) -> Status:
+    """Says what isn't allowed, and the status that it leads to."""
+    for failure in failures:
+        say(f"distac-view: {failure.what}: {failure.text}")
+    return Status.NO if failures else Status.FINE
 
 
 def rolling(distac: Distac, words: argparse.Namespace, output: Output) -> Status:
     """Prints the steps of a rolling restart, in a given order or in the best one."""
-    found = rolling_of(distac, Question(words.config, now=words.now), words.order, words.drain)
-    notes = [*start_notes(found.side, bool(words.now)), *drain_notes(words.drain)]
-    written(output, [rolling_answer(found, notes)] if words.json else [*rolling_lines(found), *below(notes)])
-    return Status.FAULT if found.is_barred else Status.FINE
+    fail_on = failing(words.fail_on, ("hang",))
+    found = rolling_of(distac, Question(words.config, now=words.now, takes=words.takes), words.order, words.drain)
+    hangs = hang_notes(([step.node], step.may_hang) for step in found.steps)
+    notes = [*start_notes(found.side, bool(words.now)), *drain_notes(words.drain), *hangs]
+    failures = list(hang_faults(found, fail_on))
+    written(output, [rolling_answer(found, failures, notes)] if words.json else [*rolling_lines(found), *below(notes)])
+    return max(Status.NO if found.is_barred else Status.FINE, judged(failures))
 
 
 def add_what_if(parser: argparse.ArgumentParser) -> None:
@@ -88,6 +101,7 @@ def add_what_if(parser: argparse.ArgumentParser) -> None:
     add_now(parser)
     back = "those of --down that come back: all, if this is absent"
     parser.add_argument("--back", metavar="NODE", nargs="+", action="extend", default=[], help=back)
+    add_takes(parser)
     then = "say what this configuration changes in place of CONFIG: the exit status is 1 if it changes anything"
     parser.add_argument("--then", metavar="NEW.config", help=then)
     parser.add_argument("--all", action="store_true", help="show the rows of applications that stay too")
@@ -100,8 +114,7 @@ def add_load(parser: argparse.ArgumentParser) -> None:
     add_now(parser)
     parser.add_argument("--pairs", action="store_true", help="ask about each two nodes that go down together too")
     parser.add_argument("--most", metavar="N", type=int, help="how many applications a node may have")
-    budget = "make the exit status 1 if an application is lost, or if a node has more than --most: lost, load or lost,load"
-    parser.add_argument("--fail-on", metavar="WHAT", nargs="+", action="extend", default=[], help=budget)
+    add_fail_on(parser, "lost (an application is lost, or runs nowhere), load (a node has more than --most), hang (OTP may hang)")
     add_json(parser)
 
 
@@ -112,7 +125,28 @@ def add_rolling(parser: argparse.ArgumentParser) -> None:
     order = "restart these nodes in this order; if absent, the best order of all nodes is looked for"
     parser.add_argument("--order", metavar="NODE", nargs="+", action="extend", default=[], help=order)
     parser.add_argument("--drain", action="store_true", help="drain each node before it goes down, so that nothing waits")
+    add_takes(parser)
+    add_fail_on(parser, "hang (OTP may hang in a step)")
     add_json(parser)
+
+
+def add_fail_on(parser: argparse.ArgumentParser, what: str) -> None:
+    """The words of a budget."""
+    more = f"make the exit status 1 by what is named, parted by commas: {what}"
+    parser.add_argument("--fail-on", metavar="WHAT", nargs="+", action="extend", default=[], help=more)
+
+
+def add_takes(parser: argparse.ArgumentParser) -> None:
+    """The word that says how long a restart takes."""
+    more = "after how many milliseconds a node is back with all started: what waits longer doesn't move; longer than all waits if absent"
+    parser.add_argument("--takes", metavar="MS", type=milliseconds, help=more)
+
+
+def milliseconds(word: str) -> int:
+    """A time that the command line gives."""
+    if not fits(Role.NUMBER, word) or not 0 < int(word) <= FOREVER:
+        raise argparse.ArgumentTypeError(f"milliseconds from 1 to {FOREVER} are wanted, and not {shown(word)}")
+    return int(word)
 
 
 def add_json(parser: argparse.ArgumentParser) -> None:

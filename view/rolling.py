@@ -14,6 +14,7 @@ from view.cases import Claimed, Loss, claims_in, course_of, first_pages
 from view.cluster import Cluster, Waiter, take_rounds
 from view.configuration import Configuration
 from view.distac import Distac
+from view.hangs import names_that_hang
 from view.loading import load_config
 from view.openings import Side
 from view.pages import Page
@@ -45,7 +46,8 @@ class Move:
 class Step:
     """A node that restarts: what moves before by a drain, while it is down, and once it is back; what runs nowhere meanwhile.
 
-    A waiter is a node that gives up at its start gate: then the restart can't go on.
+    A waiter is a node that gives up at its start gate: then the restart can't go on. Some applications OTP may fail to restart, and
+    some wait, because the node is back before their time is over.
     """
 
     node: str
@@ -54,6 +56,8 @@ class Step:
     back: list[Move]
     nowhere: list[str]
     waiters: list[Waiter]
+    may_hang: list[str]
+    waiting: list[str] = field(default_factory=list)
 
     @property
     def moves(self) -> int:
@@ -87,7 +91,10 @@ class Standing:
 
 @dataclass(frozen=True)
 class Rolling:
-    """The whole answer: the steps of an order, how it was found, and the moves of the worst order if all were compared."""
+    """The whole answer: the steps of an order, how it was found, and the moves of the worst order if all were compared.
+
+    A restart takes so many milliseconds, or longer than all waits.
+    """
 
     configuration: Configuration
     side: Side
@@ -97,6 +104,7 @@ class Rolling:
     compared: int
     worst: int | None
     story: list[str] = field(default_factory=list)
+    takes: int | None = None
 
     @property
     def moves(self) -> int:
@@ -107,6 +115,11 @@ class Rolling:
     def waits(self) -> int:
         """For how many milliseconds applications wait in all steps together."""
         return sum(step.waits for step in self.steps)
+
+    @property
+    def hanging(self) -> list[Step]:
+        """The steps in which OTP may fail to restart applications."""
+        return [step for step in self.steps if step.may_hang]
 
     @property
     def is_barred(self) -> bool:
@@ -121,12 +134,12 @@ def rolling_of(distac: Distac, question: Question, order: list[str], drains: boo
     given = [known_node(word, checked.configuration) for word in order]
     if len(set(given)) != len(given):
         raise Problem("--order names a node twice")
-    return rolling_on(distac, side, given, drains)
+    return rolling_on(distac, side, given, drains, question.takes)
 
 
-def rolling_on(distac: Distac, side: Side, given: list[str], drains: bool) -> Rolling:
+def rolling_on(distac: Distac, side: Side, given: list[str], drains: bool, takes: int | None = None) -> Rolling:
     """The answer for a cluster at its start."""
-    planner = Planner(distac, drains)
+    planner = Planner(distac, drains, takes)
     start = Standing(side.cluster, side.page)
     order, compared, worst = given, 1, None
     if not given and len(side.nodes) <= MOST_TRIED:
@@ -134,7 +147,7 @@ def rolling_on(distac: Distac, side: Side, given: list[str], drains: bool) -> Ro
         order, compared, worst = list(plan.order), plan.count, plan.most_moves
     steps, story = play_order(planner, start, order) if order else greedy(planner, start)
     names = order or [step.node for step in steps]
-    return Rolling(side.cluster.configuration, side, names, steps, bool(given), compared, worst, story)
+    return Rolling(side.cluster.configuration, side, names, steps, bool(given), compared, worst, story, takes)
 
 
 def play_order(planner: Planner, start: Standing, order: Iterable[str]) -> tuple[list[Step], list[str]]:
@@ -176,9 +189,10 @@ class Plan:
 class Planner:
     """Plays steps, and compares orders of them."""
 
-    def __init__(self, distac: Distac, drains: bool) -> None:
+    def __init__(self, distac: Distac, drains: bool, takes: int | None = None) -> None:
         self.distac = distac
         self.drains = drains
+        self.takes = takes
         self.steps: dict[tuple[object, str], tuple[Step, Standing]] = {}
         self.plans: dict[tuple[object, frozenset[str]], Plan] = {}
 
@@ -217,13 +231,16 @@ class Planner:
         if self.drains and node in cluster.nodes:
             drained = drain(self.distac, cluster, node)
         page = cluster.page(self.distac) if drained else standing.page
-        loss = Loss([node], [node], [])
+        loss = Loss([node], [node], [], self.takes)
         course = course_of(self.distac, cluster, loss, first_pages(self.distac, cluster, [loss])[0])
         end = course.cluster.copy()
         waiters = end.ended[len(cluster.ended) :]
-        moves = moves_of(standing.page, drained), moves_of(page, course.claims), moves_of(course.then, course.claims_back, page)
-        nowhere = [held.app for held in page.held.values() if held.runs_at and not runs_at(course.then, held.app)]
-        return Step(node, *moves, nowhere, waiters), Standing(end, course.back)
+        back = [move for move in moves_of(course.then, course.claims_back, page) if move.app not in course.waiting or move.source != move.node]
+        moves = moves_of(standing.page, drained), moves_of(page, course.claims), back
+        away = [held.app for held in page.held.values() if held.runs_at and not runs_at(course.then, held.app)]
+        nowhere = [app for app in away if app not in course.waiting]
+        may_hang = names_that_hang(course, cluster.nodes, cluster.configuration)
+        return Step(node, *moves, nowhere, waiters, may_hang, course.waiting), Standing(end, course.back)
 
 
 def drain(distac: Distac, cluster: Cluster, node: str) -> list[Claimed]:

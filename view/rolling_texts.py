@@ -4,17 +4,19 @@ from __future__ import annotations
 
 from typing import Iterator
 
-from view.notes import Note
+from view.notes import Failure, Note
 from view.rolling import Move, Rolling, Step
 from view.texts import listed, shown
 from view.tokens import bare_name
 from view.what_if_notes import few_of, wait_of
+from view.what_if_texts import lasting
 
 
 def lines_of(rolling: Rolling) -> Iterator[str]:
     """The order with what it costs, and its steps."""
     names = " > ".join(bare_name(node) for node in rolling.order)
-    yield shown(f"order {names}: {counted(rolling.moves, 'move')}, {rolling.waits} ms of waits{found_how(rolling)}")
+    lasts = f"restarts of {rolling.takes} ms" if rolling.takes is not None else f"restarts {lasting(None, rolling.configuration)}"
+    yield shown(f"order {names}: {counted(rolling.moves, 'move')}, {rolling.waits} ms of waits, {lasts}{found_how(rolling)}")
     for number, step in enumerate(rolling.steps, 1):
         yield shown(f"{number} {bare_name(step.node)}: {'; '.join(parts_of(step))}")
         for waiter in step.waiters:
@@ -27,6 +29,13 @@ def drain_notes(drains: bool) -> Iterator[Note]:
     if drains:
         text = "OTP has no drain: there it is permit(Application, false) at the node, for each application, before the restart."
         yield Note("NoDrain", text)
+
+
+def hang_faults(rolling: Rolling, fail_on: list[str]) -> Iterator[Failure]:
+    """What `--fail-on` doesn't allow."""
+    if "hang" in fail_on and rolling.hanging:
+        count, first = len(rolling.hanging), bare_name(rolling.hanging[0].node)
+        yield Failure("hang", shown(f"OTP may hang in {count} of {counted(len(rolling.steps), 'step')}, first {first}"))
 
 
 def found_how(rolling: Rolling) -> str:
@@ -43,6 +52,10 @@ def parts_of(step: Step) -> Iterator[str]:
     if step.drained:
         yield f"drained: {listed([target_of(move) for move in step.drained])}"
     yield f"down: {listed([moved(move) for move in step.down]) or 'nothing moves'}"
+    if step.may_hang:
+        yield f"OTP may hang: {few_of(step.may_hang)}"
+    if step.waiting:
+        yield f"back before its wait is over: {few_of(step.waiting)}"
     if step.nowhere:
         yield f"runs nowhere meanwhile: {few_of(step.nowhere)}"
     yield f"back: {listed([moved(move) for move in step.back]) or 'nothing moves'}"
@@ -55,7 +68,7 @@ def moved(move: Move) -> str:
 
 def target_of(move: Move) -> str:
     """Where an application goes."""
-    return f"{move.app} -> {bare_name(move.node)}"
+    return f"{bare_name(move.app)} -> {bare_name(move.node)}"
 
 
 def counted(count: int, noun: str) -> str:

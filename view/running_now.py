@@ -1,6 +1,7 @@
 """Where applications run now: read from a file or from the command line, and brought about in a script.
 
 A line of the file is a node that is up and the distributed applications that run there. A node that the file doesn't name is off.
+The file may be what nodes answered to the line of `gather --print-command now`.
 """
 
 from __future__ import annotations
@@ -11,13 +12,18 @@ from dataclasses import dataclass, field
 from view.cluster import Cluster, take_round
 from view.configuration import Application, Configuration
 from view.distac import MOST_INPUT, Distac
+from view.forbidden import forbidden_in
 from view.loading import Checked
+from view.naming import node_meant, spelled
 from view.near_names import near_to
 from view.openings import Side, new_story
-from view.problems import Problem, Status
+from view.problems import Problem
 from view.script import read_bytes
 from view.texts import cut, listed, shown, text_of
-from view.tokens import BARE_ATOM, name_of
+from view.tokens import bare_name, bare_names
+
+# What erl_call and shells print behind a node's answer.
+ANSWERED = ("{ok, ok}", "{ok,ok}", "ok", ":ok")
 
 
 @dataclass(frozen=True)
@@ -55,13 +61,13 @@ def placed_in(path: str, text: str, configuration: Configuration) -> Placed:
     up = set()
     for number, line in enumerate(text.split("\n"), 1):
         words = line.split()
-        if words and not words[0].startswith(("%", "#")):
+        if words and not words[0].startswith(("%", "#")) and line.strip() not in ANSWERED:
             where = f"{path}:{number}"
             up.add(named("node", words[0], configuration.nodes, where))
             for app in words[1:]:
                 put(places, where, app, words[0], configuration)
     if not up:
-        raise Problem(f"{path} names no node: each of its lines is a node and what runs there", Status.FAULT)
+        raise Problem(f"{path} names no node: each of its lines is a node and what runs there")
     return Placed(places, [node for node in configuration.nodes if node in up])
 
 
@@ -70,9 +76,9 @@ def put(places: dict[str, str], where: str, app_word: str, node_word: str, confi
     app = named("application", app_word, configuration.names, where)
     node = named("node", node_word, configuration.nodes, where)
     if places.setdefault(app, node) != node:
-        raise Problem(f"{where}: {shown(app)} can't run at {shown(places[app])} and at {shown(node)}: name one of them", Status.FAULT)
+        raise Problem(f"{where}: {shown(bare_name(app))} can't run at {shown(bare_name(places[app]))} and at {shown(bare_name(node))}: name one of them")
     if node not in application_of(app, configuration).nodes:
-        raise Problem(f"{where}: {shown(node)} isn't in the list of {shown(app)}: it can't run there", Status.FAULT)
+        raise Problem(f"{where}: {shown(bare_name(node))} isn't in the list of {shown(bare_name(app))}: it can't run there")
 
 
 def application_of(name: str, configuration: Configuration) -> Application:
@@ -81,23 +87,24 @@ def application_of(name: str, configuration: Configuration) -> Application:
 
 
 def named(what: str, word: str, names: list[str], where: str) -> str:
-    """A node or an application as the configuration spells it."""
-    name = name_of(word) if BARE_ATOM.match(word) or word.startswith("'") else f"'{word}'"
-    if name in names:
-        return name
+    """A node or an application as the configuration spells it. Of a node the part before @ is enough."""
+    name = spelled(word)
+    found = node_meant(word, names) if what == "node" else name
+    if found in names:
+        return found
     meant = near_to(name, names)
-    cure = f"is {shown(meant)} meant?" if meant else f"it has {cut(shown(listed(names)), 200)}"
-    raise Problem(f"{where}: the configuration has no {what} {cut(shown(name), 60)}: {cure}", Status.FAULT)
+    cure = f"is {shown(bare_name(meant))} meant?" if meant else f"it has {cut(shown(listed(bare_names(names))), 200)}"
+    raise Problem(f"{where}: the configuration has no {what} {cut(shown(bare_name(name)), 60)}: {cure}")
 
 
 def opened_now(distac: Distac, checked: Checked, placed: Placed) -> Side:
     """A cluster in which applications run where they do. What would move at the next ticks hasn't moved yet."""
     configuration = checked.configuration
     unused = [name for name in configuration.names if name not in placed.places and name not in placed.fresh]
-    cluster = Cluster(new_story(checked), [], unused=unused)
+    cluster = Cluster(new_story(checked), [], unused=unused, forbidden=forbidden_in(checked))
     open_gates(distac, cluster, placed.up)
     for app, node in placed.places.items():
-        if not application_of(app, configuration).is_permitted:
+        if not application_of(app, configuration).is_permitted or (node, app) in cluster.forbidden:
             cluster.story.command(f"permit {cluster.hub} {app} {node} true")
     if placed.places:
         cluster.start_at(placed.places.items())
@@ -107,7 +114,7 @@ def opened_now(distac: Distac, checked: Checked, placed: Placed) -> Side:
     for app, node in placed.places.items():
         if page.held[app].runs_at != node:
             raise Problem(f"distac doesn't place {shown(app)} at {shown(node)}: it says {page.held[app].verdict}")
-    return Side(cluster, page, configuration.nodes)
+    return Side(cluster, page, configuration.nodes, unsaid=placed.fresh)
 
 
 def open_gates(distac: Distac, cluster: Cluster, up: list[str]) -> None:

@@ -9,7 +9,7 @@ from __future__ import annotations
 import re
 from dataclasses import dataclass
 from enum import Enum
-from typing import Iterator
+from typing import Iterable, Iterator
 
 from view.texts import text_of
 
@@ -63,6 +63,11 @@ def name_of(atom: str) -> str:
     """The name of an atom as `distac` spells it: between quotes only where it has to be."""
     inner = atom[1:-1] if atom.startswith("'") else atom
     return inner if BARE_ATOM.match(inner) and inner != "fun" else f"'{inner}'"
+
+
+def bare_names(names: Iterable[str]) -> list[str]:
+    """Some names, each without its quotes."""
+    return [bare_name(name) for name in names]
 
 
 def bare_name(name: str) -> str:

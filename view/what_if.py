@@ -15,14 +15,16 @@ from view.cases import Course, Loss, course_of, first_pages
 from view.cluster import Waiter
 from view.configuration import Configuration, name_order
 from view.distac import Distac
+from view.hangs import names_that_hang
 from view.loading import Checked, load_config
+from view.naming import node_meant, spelled
 from view.noticing import USUAL_SECONDS, tick_time_of
 from view.openings import Side, opened, opened_after
-from view.pages import Held, Page
+from view.pages import Held, Page, marks_in
 from view.problems import Problem
 from view.running_now import Placed, opened_now, placed_by
 from view.texts import shown
-from view.tokens import BARE_ATOM, name_of
+from view.tokens import bare_name, bare_names
 
 MOST_AT_ONCE = 8
 
@@ -31,7 +33,8 @@ MOST_AT_ONCE = 8
 class Question:
     """What is asked: the configuration, which nodes go down together and come back, where nothing is started, and how it begins.
 
-    It begins after a script, or with applications where they run now, or with a cluster that just came up.
+    It begins after a script, or with applications where they run now, or with a cluster that just came up. A restart takes so many
+    milliseconds, or longer than all waits.
     """
 
     config: str
@@ -41,11 +44,15 @@ class Question:
     back: list[str] = field(default_factory=list)
     now: list[str] = field(default_factory=list)
     placed: Placed | None = None
+    takes: int | None = None
 
 
 @dataclass(frozen=True)
 class Fate:
-    """What becomes of an application: where it is, then and later, how it comes there, after how long, and its list's marks."""
+    """What becomes of an application: where it is, then and later, how it comes there, after how long, and its list's marks.
+
+    It waits if its nodes are back before its time is over.
+    """
 
     app: str
     now: str | None
@@ -55,21 +62,36 @@ class Fate:
     back: str | None
     marks: str
     was_stopped: bool
+    waits: bool = False
 
     @property
     def stays(self) -> bool:
         """Whether nothing becomes of it: it is in one place all the time."""
         return self.how in ("stays", "nobody") and self.now == self.then == self.back
 
+    @property
+    def wait(self) -> int | None:
+        """For how many milliseconds it waits for its failover, if it fails over."""
+        return self.milliseconds if self.how == "failover" else None
+
+    @property
+    def is_alone(self) -> bool:
+        """Whether it is then at the last node that can run it."""
+        return self.then is not None and all(node == self.then for node, mark in marks_in(self.marks) if mark == "ok")
+
 
 @dataclass(frozen=True)
 class Case:
-    """Some nodes that go down together, what becomes of each application, which nodes come back, and who waits at a start gate then."""
+    """Some nodes that go down together, what becomes of each application, which nodes come back, and who waits at a start gate then.
+
+    With it go the applications that OTP may fail to restart.
+    """
 
     down: list[str]
     fates: list[Fate]
     back: list[str] = field(default_factory=list)
     waiters: list[Waiter] = field(default_factory=list)
+    may_hang: list[str] = field(default_factory=list)
 
 
 @dataclass(frozen=True)
@@ -108,7 +130,8 @@ def reply_on(distac: Distac, checked: Checked, question: Question) -> Reply:
     found = []
     for side in sides_of(distac, checked, question, not_started):
         groups = [[node for node in down if node in side.members]] if down else [[node] for node in side.members]
-        losses = [Loss(group, [node for node in group if node in back or not back], not_started) for group in groups if group]
+        returns = [(group, [node for node in group if node in back or not back]) for group in groups if group]
+        losses = [Loss(group, returning, not_started, question.takes) for group, returning in returns]
         found.append(Answers(side, cases_of(distac, side, losses)))
     return Reply(checked.configuration, question, found, tick_time_of(checked.text))
 
@@ -131,9 +154,10 @@ def known_nodes(words: list[str], configuration: Configuration) -> list[str]:
 
 def known_node(word: str, configuration: Configuration) -> str:
     """A node that somebody names, as the configuration spells it."""
-    name = name_of(word) if BARE_ATOM.match(word) or word.startswith("'") else f"'{word}'"
-    if name not in configuration.nodes:
-        raise Problem(f"the configuration has no node {shown(name)}: its nodes are {shown(', '.join(configuration.nodes))}")
+    name = node_meant(word, configuration.nodes)
+    if name is None:
+        some = shown(", ".join(bare_names(configuration.nodes)))
+        raise Problem(f"the configuration has no node {shown(bare_name(spelled(word)))}: its nodes are {some}")
     return name
 
 
@@ -156,10 +180,10 @@ def case_of(side: Side, course: Course) -> Case:
     """What becomes of each application in a case."""
     now, at_once, then, back = (held_on(page, side.cluster.configuration) for page in (side.page, course.at_once, course.then, course.back))
     claims = {each.app: each.milliseconds for each in course.claims}
-    fates = [fate_of(now[name], at_once[name], then[name], back[name], claims.get(name)) for name in now]
+    fates = [fate_of(now[name], at_once[name], then[name], back[name], claims.get(name), name in course.waiting) for name in now]
     old = side.cluster
     waiters = [*course.cluster.ended[len(old.ended) :], *course.cluster.waiting]
-    return Case(course.loss.down, fates, course.loss.back, waiters)
+    return Case(course.loss.down, fates, course.loss.back, waiters, names_that_hang(course, side.nodes, old.configuration))
 
 
 def held_on(page: Page, configuration: Configuration) -> dict[str, Held]:
@@ -167,10 +191,15 @@ def held_on(page: Page, configuration: Configuration) -> dict[str, Held]:
     return {name: page.held.get(name) or Held(name, None, 0, 0, "", "nobody", None, "") for name in configuration.names}
 
 
-def fate_of(now: Held, at_once: Held, then: Held, back: Held, claimed: int | None) -> Fate:
+def nowhere_at_first(side: Side) -> list[Held]:
+    """The applications that run nowhere before any node goes down."""
+    return [held for held in held_on(side.page, side.cluster.configuration).values() if held.runs_at is None]
+
+
+def fate_of(now: Held, at_once: Held, then: Held, back: Held, claimed: int | None, waits: bool) -> Fate:
     """What becomes of an application, by the pages before, at once behind, later and in the end."""
     how = at_once.verdict
     if how in ("kept", "halted") or (how == "nobody" and at_once.runs_at):
         how = "stays"
     was_stopped = now.verdict == "halted"
-    return Fate(now.app, now.runs_at, then.runs_at, how, claimed, back.runs_at, then.marks, was_stopped)
+    return Fate(now.app, now.runs_at, then.runs_at, how, claimed, back.runs_at, then.marks, was_stopped, waits)

@@ -6,13 +6,14 @@ from typing import Iterable, Iterator
 
 from view.cluster import Waiter
 from view.configuration import Configuration
-from view.equal_times import pairs_among
+from view.hangs import hang_notes
 from view.noticing import notice_range, seconds_of
 from view.notes import Note
 from view.openings import Side
-from view.pages import marks_in
-from view.texts import cut, listed, shown
-from view.what_if import Answers, Case, Fate, Reply
+from view.pages import bare_marks, marks_in
+from view.texts import listed, shown
+from view.tokens import bare_name, bare_names
+from view.what_if import Fate, Reply, nowhere_at_first
 
 MOST_NAMED = 8
 TEXTS = {
@@ -47,7 +48,7 @@ def opening_notes(reply: Reply) -> Iterator[Note]:
     """How the question begins: the sides of a split, and nodes that can't act."""
     sides = [answers.side for answers in reply.sides]
     if len(sides) > 1:
-        parts = "; ".join(listed(side.members) for side in sides)
+        parts = "; ".join(listed(bare_names(side.members)) for side in sides)
         text = f"--after ends in a split: {parts}. Each side is asked by itself, and both may run an application."
         yield Note("EndsInSplit", shown(text))
     for side in sides:
@@ -55,15 +56,23 @@ def opening_notes(reply: Reply) -> Iterator[Note]:
 
 
 def start_notes(side: Side, is_now: bool) -> list[Note]:
-    """What to know of a start: nodes that can't act, and if it is where applications run now, what moves at once."""
-    return [*side_notes(side), *(now_notes(side) if is_now else ())]
+    """What to know of a start: what runs nowhere, nodes that can't act, and what moves at once if it is now, or what is guessed."""
+    guessed = [Note("StartedAtOnce", TEXTS["StartedAtOnce"])] if side.is_guessed else []
+    return [*nowhere_notes(side), *side_notes(side), *(now_notes(side) if is_now else ()), *guessed]
+
+
+def nowhere_notes(side: Side) -> Iterator[Note]:
+    """What runs nowhere before any node goes down, and why."""
+    for held in nowhere_at_first(side):
+        yield Note("RunsNowhere", shown(f"{bare_name(held.app)} runs nowhere before any loss: {bare_marks(held.marks) or 'no node is up'}"))
 
 
 def now_notes(side: Side) -> Iterator[Note]:
     """What distac moves at once from where it runs now, and what runs nowhere."""
     for held in side.page.held.values():
         if held.verdict == "takeover":
-            text = f"Here {held.at} takes over {held.app} at once: OTP leaves it at {held.holder} until {held.at} starts it."
+            app, at, holder = bare_names((held.app, str(held.at), str(held.holder)))
+            text = f"Here {at} takes over {app} at once: OTP leaves it at {holder} until {at} starts it."
             yield Note("MovesAtOnce", shown(text))
     unused = side.cluster.unused
     if unused:
@@ -73,11 +82,11 @@ def now_notes(side: Side) -> Iterator[Note]:
 def side_notes(side: Side) -> Iterator[Note]:
     """Nodes of a side that can't act."""
     for node in side.said_down:
-        yield Note("SaidDown", shown(f"{node} runs and was said to be down: it does nothing until it has booted again."))
+        yield Note("SaidDown", shown(f"{bare_name(node)} runs and was said to be down: it does nothing until it has booted again."))
     for waiter in side.cluster.ended:
-        yield Note("GaveUp", shown(f"{waiter.node} is down: it waited {wait_of(waiter, side.cluster.configuration)}, and ended."))
+        yield Note("GaveUp", shown(f"{bare_name(waiter.node)} is down: it waited {wait_of(waiter, side.cluster.configuration)}, and ended."))
     for waiter in side.cluster.waiting:
-        yield Note("WaitsOn", shown(f"{waiter.node} does nothing yet: it waits {wait_of(waiter, side.cluster.configuration)}."))
+        yield Note("WaitsOn", shown(f"{bare_name(waiter.node)} does nothing yet: it waits {wait_of(waiter, side.cluster.configuration)}."))
 
 
 def gate_notes(reply: Reply) -> Iterator[Note]:
@@ -86,16 +95,16 @@ def gate_notes(reply: Reply) -> Iterator[Note]:
         for waiter in case.waiters:
             wait = wait_of(waiter, reply.configuration)
             if waiter.gave_up:
-                yield Note("CannotComeBack", shown(f"{waiter.node} can't come back: it waits {wait}, and ends."))
+                yield Note("CannotComeBack", shown(f"{bare_name(waiter.node)} can't come back: it waits {wait}, and ends."))
             else:
-                yield Note("WaitsOn", shown(f"{waiter.node} does nothing when it is back: it waits {wait}."))
+                yield Note("WaitsOn", shown(f"{bare_name(waiter.node)} does nothing when it is back: it waits {wait}."))
 
 
 def wait_of(waiter: Waiter, configuration: Configuration) -> str:
     """How long a node waits at its start gate, and for whom."""
     time = configuration.sync_timeout
     groups = [(waiter.mandatory, "mandatory"), ([] if waiter.gave_up else waiter.optional, "optional")]
-    names = ", and ".join(f"{listed(nodes)}, {kind}" for nodes, kind in groups if nodes)
+    names = ", and ".join(f"{listed(bare_names(nodes))}, {kind}" for nodes, kind in groups if nodes)
     return f"without end for {names}" if time == "infinity" else f"{time} ms for {names}"
 
 
@@ -113,42 +122,16 @@ def time_notes(reply: Reply) -> Iterator[Note]:
 def otp_notes(reply: Reply) -> Iterator[Note]:
     """What differs from OTP, where it matters here."""
     fates = [fate for case in reply.cases for fate in case.fates]
-    yield from equal_times_notes(reply)
+    yield from hang_notes((case.down, case.may_hang) for case in reply.cases)
     yield from idle_notes(fates)
     if any(is_of_tuple(reply, fate) for fate in fates):
         yield Note("TupleLoad", TEXTS["TupleLoad"])
-    if is_guessed(reply):
-        yield Note("StartedAtOnce", TEXTS["StartedAtOnce"])
     if any(fate.back != fate.then for fate in fates):
         yield Note("StartedAgain", TEXTS["StartedAgain"])
     if any(fate.was_stopped and fate.how == "failover" for fate in fates):
         yield Note("StopMoves", TEXTS["StopMoves"])
     if any(len(case.down) > 1 for case in reply.cases):
         yield Note("NoSplit", TEXTS["NoSplit"])
-
-
-def equal_times_notes(reply: Reply) -> Iterator[Note]:
-    """Applications of a case that OTP may fail to restart, because they wait equally long and their nodes may wait for each other."""
-    for answers in reply.sides:
-        for case in answers.cases:
-            names = names_that_hang(answers, case, reply.configuration)
-            if names:
-                text = f"Without {listed(case.down)} OTP 25 may restart one of {listed(names)} alone and hang"
-                yield Note("EqualTimes", shown(f"{text}: give each its own time, further apart than a start takes: 100 ms or more."))
-
-
-def names_that_hang(answers: Answers, case: Case, configuration: Configuration) -> list[str]:
-    """The applications that fail over at one moment, and that OTP may fail to restart with the nodes that are left."""
-    moments: dict[int, list[str]] = {}
-    for fate in case.fates:
-        if fate.how == "failover" and fate.milliseconds is not None:
-            moments.setdefault(fate.milliseconds, []).append(fate.app)
-    left = [node for node in answers.side.nodes if node not in case.down]
-    found: set[str] = set()
-    for names in moments.values():
-        lost = [each for each in configuration.applications if each.name in names]
-        found.update(each.name for pair in pairs_among(lost, left) for each in pair)
-    return [name for name in configuration.names if name in found]
 
 
 def idle_notes(fates: list[Fate]) -> Iterator[Note]:
@@ -160,13 +143,13 @@ def idle_notes(fates: list[Fate]) -> Iterator[Note]:
             found.setdefault(fate.app, []).extend(node for node in idle if node not in found.get(fate.app, []))
     for app, nodes in found.items():
         if nodes:
-            text = f"{app} isn't started at {few_of(nodes)}: OTP waits for {few_of(nodes)} to start it, without end: it runs nowhere."
+            text = f"{bare_name(app)} isn't started at {few_of(nodes)}: OTP waits for {few_of(nodes)} to start it, without end: it runs nowhere."
             yield Note("NotStarted", shown(text))
 
 
 def few_of(names: list[str]) -> str:
     """Some names in a sentence, of many the first ones."""
-    more = len(names) - MOST_NAMED
+    more, names = len(names) - MOST_NAMED, bare_names(names)
     return listed(names if more <= 0 else [*names[:MOST_NAMED], f"{more} more"])
 
 
@@ -174,9 +157,3 @@ def is_of_tuple(reply: Reply, fate: Fate) -> bool:
     """Whether an application came to a node of a tuple."""
     application = next(each for each in reply.configuration.applications if each.name == fate.app)
     return fate.milliseconds is not None and any(fate.then in group and len(group) > 1 for group in application.groups)
-
-
-def is_guessed(reply: Reply) -> bool:
-    """Whether nobody said where applications run, and the load of a tuple's nodes decides it."""
-    is_chosen = any(len(each.groups[0]) > 1 for each in reply.configuration.applications)
-    return not reply.question.after and not reply.question.now and is_chosen and len(reply.configuration.applications) > 1

@@ -6,20 +6,22 @@ from typing import Iterable, Iterator
 
 from view.configuration import Configuration
 from view.noticing import outage_of
-from view.pages import Held, Page
+from view.pages import bare_marks
 from view.texts import columns_of, listed, padded, shown
-from view.what_if import Answers, Case, Fate, Reply, held_on
+from view.tokens import bare_name, bare_names
+from view.what_if import Answers, Case, Fate, Reply, nowhere_at_first
 from view.what_if_notes import notes_on
 
 HEADS = ("down", "application", "now", "then", "how", "after", "outage", "back")
 
 
 def table_of(reply: Reply, shows_all: bool = False) -> Iterator[str]:
-    """The answer as a table for each side, and what is to be said of it. Rows that stay are left out, unless all are asked for."""
+    """How long nodes are down, a table for each side, and what is to be said of it. Rows that stay are left out, unless asked for."""
+    yield f"each loss lasts {lasting(reply.question.takes, reply.configuration)}"
     for number, answers in enumerate(reply.sides):
         if len(reply.sides) > 1:
             yield from [""] if number else []
-            yield shown(f"side of {listed(answers.side.members)}:")
+            yield shown(f"side of {listed(bare_names(answers.side.members))}:")
         yield from side_table(reply, answers, shows_all)
     notes = [*nobody_lines(reply), *(f"- {note.text}" for note in notes_on(reply))]
     if notes:
@@ -27,33 +29,23 @@ def table_of(reply: Reply, shows_all: bool = False) -> Iterator[str]:
         yield from notes
 
 
+def lasting(takes: int | None, configuration: Configuration) -> str:
+    """How long a restart takes, or is presumed to take."""
+    return f"longer than {max(configuration.timeouts.values())} ms" if takes is None else f"{takes} ms"
+
+
 def side_table(reply: Reply, answers: Answers, shows_all: bool) -> Iterator[str]:
-    """What runs nowhere from the start on, and the table of one side."""
-    nowhere = nowhere_at_first(answers.side.page, reply.configuration)
-    yield from nowhere_lines(answers.side.page, reply.configuration)
+    """The table of one side. What runs nowhere from the start on is told below it."""
+    nowhere = [held.app for held in nowhere_at_first(answers.side)]
     rows: list[tuple[str, ...]] = [HEADS]
     for case in answers.cases:
-        rows += case_rows(case, [held.app for held in nowhere], reply.tick_time, shows_all)
+        rows += case_rows(case, nowhere, reply.tick_time, shows_all)
     yield from lines_of_rows(rows)
-
-
-def nowhere_at_first(page: Page, configuration: Configuration) -> list[Held]:
-    """The applications that run nowhere before any node goes down."""
-    return [held for held in held_on(page, configuration).values() if held.runs_at is None]
-
-
-def nowhere_lines(page: Page, configuration: Configuration) -> Iterator[str]:
-    """What runs nowhere before any node goes down, and why: said once, and not in each case."""
-    nowhere = nowhere_at_first(page, configuration)
-    for held in nowhere:
-        yield shown(f"{held.app} runs nowhere: {held.marks or 'no node is up'}")
-    if nowhere:
-        yield ""
 
 
 def case_rows(case: Case, nowhere: list[str], tick_time: int, shows_all: bool) -> Iterator[tuple[str, ...]]:
     """The rows of a case: the applications that go anywhere, and how many stay. What runs nowhere all the time is in neither."""
-    down, shown_ones = " ".join(case.down), case.fates if shows_all else [fate for fate in case.fates if not fate.stays]
+    down, shown_ones = " ".join(bare_names(case.down)), case.fates if shows_all else [fate for fate in case.fates if not fate.stays]
     for fate in shown_ones:
         yield tuple(shown(text) for text in (down, *cells_of(fate, tick_time)))
     count = sum(fate.app not in nowhere for fate in case.fates if fate.stays)
@@ -64,10 +56,13 @@ def case_rows(case: Case, nowhere: list[str], tick_time: int, shows_all: bool) -
 
 def cells_of(fate: Fate, tick_time: int) -> tuple[str, ...]:
     """The row of an application, without the nodes that are down."""
+    app, now, then, back = (bare_name(name or "-") for name in (fate.app, fate.now, fate.then, fate.back))
+    if fate.waits:
+        return (app, now, then, "waits", "", "", back)
     after = "" if fate.milliseconds is None else f"{fate.milliseconds} ms"
-    outage = outage_of(fate.milliseconds, tick_time) if fate.how == "failover" and fate.milliseconds is not None else ""
+    outage = "" if fate.wait is None else outage_of(fate.wait, tick_time)
     how = "stays stopped" if fate.was_stopped and fate.how == "stays" else fate.how
-    return (fate.app, fate.now or "-", fate.then or "-", how, after, outage, fate.back or "-")
+    return (app, now, then, how, after, outage, back)
 
 
 def lines_of_rows(rows: Iterable[tuple[str, ...]]) -> Iterator[str]:
@@ -85,5 +80,5 @@ def nobody_lines(reply: Reply) -> Iterator[str]:
     """Why nobody has an application that ran before, by the marks of its list."""
     for case in reply.cases:
         for fate in case.fates:
-            if fate.then is None and fate.now is not None and fate.marks:
-                yield shown(f"{fate.app} without {listed(case.down)}: {fate.marks}")
+            if fate.then is None and fate.now is not None and fate.marks and not fate.waits:
+                yield shown(f"{bare_name(fate.app)} without {listed(bare_names(case.down))}: {bare_marks(fate.marks)}")

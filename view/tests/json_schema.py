@@ -1,84 +1,129 @@
-"""What docs/FORMATS.md says of JSON, as a schema that answers are held against."""
+#!/usr/bin/env python3
+"""The JSON Schema of all answers, as the tables of docs/FORMATS.md say it, and a validator of what it uses.
+
+    python3 view/tests/json_schema.py --write     writes docs/distac-view.schema.json anew
+
+The schema lets further fields and ids pass, as later programs may add them. The tests let none pass that isn't described.
+"""
 
 from __future__ import annotations
 
 import json
 import re
+import sys
 from pathlib import Path
-from typing import Dict, Iterator, List
+from typing import Any, Dict, Iterator, List
 
-FORMATS = Path(__file__).resolve().parents[2] / "docs" / "FORMATS.md"
+DOCS = Path(__file__).resolve().parents[2] / "docs"
+FORMATS, SCHEMA = DOCS / "FORMATS.md", DOCS / "distac-view.schema.json"
 HEADING = "## Answers of `distac-view` as JSON\n"
-FIELD = re.compile(r"^\|(?P<objects>[\w, -]*)\| `(?P<field>\w+)` \| (?P<value>[^|]+?) \| ", re.MULTILINE)
-NOTE_ID = re.compile(r"^\| `(?P<id>\w+)` \| ", re.MULTILINE)
-KINDS = {"name": str, "text": str, "number": int, "null": type(None)}
+FIELD = re.compile(r"^\|(?P<objects>[\w, -]*)\| `(?P<field>\w+)` \| (?P<value>[^|]+?) \| (?P<meaning>[^|]+?) \|$", re.MULTILINE)
+NOTE_ID = re.compile(r"^\| `(?P<id>[A-Z]\w+)` \| ", re.MULTILINE)
+KINDS = {"name": "string", "text": "string", "number": "integer", "null": "null"}
+TYPES = {"string": str, "integer": int, "boolean": bool, "array": list, "object": dict, "null": type(None)}
+
+Rule = Dict[str, Any]
+
+
+def section() -> str:
+    """The part of docs/FORMATS.md that describes answers."""
+    text = FORMATS.read_text(encoding="utf-8")
+    start = text.index(HEADING) + len(HEADING)
+    end = text.find("\n## ", start)
+    return text[start : None if end < 0 else end]
+
+
+def described() -> Rule:
+    """The schema of the documented tables: each object has fields, and each field a value of a kind.
+
+    A row may name several objects, and a row that names none is of those above it.
+    """
+    text = section()
+    objects: List[str] = []
+    fields: "Dict[str, Dict[str, tuple[str, str]]]" = {}
+    for found in FIELD.finditer(text):
+        objects = re.findall(r"[\w-]+", found["objects"]) or objects
+        for one in objects:
+            fields.setdefault(one, {})[found["field"]] = (found["value"], found["meaning"])
+    definitions = {name: object_rule(own, set(fields)) for name, own in fields.items()}
+    definitions["note"]["properties"]["id"]["examples"] = [found["id"] for found in NOTE_ID.finditer(text)]
+    questions = [{"$ref": f"#/$defs/{name}"} for name, own in fields.items() if "question" in own]
+    head = {"$schema": "https://json-schema.org/draft/2020-12/schema", "title": "An answer of distac-view as JSON, version 1"}
+    return {**head, "anyOf": questions, "$defs": definitions}
+
+
+def object_rule(fields: "Dict[str, tuple[str, str]]", objects: "set[str]") -> Rule:
+    """The schema of an object."""
+    properties = {name: {**rule_of(value, objects), "description": meaning} for name, (value, meaning) in fields.items()}
+    return {"type": "object", "properties": properties, "required": list(fields)}
+
+
+def rule_of(kind: str, objects: "set[str]") -> Rule:
+    """The schema of a value of a kind: a list, an object, or one of some choices, parted by commas and by `or`."""
+    if kind.startswith("list of "):
+        return {"type": "array", "items": rule_of(kind[len("list of ") :], objects)}
+    if kind in objects:
+        return {"$ref": f"#/$defs/{kind}"}
+    choices = re.split(r", | or ", kind)
+    rules: List[Rule] = [{"type": KINDS[choice]} for choice in choices if choice in KINDS]
+    constants = [json.loads(choice) for choice in choices if choice not in KINDS]
+    rules += [{"const": constants[0]} if len(constants) == 1 else {"enum": constants}] if constants else []
+    return rules[0] if len(rules) == 1 else {"anyOf": rules}
 
 
 class Schema:
-    """The objects of the documented tables: each has fields, and each field a value of a kind. A row may name several objects,
-    and a row that names none is of those above it."""
+    """A schema, against which answers are held."""
 
-    def __init__(self, text: str) -> None:
-        self.objects: Dict[str, Dict[str, str]] = {}
-        objects: List[str] = []
-        for found in FIELD.finditer(text):
-            objects = re.findall(r"[\w-]+", found["objects"]) or objects
-            for one in objects:
-                self.objects.setdefault(one, {})[found["field"]] = found["value"]
-        self.note_ids = {found["id"] for found in NOTE_ID.finditer(text)}
+    def __init__(self, schema: Rule) -> None:
+        self.schema = schema
 
     def faults_of(self, answer: str) -> List[str]:
         """What is wrong with a whole answer: nothing, or a sentence for each fault."""
         value = json.loads(answer)
         question = value.get("question") if isinstance(value, dict) else None
-        if question not in self.objects:
+        if {"$ref": f"#/$defs/{question}"} not in self.schema["anyOf"]:
             return [f"the question {question!r} isn't described"]
-        return list(self.faults_in(value, question, question))
+        return list(self.faults_in(value, self.schema["$defs"][question], str(question)))
 
-    def faults_in(self, value: object, kind: str, place: str) -> Iterator[str]:
-        """The faults of a value that should be of a kind."""
-        if kind.startswith("list of "):
-            yield from self.faults_in_list(value, kind[len("list of ") :], place)
-        elif kind in self.objects:
-            yield from self.faults_in_object(value, kind, place)
-        elif not any(is_of(value, choice) for choice in choices_of(kind)):
-            yield f"{place}: {value!r} isn't {kind}"
-
-    def faults_in_list(self, value: object, kind: str, place: str) -> Iterator[str]:
-        """The faults of a value that should be a list."""
-        if not isinstance(value, list):
-            yield f"{place}: {value!r} is no list"
+    def faults_in(self, value: Any, rule: Rule, place: str) -> Iterator[str]:
+        """The faults of a value."""
+        if "$ref" in rule:
+            yield from self.faults_in(value, self.schema["$defs"][rule["$ref"].split("/")[-1]], place)
+        if "anyOf" in rule and all(list(self.faults_in(value, choice, place)) for choice in rule["anyOf"]):
+            yield f"{place}: {value!r} fits none of {rule['anyOf']}"
+        if "type" in rule and type(value) is not TYPES[rule["type"]]:
+            yield f"{place}: {value!r} is no {rule['type']}"
             return
-        for number, item in enumerate(value):
-            yield from self.faults_in(item, kind, f"{place}[{number}]")
+        for constants in ([rule["const"]] if "const" in rule else rule.get("enum"),):
+            if constants is not None and not any(type(value) is type(each) and value == each for each in constants):
+                yield f"{place}: {value!r} is none of {constants}"
+        if "examples" in rule and value not in rule["examples"]:
+            yield f"{place}: {value!r} isn't described"
+        for number, item in enumerate(value if "items" in rule else ()):
+            yield from self.faults_in(item, rule["items"], f"{place}[{number}]")
+        if "properties" in rule:
+            yield from self.faults_in_fields(value, rule, place)
 
-    def faults_in_object(self, value: object, kind: str, place: str) -> Iterator[str]:
-        """The faults of a value that should be an object: its fields are those that are described, no more and no less."""
-        fields = self.objects[kind]
-        if not isinstance(value, dict) or value.keys() != fields.keys():
-            yield f"{place}: {value!r} hasn't the fields of {kind}, which are {sorted(fields)}"
+    def faults_in_fields(self, value: Rule, rule: Rule, place: str) -> Iterator[str]:
+        """The faults of an object: its fields are those that are described, no more and no less."""
+        if set(value) != set(rule["required"]):
+            yield f"{place}: {value!r} hasn't the fields {sorted(rule['required'])}"
             return
-        for name, field_kind in fields.items():
-            yield from self.faults_in(value[name], field_kind, f"{place}.{name}")
-        if kind == "note" and value["id"] not in self.note_ids:
-            yield f"{place}: the id {value['id']} isn't described"
-
-
-def choices_of(kind: str) -> List[str]:
-    """What a kind allows, parted by commas and by `or`."""
-    return re.split(r", | or ", kind)
-
-
-def is_of(value: object, choice: str) -> bool:
-    """Whether a value is what one choice of a kind allows."""
-    if choice in KINDS:
-        return type(value) is KINDS[choice]
-    return type(value) is type(json.loads(choice)) and value == json.loads(choice)
+        for name, own in rule["properties"].items():
+            yield from self.faults_in(value[name], own, f"{place}.{name}")
 
 
 def documented() -> Schema:
-    """The schema of docs/FORMATS.md."""
-    text = FORMATS.read_text(encoding="utf-8")
-    start = text.index(HEADING) + len(HEADING)
-    end = text.find("\n## ", start)
-    return Schema(text[start : None if end < 0 else end])
+    """The schema that stands beside docs/FORMATS.md."""
+    return Schema(json.loads(SCHEMA.read_text(encoding="utf-8")))
+
+
+def text_of(schema: Rule) -> str:
+    """The file of a schema."""
+    return json.dumps(schema, indent=2) + "\n"
+
+
+if __name__ == "__main__":
+    if sys.argv[1:] != ["--write"]:
+        sys.exit("usage: json_schema.py --write")
+    SCHEMA.write_text(text_of(described()), encoding="utf-8")

@@ -1,5 +1,5 @@
 #!/usr/bin/env python3
-"""Compares `gather`, `what-if`, `rolling` and the warnings of `check` with three real nodes of Erlang/OTP on the loopback interface.
+"""Compares `gather`, `what-if`, `rolling` and warnings with three real nodes of Erlang/OTP on the loopback interface.
 
     python3 view/tests/real_erlang.py [--only NAME ..] [--runs N] [--seconds N]
 
@@ -12,17 +12,15 @@ from __future__ import annotations
 
 import argparse
 import json
-import re
 import signal
 import sys
 import tempfile
 import time
 from collections import Counter
 from dataclasses import dataclass, field
-from functools import partial
 from itertools import chain
 from pathlib import Path
-from typing import Any, Callable, Dict
+from typing import Any, Dict
 
 sys.dont_write_bytecode = True
 sys.path.insert(0, str(Path(__file__).resolve().parent))
@@ -36,6 +34,8 @@ NODES = tuple(f"{name}@{HOST}" for name in ("cp1", "cp2", "cp3"))
 SINGLE = tuple((node,) for node in NODES)
 LATE_SECONDS = 4.0
 NEVER = 3_600_000
+# How long a node takes until it starts its applications, on a busy machine.
+BOOT_SECONDS = 1.5
 
 
 @dataclass(frozen=True)
@@ -260,9 +260,22 @@ def kind_of(case: Case, observed: dict[str, dict[str, str | None]], wanted: str 
     return "started elsewhere" if observed["now"] != expected(case.fates, "now") else "differ"
 
 
-ROLLED = (("ladder", (0, 1, 2)), ("ladder", (2, 0, 1)), ("short lists", (1, 2, 0)))
-STEP = re.compile(r"(?m)^\d+ (?P<node>\S+): .*?down: (?P<down>.*?); (?:runs nowhere.*?; )?back: (?P<back>.*)$")
-MOVE = re.compile(r"(\S+) -> (\S+?)(?: after| \(|,|;|$)")
+QUICK = Scenario("restarts of 2 s", (("a1", "5000", TUPLE), ("a2", "6000", TUPLE), ("a3", "7000", "[cp2,cp3,cp1]")))
+HALF = Scenario("restarts of 4 s", (("a1", "1000", TUPLE), ("a2", "9000", TUPLE), ("a3", "12000", "[cp2,cp3,cp1]")))
+SHARED = Scenario(
+    "restarts of 2 s, tuples",
+    (("a1", "5000", "[{cp1,cp2},cp3]"), ("a2", "7000", "[{cp1,cp2},cp3]"), ("a3", "6000", "[{cp2,cp3},cp1]"), ("a4", "8000", "[{cp1,cp2,cp3}]")),
+)
+ROLLED = (
+    ("ladder", (0, 1, 2), None),
+    ("ladder", (2, 0, 1), None),
+    ("short lists", (1, 2, 0), None),
+    (QUICK.name, (0, 1, 2), 2_000),
+    (SHARED.name, (2, 1, 0), 2_000),
+    (HALF.name, (1, 0, 2), 4_000),
+)
+# what `rolling --json` says of a step, or of a move
+Said = Dict[str, Any]
 
 
 def compare_rolling(score: Score) -> None:
@@ -270,13 +283,13 @@ def compare_rolling(score: Score) -> None:
     if "rolling" not in run_view("--help").output:
         print("rolling isn't among the subcommands: it isn't compared")
         return
-    for name, order in ROLLED:
-        scenario = next(each for each in SCENARIOS if each.name == name)
-        roll(scenario, [NODES[number] for number in order], score)
+    for name, order, takes in ROLLED:
+        scenario = next(each for each in (*SCENARIOS, QUICK, SHARED, HALF) if each.name == name)
+        roll(scenario, [NODES[number] for number in order], takes, score)
 
 
-def roll(scenario: Scenario, order: list[str], score: Score) -> None:
-    """One rolling restart with nodes of its own."""
+def roll(scenario: Scenario, order: list[str], takes: int | None, score: Score) -> None:
+    """One rolling restart with nodes of its own. Each node is back after some milliseconds, or once all waits are over."""
     head = f"{scenario.name}, rolling {' > '.join(node.split('@')[0] for node in order)}"
     with tempfile.TemporaryDirectory(prefix="distac-nodes-") as room, Cluster(Path(room), dict.fromkeys(scenario.names, 0)) as cluster:
         config = prepared(scenario, NODES[:1], Path(room), {}).folder / "cluster.config"
@@ -284,27 +297,31 @@ def roll(scenario: Scenario, order: list[str], score: Score) -> None:
         time.sleep(LATE_SECONDS)
         places = seen(cluster, scenario.names)
         now = [f"{app}={node}" for app, node in places.items() if node]
-        said = run_view("rolling", str(config), "--order", *order, "--now", *now)
-        for step, node in zip(STEP.finditer(said.output), order):
-            changes: list[tuple[str, Callable[[], None]]]
-            changes = [("down", cluster.nodes[node].kill), ("back", partial(boot, cluster, (node,), scenario.names))]
-            for part, change in changes:
-                places = moved(places, step[part], node if part == "down" else "")
-                change()
-                found, _ = wait_for(cluster, places, LATE_SECONDS + 2)
-                for app, place in places.items():
-                    is_equal = found[app] == place
-                    row = f"{head}: {app} {part} of {node} {place}, and OTP has {found[app]}"
-                    score.add("agree" if is_equal else "differ", "" if is_equal else row)
-    steps = len(STEP.findall(said.output))
-    score.add("agree" if steps == len(order) else "differ", "" if steps == len(order) else f"{head}: {said.output}{said.errors}")
-    print(f"{head}: {said.output.splitlines()[0] if said.output else said.errors}", flush=True)
+        said = run_view("rolling", str(config), "--json", "--order", *order, "--now", *now, *(["--takes", str(takes)] if takes else []))
+        steps: list[Said] = json.loads(said.output)["steps"]
+        for step, node in zip(steps, order):
+            ended = time.monotonic()
+            cluster.nodes[node].kill()
+            places = {app: None if place == node else place for app, place in places.items()}
+            places = moved(places, step["down"])
+            tell_step(f"{head}: without {node}", wait_for(cluster, places, takes / 1000 if takes else LATE_SECONDS + 2)[0], places, score)
+            time.sleep(max(0.0, ended + (takes or 0) / 1000 - BOOT_SECONDS - time.monotonic()))
+            boot(cluster, (node,), scenario.names)
+            places = moved({**places, **dict.fromkeys(step["waiting"], node)}, step["back"])
+            tell_step(f"{head}: {node} back", wait_for(cluster, places, LATE_SECONDS + 2)[0], places, score)
+    score.add("agree" if len(steps) == len(order) else "differ", "" if len(steps) == len(order) else f"{head}: {said.output}{said.errors}")
+    print(f"{head}: {json.loads(said.output)['moves']} moves by rolling", flush=True)
 
 
-def moved(places: dict[str, str | None], moves: str, lost: str) -> dict[str, str | None]:
-    """Where applications are after some moves. What was at a lost node and moves nowhere runs nowhere."""
-    targets = {app: node if "@" in node else None for app, node in MOVE.findall(moves)}
-    return {app: targets.get(app, None if place == lost else place) for app, place in places.items()}
+def moved(places: dict[str, str | None], moves: list[Said]) -> dict[str, str | None]:
+    """Where applications are after some moves."""
+    return {**places, **{move["application"]: move["to"] for move in moves}}
+
+
+def tell_step(head: str, found: dict[str, str | None], places: dict[str, str | None], score: Score) -> None:
+    """Counts where applications are in a step."""
+    for app, place in places.items():
+        score.add("agree" if found[app] == place else "differ", "" if found[app] == place else f"{head}: {app} {place}, and OTP has {found[app]}")
 
 
 def compare_answers(score: Score) -> None:
@@ -351,6 +368,38 @@ def compare_boots(score: Score) -> None:
         print(f"boot with {what}: gather says {is_fine}, OTP {has_booted}", flush=True)
 
 
+MIXED = (
+    ("equal files", "{a1,500,[cp1,cp2]}", "{a1,500,[cp1,cp2]}"),
+    ("other times", "{a1,500,[cp1,cp2]}", "{a1,900,[cp1,cp2]}"),
+    ("another order in a tuple", "{a1,500,[{cp1,cp2}]}", "{a1,500,[{cp2,cp1}]}"),
+    ("other lists", "{a1,500,[cp1,cp2]}", "{a1,500,[cp2,cp1]}"),
+    ("an application added", "{a1,500,[cp1,cp2]}", "{a1,500,[cp1,cp2]},{a2,500,[cp1,cp2]}"),
+)
+MIXED_FILE = "[{kernel,[{distributed,[%s]},{sync_nodes_optional,[cp1,cp2]},{sync_nodes_timeout,6000},{logger_level,critical}]}].\n"
+
+
+def compare_mixed(score: Score) -> None:
+    """Of two nodes with two files one ends if `what-if --then` says that lists differ, and what is added runs twice if it says so."""
+    for what, *entries in MIXED:
+        with tempfile.TemporaryDirectory(prefix="distac-nodes-") as room, Cluster(Path(room), {"a1": 0, "a2": 0}) as cluster:
+            paths = [Path(room) / f"{node}.config" for node in NODES[:2]]
+            for path, entry in zip(paths, entries):
+                path.write_text(whole(MIXED_FILE % entry))
+            notes = json.loads(run_view("what-if", str(paths[0]), "--then", str(paths[1]), "--json").output)["notes"]
+            ids = {note["id"] for note in notes}
+            nodes = [cluster.boot(node, node) for node in NODES[:2]]
+            time.sleep(1)
+            for node in nodes:
+                node.order("start a1 a2" if "a2" in entries[1] else "start a1")
+            time.sleep(2 * LATE_SECONDS)
+            has_ended = len(cluster.up()) < 2
+            runs_twice = len(cluster.where(["a2"])["a2"]) > 1
+        is_equal = (has_ended, runs_twice) == ("NoRollingChange" in ids, "AddedMayRunTwice" in ids)
+        row = f"{what}: what-if --then has {', '.join(ids) or 'no note'}, and in OTP a node ends: {has_ended}, a2 runs twice: {runs_twice}"
+        score.add("agree" if is_equal else "differ", "" if is_equal else row)
+        print(row, flush=True)
+
+
 def words_of(arguments: list[str]) -> argparse.Namespace:
     """The words of the command line."""
     parser = argparse.ArgumentParser(description=(__doc__ or "").split("\n")[0])
@@ -373,6 +422,7 @@ def main(arguments: list[str]) -> int:
     if not words.only:
         compare_answers(score)
         compare_boots(score)
+        compare_mixed(score)
         compare_rolling(score)
     for scenario, down in chain.from_iterable(((each, down) for down in each.cases) for each in chosen * words.runs):
         if time.monotonic() > end:

@@ -5,6 +5,7 @@ from __future__ import annotations
 import codecs
 import json
 import os
+import re
 import subprocess
 import sys
 import tempfile
@@ -26,7 +27,7 @@ COMMANDS = (
 
 
 class Statuses(unittest.TestCase):
-    """0 where all is well, 1 for a fault or a strict warning, 2 for wrong use."""
+    """0 where all is well, 1 for a strict warning, 2 for a fault or wrong use."""
 
     def expect(self, status: int, said: Said, error: str = "") -> None:
         """A status, a part of what is said on standard error, and no traceback."""
@@ -45,7 +46,7 @@ class Statuses(unittest.TestCase):
     def test_faults(self) -> None:
         for words in (("check", TYPO), ("play", TYPO), ("timeline", TYPO, "-o", "-"), ("what-if", TYPO), ("rolling", TYPO), ("load", TYPO)):
             said = view(*words)
-            self.expect(1, said)
+            self.expect(2, said)
             self.assertTrue(said.output.startswith(f"{TYPO}:"), said)
 
     def test_faults_of_the_script_before(self) -> None:
@@ -54,10 +55,10 @@ class Statuses(unittest.TestCase):
             for lines, error in (("boot cp1@cave\n", "BadCount"), ("tell cp1@cave\n", "BadCount"), ("boot cp9@cave 0\n", "UnknownActor")):
                 path.write_text(Path(MANUAL).read_text() + "--\n" + lines)
                 said = view("what-if", MANUAL, "--after", str(path))
-                self.expect(1, said)
+                self.expect(2, said)
                 self.assertIn(error, said.output)
             path.write_text(Path(FAILOVER).read_text().replace("5000", "6000"))
-            self.expect(1, view("what-if", MANUAL, "--after", str(path)), "another configuration")
+            self.expect(2, view("what-if", MANUAL, "--after", str(path)), "another configuration")
 
     def test_warnings(self) -> None:
         self.expect(0, view("check", WARNED), "UnknownPermission")
@@ -81,7 +82,7 @@ class Statuses(unittest.TestCase):
     def test_several_files(self) -> None:
         canonical = Path(MANUAL).with_suffix(".out").read_text()
         said = view("check", MANUAL, TYPO, MANUAL)
-        self.expect(1, said)
+        self.expect(2, said)
         self.assertTrue(said.output.startswith(f"{MANUAL}: {canonical}{TYPO}:"), said)
         self.assertTrue(said.output.endswith(f"{MANUAL}: {canonical}"), said)
         self.expect(2, view("check", TYPO, "/no/such/file", MANUAL), "can't be read")
@@ -95,7 +96,7 @@ class Statuses(unittest.TestCase):
                 for command, source in (("check", MANUAL), ("play", FAILOVER)):
                     path.write_bytes(mark + Path(source).read_bytes())
                     said = view(command, str(path))
-                    self.expect(1, said)
+                    self.expect(2, said)
                     self.assertIn("the file begins with a byte order mark", said.output)
 
     def test_files_that_cannot_be_read(self) -> None:
@@ -106,6 +107,24 @@ class Statuses(unittest.TestCase):
     def test_standard_input(self) -> None:
         with open(FAILOVER, "rb") as file:
             self.assertEqual(run_view("play", "--plain", "-", source=file.read()).output, Path(FAILOVER).read_text())
+
+    def test_allowed_warnings(self) -> None:
+        with tempfile.TemporaryDirectory() as room:
+            path = str(Path(room) / "a.config")
+            Path(path).write_text("[{kernel,[{distributed,[{a,5,[n1@h,{n2@h,n3@h}]},{b,5,[n1@h,{n2@h,n3@h}]},{'C-c',1,[n1@h]}]}]}].")
+            rows: "list[tuple[list[str], list[str]]]" = [
+                ([], ["EqualTimes", "SingleNode"]),
+                (["SingleNode:C-c"], ["EqualTimes"]),
+                (["SingleNode:a", "EqualTimes:b"], ["EqualTimes", "SingleNode"]),
+                (["SingleNode:'C-c'", "EqualTimes:a", "EqualTimes:b"], []),
+                (["SingleNode", "EqualTimes"], []),
+            ]
+            for allowed, left in rows:
+                words = ("check", path, "--strict", *(["--allow", *allowed] if allowed else []))
+                said, remarks = view(*words), json.loads(view(*words, "--json").output)["files"][0]["remarks"]
+                self.assertEqual((said.status, sorted(re.findall(r": ([A-Z][A-Za-z]+): ", said.errors))), (1 if left else 0, left), allowed)
+                self.assertEqual(sorted(each["id"] for each in remarks if not each["allowed"]), left)
+                self.assertEqual(len(remarks), 2)
 
     def test_json(self) -> None:
         fates = json.loads(view("what-if", MANUAL, "--down", "cp1@cave", "cp2@cave", "--json").output)["cases"][0]["applications"]

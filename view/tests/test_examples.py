@@ -76,10 +76,10 @@ class Examples(unittest.TestCase):
 
     def test_what_if_on_the_manual(self) -> None:
         rows = view("what-if", str(EXAMPLES / "manual.config")).output.splitlines()
-        self.assertEqual(rows[1].split(), "cp1@cave myapp cp1@cave cp2@cave failover 5000 ms 5 to 80 s cp1@cave".split())
-        self.assertEqual(rows[2].split(), "cp2@cave + 1 stays".split())
+        self.assertEqual(rows[2].split(), "cp1@cave myapp cp1@cave cp2@cave failover 5000 ms 5 to 80 s cp1@cave".split())
+        self.assertEqual(rows[3].split(), "cp2@cave + 1 stays".split())
         rows = view("what-if", str(EXAMPLES / "manual.config"), "--all").output.splitlines()
-        self.assertEqual(rows[2].split(), "cp2@cave myapp cp1@cave cp1@cave stays cp1@cave".split())
+        self.assertEqual(rows[3].split(), "cp2@cave myapp cp1@cave cp1@cave stays cp1@cave".split())
 
     def test_play_shows_pages_behind_shares(self) -> None:
         path = EXAMPLES / "failover.distac"

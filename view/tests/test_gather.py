@@ -83,7 +83,7 @@ class FilesOfNodes(unittest.TestCase):
         for name, fault in REFUSED:
             for reader in READERS:
                 said = gather("--reader", reader, f"a@h={name}")
-                self.assertEqual(said.status, 1, said)
+                self.assertEqual(said.status, 2, said)
                 self.assertTrue(said.output.startswith(f"{name}:{fault}: "), said.output)
 
     def test_the_head(self) -> None:
@@ -154,7 +154,7 @@ class Differences(unittest.TestCase):
     def expect(self, said: Said, status: int, name: str, *parts: str) -> None:
         """A status, and a fault or a warning with some parts of its sentence."""
         self.assertEqual(said.status, status, said)
-        text = said.output if status == 1 and not said.errors else said.errors
+        text = said.output if status == 2 and not said.errors else said.errors
         for part in (name, *parts):
             self.assertIn(part, text)
 
@@ -172,10 +172,10 @@ class Differences(unittest.TestCase):
     def test_lists_that_differ(self) -> None:
         for other in (PLACEMENT.replace("[y@h,x@h]", "[x@h,y@h]"), PLACEMENT.replace(",{b,700,[y@h,x@h]}", ""), PLACEMENT.replace("]}]}", "]},{c,[x@h]}]}")):
             said = self.gather((PLACEMENT, "\n" + other))
-            self.assertEqual(said.status, 1)
+            self.assertEqual(said.status, 2)
             self.assertRegex(said.output, r"\A\S*[xy]\.config:[34]:\d+: Differs: .* \S*[xy]\.config:[34]: OTP wants")
         said = self.gather((PLACEMENT, "{a,1}"))
-        self.expect(said, 1, "Differs", "x.config:3", "y.config")
+        self.expect(said, 2, "Differs", "x.config:3", "y.config")
 
     def test_times_that_differ(self) -> None:
         said = self.gather((PLACEMENT, PLACEMENT.replace("500", "900"), PLACEMENT))
@@ -218,7 +218,7 @@ class Differences(unittest.TestCase):
         self.expect(said, 0, "TimeDiffers", "sync_nodes_timeout is infinity at", "x@h has 5: infinity is written")
         self.assertIn("{sync_nodes_timeout,infinity}", self.config_of(said))
         for time, name in (("0", "ZeroSyncTime"), ("-1", "BadTime"), ("x", "BadTime"), ("1.0", "BadTime"), ("9" * 5000, "BadTime"), ("4294967296", "BadTime")):
-            self.expect(self.gather([PLACEMENT + SYNC % ("", "", time)] * 3), 1, name)
+            self.expect(self.gather([PLACEMENT + SYNC % ("", "", time)] * 3), 2, name)
         said = self.gather([PLACEMENT + ",{sync_nodes_optional,[x@h,y@h,z@h]}"] * 3)
         self.expect(said, 0, "NoSyncTime")
 
@@ -249,16 +249,16 @@ class Differences(unittest.TestCase):
         self.expect(twice, 0, "TwiceSection")
         self.expect(self.gather(["[{kernel,[{net_ticktime,1},%s,{net_ticktime,2}]}]." % PLACEMENT] * 3, whole=True), 0, "TwiceParameter")
         for text in ("kernel.", "{kernel,[]}.", "[kernel].", "[{kernel,x}].", "[{kernel,[x]}].", "[{kernel,[{1,2}]}].", "[[a]].", "[{a}].", "[#{}]."):
-            self.expect(self.gather([text] * 3, whole=True), 1, "")
+            self.expect(self.gather([text] * 3, whole=True), 2, "")
         for value in ("x", "[x]", "[{a}]", "[{a,x}]", "[{a,1.0,[x@h]}]", "[{a,-1,[x@h]}]", "[{a,4294967296,[x@h]}]", "[{a,[]}]", "[{a,[{}]}]", '[{a,["x@h"]}]', "[{a,[1]}]", "[{a,[x@h]},{a,[x@h]}]", "#{}"):
-            self.expect(self.gather(["{distributed,%s}" % value] * 3), 1, "config:3:2: ")
+            self.expect(self.gather(["{distributed,%s}" % value] * 3), 2, "config:3:2: ")
         for value in ("[{a,yes}]", "x", "[a]", "[{1,true}]"):
-            self.expect(self.gather([PLACEMENT + ",{permissions,%s}" % value] * 3), 1, ".config:3:")
+            self.expect(self.gather([PLACEMENT + ",{permissions,%s}" % value] * 3), 2, ".config:3:")
 
     def test_more_than_distac_takes(self) -> None:
         many = ",".join("{a%d,[x@h]}" % number for number in range(65))
-        self.expect(self.gather(["{distributed,[%s]}" % many] * 3), 1, "the gathered configuration:1:", "TooManyApps")
-        self.expect(self.gather(["{distributed,[{'it\\'s',[x@h]}]}"]), 1, "BadName")
+        self.expect(self.gather(["{distributed,[%s]}" % many] * 3), 2, "the gathered configuration:1:", "TooManyApps")
+        self.expect(self.gather(["{distributed,[{'it\\'s',[x@h]}]}"]), 2, "BadName")
 
     def test_names_of_files(self) -> None:
         room = Path(self.room.name)
@@ -268,7 +268,7 @@ class Differences(unittest.TestCase):
             said = view("gather", *(f"{node}={room}/{name}.config" for node in ("x@h", "y@h", "z@h")))
             self.assertEqual((said.status, warning in said.errors), (0, True), said)
         (room / "inner.config").write_text('["sys"].')
-        self.expect(view("gather", f"x@h={room}/sys.config"), 1, "NamedTwice")
+        self.expect(view("gather", f"x@h={room}/sys.config"), 2, "NamedTwice")
         (room / "inner.config").unlink()
         self.expect(view("gather", f"x@h={room}/sys.config"), 2, "can't be read")
 
@@ -304,7 +304,7 @@ class Use(unittest.TestCase):
                 path.write_bytes(source)
                 with self.subTest(source=source[:60]):
                     said = view("gather", "--reader", "own", f"x@h={path}")
-                    self.assertIn(said.status, (1, 2) if source not in FINE else (0,), said)
+                    self.assertIn(said.status, (2,) if source not in FINE else (0,), said)
                     self.assertTrue(said.output + said.errors)
 
     def test_cut_files(self) -> None:
@@ -314,7 +314,7 @@ class Use(unittest.TestCase):
             for end in range(0, len(source) - 4, 7):
                 path.write_bytes(source[:end])
                 said = view("gather", "--reader", "own", f"x@h={path}")
-                self.assertEqual(said.status, 1, (end, said))
+                self.assertEqual(said.status, 2, (end, said))
 
 
 if __name__ == "__main__":

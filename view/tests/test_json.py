@@ -9,8 +9,8 @@ from pathlib import Path
 from random import Random
 from typing import Any, Tuple
 
-from support import EXAMPLES, view
-from json_schema import documented
+from support import EXAMPLES, MISTAKES, view
+from json_schema import SCHEMA, described, documented, text_of
 from test_what_if import random_config
 
 MANUAL, FAILOVER = str(EXAMPLES / "manual.config"), str(EXAMPLES / "failover.distac")
@@ -74,8 +74,48 @@ class Answers(unittest.TestCase):
         self.assertTrue({"NotStarted", "NoSplit"} <= set(both), both)
 
 
+class Others(Answers):
+    """Answers of `check` and `gather`, and faults, which come with a status of their own."""
+
+    def answer(self, status: int, *words: str) -> dict[str, Any]:
+        """The answer to some words with a status, which fits."""
+        said = view(*words, "--json")
+        self.assertEqual((said.status, self.schema.faults_of(said.output)), (status, []), said)
+        answer: dict[str, Any] = json.loads(said.output)
+        return answer
+
+    def test_check(self) -> None:
+        fine, bad = self.path(QUOTED), str(MISTAKES / "c03_missing_comma.config")
+        answer = self.answer(2, "check", fine, bad, "/no/such/file")
+        self.assertEqual([each["configuration"] is None for each in answer["files"]], [False, True, True])
+        faults = [each["remarks"][0] for each in answer["files"][1:]]
+        self.assertEqual([(each["kind"], each["id"], each["line"]) for each in faults], [("fault", "BadShape", 1), ("fault", None, None)])
+
+    def test_gather(self) -> None:
+        path = self.path("[{kernel,[{distributed,[{a,1,[x@h,y@h]}]},{sync_nodes_mandatory,[y@h]}]}].")
+        answer = self.answer(1, "gather", f"x={path}", "--strict")
+        self.assertEqual([each["id"] for each in answer["remarks"]], ["OwnAdded", "NoFile", "NoSyncTime"])
+        self.assertEqual(answer["text"].splitlines()[-1], answer["configuration"])
+        output = str(Path(self.room.name) / "written")
+        answer = self.answer(0, "gather", f"x={path}", "--strict", "--allow", "OwnAdded", "NoFile", "NoSyncTime", "-o", output)
+        self.assertEqual(Path(output).read_text(), answer["text"])
+
+    def test_faults(self) -> None:
+        bad = str(MISTAKES / "c03_missing_comma.config")
+        questions = (("what-if", bad), ("rolling", bad), ("load", bad, "--fail-on", "lost"), ("what-if", MANUAL, "--then", bad), ("gather", f"x={bad}"))
+        for words in questions:
+            fault = self.answer(2, *words)["fault"]
+            self.assertEqual((fault["file"], fault["line"], fault["kind"]), (bad, 1, "fault"), words)
+        for words in (("what-if", MANUAL, "--down", "cp9@cave"), ("load", "/no/such/file"), ("load", MANUAL, "--fail-on", "x"), ("gather",)):
+            fault = self.answer(2, *words)["fault"]
+            self.assertEqual((fault["id"], fault["file"]), (None, None), words)
+
+
 class Validator(unittest.TestCase):
     """The validator refuses what isn't described."""
+
+    def test_the_schema_is_that_of_the_tables(self) -> None:
+        self.assertEqual(SCHEMA.read_text(encoding="utf-8"), text_of(described()), "python3 view/tests/json_schema.py --write")
 
     def test_what_is_refused(self) -> None:
         schema = documented()

@@ -20,6 +20,7 @@ from view.changes import changes_between
 from view.load import load_on
 from view.load_texts import budget_faults
 from view.openings import Side, opened
+from view.pages import marks_in
 from view.rolling import Planner, Standing, play_order, rolling_on
 from view.running_now import opened_now
 from view.what_if import Fate, Question, Reply, reply_on
@@ -29,7 +30,16 @@ SHOP = (
     "[{kernel,[{distributed,[{billing,8000,[shop1@h,shop2@h,shop3@h]},{reports,3000,[shop3@h,shop1@h]},"
     "{mail,5000,[shop2@h,{shop1@h,shop3@h}]},{audit,0,[shop1@h,shop2@h]}]}]}].\n"
 )
+QUOTED_SHOP = (
+    "[{kernel,[{distributed,[{'Billing',5000,['shop1@10.0.0.1','shop-2@h']},{audit,0,['shop-2@h','shop1@10.0.0.1']},"
+    "{'Once',['shop1@10.0.0.1']}]},{permissions,[{'Once',false}]}]}].\n"
+)
+FLEET = "[{kernel,[{distributed,[{a,5000,[n1@h,{n2@h,n3@h}]},{b,5000,[n1@h,{n2@h,n3@h}]},{c,5000,[n2@h,n3@h,n1@h]}]}]}].\n"
 SYNC = "{sync_nodes_mandatory,[shop1@h,shop2@h,shop3@h]},{sync_nodes_timeout,5000}"
+FULL_SHOP = SHOP.replace(
+    "]}]}].",
+    "]},{sync_nodes_mandatory,[shop1@h,shop2@h,shop3@h]},{sync_nodes_optional,[]},{sync_nodes_timeout,30000},{net_ticktime,20}]}].",
+)
 GATED_SHOP = SHOP.replace("]}]}].", f"]}},{SYNC}]}}].")
 
 
@@ -106,6 +116,16 @@ class Loads(Files):
         for word in ("load", "everything"):
             self.assertEqual(view("load", self.shop, "--fail-on", word).status, 2)
 
+    def test_what_never_runs_is_lost(self) -> None:
+        forbidden = self.path("forbidden.config", SHOP.replace("]}]}].", "]},{permissions,[{audit,false}]}]}]."))
+        now = (self.shop, "--now", "mail=shop2@h", "billing=shop1@h")
+        for words, names in (((forbidden,), ["audit"]), (now, ["reports", "audit"]), ((self.shop,), [])):
+            said, answer = view("load", *words, "--fail-on", "lost"), json.loads(view("load", *words, "--json").output)
+            self.assertEqual((said.status, answer["nowhere"]), (1 if names else 0, names), said)
+            self.assertEqual([note["text"].split(" ")[0] for note in answer["notes"] if note["id"] == "RunsNowhere"], names)
+        self.assertIn("- audit runs nowhere before any loss: shop1@h=barred shop2@h=barred\n", view("load", forbidden).output)
+        self.assertIn("distac-view: lost: audit runs nowhere before any loss\n", view("load", forbidden, "--fail-on", "lost").errors)
+
     def test_many_nodes_have_no_column_each(self) -> None:
         side = wide_side(Random("wide"), 12)
         self.assertEqual(list(budget_faults(load_on(distac(), side, False), ["lost"], None)), [])
@@ -122,6 +142,33 @@ def wide_side(random: Random, count: int = 7) -> Side:
         entries.append("{a%d,%d,[%s]}" % (number, random.choice((0, 500, 1000)), ",".join([items, *rest])))
     sync = "{sync_nodes_optional,[%s]}" % ",".join(nodes)
     return opened(distac(), checked_of("[{kernel,[{distributed,[%s]},%s]}].\n" % (",".join(entries), sync)), [])
+
+
+class Hangs(Files):
+    """Where OTP may fail to restart applications: told by each question that asks about the loss."""
+
+    def test_each_question_says_it(self) -> None:
+        fleet, cured = self.path("fleet.config", FLEET), self.path("cured.config", FLEET.replace("b,5000", "b,6000"))
+        for question, losses in (("what-if", "cases"), ("load", "losses"), ("rolling", "steps")):
+            answer = json.loads(view(question, fleet, "--json").output)
+            names = {str(loss.get("down") if question != "rolling" else [loss["node"]]): loss["may_hang"] for loss in answer[losses]}
+            self.assertEqual(names.pop("['n1@h']"), ["a", "b"], question)
+            self.assertFalse(any(names.values()), question)
+            self.assertIn("EqualTimes", [note["id"] for note in answer["notes"]], question)
+            self.assertIn("Without n1@h OTP 25 may restart one of a and b alone and hang", view(question, fleet).output)
+            self.assertNotIn("hang", view(question, cured).output, question)
+        self.assertIn("; OTP may hang: a and b; back:", view("rolling", fleet).output)
+
+    def test_it_can_fail(self) -> None:
+        fleet, cured = self.path("fleet.config", FLEET), self.path("cured.config", FLEET.replace("b,5000", "b,6000"))
+        for words in (("load", "--pairs"), ("rolling",)):
+            said = view(*words, fleet, "--fail-on", "hang")
+            self.assertEqual((said.status, said.errors.count("distac-view: hang: OTP may hang in 1 of")), (1, 1), words)
+            failed = json.loads(view(*words, fleet, "--fail-on", "hang", "--json").output)["failed"]
+            self.assertEqual([each["what"] for each in failed], ["hang"])
+            self.assertEqual(view(*words, fleet).status, 0)
+            self.assertEqual(view(*words, cured, "--fail-on", "hang").status, 0)
+        self.assertEqual(view("rolling", fleet, "--fail-on", "lost").status, 2)
 
 
 class Rolls(Files):
@@ -154,12 +201,45 @@ class Rolls(Files):
 
     def test_what_is_printed(self) -> None:
         lines = view("rolling", self.shop).output.splitlines()
-        self.assertEqual(lines[0], "order shop1@h > shop2@h > shop3@h: 8 moves, 16000 ms of waits (least of 6 orders, the worst has 8)")
+        self.assertEqual(lines[0], "order shop1@h > shop2@h > shop3@h: 8 moves, 16000 ms of waits, restarts longer than 8000 ms (least of 6 orders, the worst has 8)")
         self.assertEqual(lines[2], "2 shop2@h: down: mail -> shop3@h after 5000 ms; back: mail -> shop2@h (takeover)")
         drained = view("rolling", self.shop, "--drain", "--order", "shop2@h").output.splitlines()
-        self.assertEqual(drained[0], "order shop2@h: 2 moves, 0 ms of waits")
+        self.assertEqual(drained[0], "order shop2@h: 2 moves, 0 ms of waits, restarts longer than 8000 ms")
         self.assertEqual(drained[1], "1 shop2@h: drained: mail -> shop3@h; down: nothing moves; back: mail -> shop2@h (takeover)")
         self.assertEqual(view("rolling", self.shop, "--order", "shop2@h", "shop2@h").status, 2)
+
+    def test_restarts_that_are_shorter_than_waits(self) -> None:
+        waits = {"reports": 3000, "billing": 8000, "mail": 5000, "audit": 0}
+        for takes, moving in ((1, ["audit"]), (3000, ["audit"]), (5500, ["reports", "mail", "audit"]), (8001, list(waits))):
+            answer = json.loads(view("rolling", self.shop, "--takes", str(takes), "--json").output)
+            moved = [move["application"] for step in answer["steps"] for move in (*step["down"], *step["back"])]
+            waiting = [app for step in answer["steps"] for app in step["waiting"]]
+            self.assertEqual((sorted(moved), sorted(waiting)), (sorted(2 * moving), sorted(set(waits) - set(moving))), takes)
+            self.assertEqual((answer["takes"], answer["moves"], answer["waits"]), (takes, len(moved), sum(waits[app] for app in moving)))
+            self.assertEqual([step["nowhere"] for step in answer["steps"]], [[], [], []])
+        lines = view("rolling", self.shop, "--takes", "4000").output.splitlines()
+        self.assertIn("4 moves, 3000 ms of waits, restarts of 4000 ms (", lines[0])
+        self.assertIn("; back before its wait is over: billing; back: audit -> shop1@h (takeover)", "".join(lines))
+        for word in ("0", "-1", "5s", "4294967296"):
+            self.assertEqual(view("rolling", self.shop, "--takes", word).status, 2)
+
+    def test_a_restart_of_a_later_node(self) -> None:
+        """OTP 25 does it so: the node that is back waits for the one before it, whose wait counts from the loss."""
+        now = ("--now", "billing=shop2@h", "mail=shop2@h", "reports=shop3@h", "audit=shop1@h")
+        lines = view("rolling", self.shop, "--takes", "2500", "--order", "shop2@h", *now).output.splitlines()
+        self.assertEqual(lines[0], "order shop2@h: 1 move, 5500 ms of waits, restarts of 2500 ms")
+        self.assertEqual(lines[1], "1 shop2@h: down: nothing moves; back before its wait is over: billing and mail; back: billing -> shop1@h after 5500 ms")
+
+    def test_what_if_says_what_is_presumed(self) -> None:
+        self.assertEqual(view("what-if", self.shop).output.splitlines()[0], "each loss lasts longer than 8000 ms")
+        said = view("what-if", self.shop, "--takes", "4000", "--down", "shop1@h")
+        self.assertEqual(said.output.splitlines()[0], "each loss lasts 4000 ms")
+        self.assertRegex(said.output, r"shop1@h +billing +shop1@h +- +waits +shop1@h\n")
+        new = self.path("new.config", SHOP.replace("8000", "3000"))
+        then = view("what-if", self.shop, "--then", new, "--takes", "4000").output
+        self.assertRegex(then, r"~ billing +shop1@h down +it waits -> shop2@h\n")
+        answer = json.loads(view("what-if", self.shop, "--takes", "4000", "--down", "shop1@h", "--json").output)
+        self.assertEqual([fate["waits"] for fate in answer["cases"][0]["applications"]], [True, False, False, False])
 
     def test_a_mandatory_node_bars_a_boot(self) -> None:
         path = self.path("gate.config", GATED_SHOP)
@@ -171,7 +251,7 @@ class Rolls(Files):
     def test_beyond_six_nodes(self) -> None:
         entries = ",".join("{a%d,100,[n%d@h,n%d@h]}" % (each, each, (each + 1) % 8) for each in range(8))
         output = view("rolling", self.path("eight.config", "[{kernel,[{distributed,[%s]}]}]." % entries)).output
-        self.assertIn("16 moves, 800 ms of waits (by taking the node with the fewest applications next: not proved least)", output)
+        self.assertIn("16 moves, 800 ms of waits, restarts longer than 100 ms (by taking the node with the fewest applications next: not proved least)", output)
 
 
 def cost_of(side: Side, order: "tuple[str, ...]") -> "tuple[int, ...]":
@@ -191,8 +271,8 @@ class Changed(Files):
             changes = changes_between(distac(), Question("x"), old, new)
             before, behind = (fates_of(reply_on(distac(), checked, Question("x"))) for checked in (old, new))
             losses = [key for key in before if key in behind and what_follows(before[key]) != what_follows(behind[key])]
-            both = [name for name in old.configuration.names if name in new.configuration.names]
-            starts = [(name,) for name in both if now_of(before, name) != now_of(behind, name)]
+            starts = [(change.app,) for change in changes.changes if not change.down]
+            self.assertTrue(all((name,) in starts for name in moved_now(before, behind)))
             with self.subTest(number=number):
                 self.assertEqual(sorted((change.app, *change.down) for change in changes.changes), sorted([*losses, *starts]))
 
@@ -206,10 +286,44 @@ class Changed(Files):
             self.assertIn(line, said.output.splitlines())
         self.assertRegex(said.output, r"~ reports +now +shop3@h -> shop2@h\n")
         self.assertIn("of 16 answers change", said.output)
-        self.assertIn("end each other", said.output)
+        self.assertIn("The lists of reports differ: where nodes with both files meet, OTP ends one of them.", said.output)
         bad = self.path("bad.config", SHOP.replace("[{kernel", "[{kernel,"))
         for words in ((self.shop, "--then", bad), (bad, "--then", self.shop), (self.shop, "--then", "/no/such/file"), (self.shop, "--then", new, "--after", "x")):
             self.assertEqual(view("what-if", *words).status, 2, words)
+
+    def test_what_no_answer_shows(self) -> None:
+        old = self.path("old.config", FULL_SHOP)
+        rows: "tuple[tuple[str, str, str, str | None], ...]" = (
+            ("mandatory,[shop1@h,shop2@h,shop3@h]", "mandatory,[]", "~ all nodes  sync_nodes_mandatory  [shop1@h,shop2@h,shop3@h] -> []", "OtherGates"),
+            ("optional,[]", "optional,[shop1@h]", "~ all nodes  sync_nodes_optional  [] -> [shop1@h]", "OtherGates"),
+            ("timeout,30000", "timeout,300000", "~ all nodes  sync_nodes_timeout  30000 -> 300000", "OtherGates"),
+            ("net_ticktime,20", "net_ticktime,60", "~ reports    shop3@h down  away for at most 28 s -> 78 s", None),
+            ("shop2@h,shop3@h]},{reports", "shop2@h]},{reports", "~ billing  shop2@h down  one loss from nothing", "NoRollingChange"),
+            ("billing,8000", "billing,8001", "~ billing  shop1@h down  shop2@h after 8000 ms -> shop2@h after 8001 ms", "MixedTimes"),
+            ("{audit,", "{fax,[shop1@h]},{audit,", "+ fax (application)", "AddedMayRunTwice"),
+        )
+        for before, behind, line, note in rows:
+            self.assertIn(before, FULL_SHOP)
+            words = ("what-if", old, "--then", self.path("new.config", FULL_SHOP.replace(before, behind)))
+            said, answer = view(*words), json.loads(view(*words, "--json").output)
+            lines = [re.sub(" {2,}", "  ", row) for row in said.output.splitlines()]
+            self.assertEqual(said.status, 1, said)
+            self.assertIn(re.sub(" {2,}", "  ", line), lines)
+            self.assertEqual([each["id"] for each in answer["notes"]], [note] if note else [])
+
+    def test_a_node_that_can_not_come_back(self) -> None:
+        old, new = self.path("old.config", FULL_SHOP), self.path("new.config", FULL_SHOP.replace("mandatory,[shop1@h,", "mandatory,["))
+        said = view("what-if", old, "--then", new, "--down", "shop1@h", "shop2@h", "--back", "shop2@h")
+        self.assertIn("- shop2@h can't come back: it waits 30000 ms for shop1@h, mandatory, and ends. (note)", said.output)
+        self.assertRegex(said.output, r"~ mail +shop1@h shop2@h down +back: shop3@h -> shop2@h\n")
+        self.assertIn("- Whom a starting node waits for differs: --down A B --back B says whether", said.output)
+        self.assertEqual(said.status, 1)
+
+    def test_a_hang_that_goes(self) -> None:
+        old = self.path("old.config", SHOP.replace("mail,5000,[shop2@h,", "mail,8000,[shop1@h,").replace("{shop1@h,shop3@h}", "{shop2@h,shop3@h}"))
+        said = view("what-if", old, "--then", self.path("new.config", Path(old).read_text().replace("mail,8000", "mail,9000")))
+        self.assertIn("- Without shop1@h OTP 25 may restart one of billing and mail alone and hang", said.output)
+        self.assertIn("The times of mail differ: such a file can be rolled out node by node.", said.output)
 
     def test_what_runs_now_moves(self) -> None:
         new = self.path("new.config", SHOP.replace("[shop2@h,{shop1@h,shop3@h}]", "[shop3@h,{shop1@h,shop2@h}]"))
@@ -222,9 +336,16 @@ def fates_of(reply: Reply) -> "dict[tuple[str, ...], Fate]":
     return {(fate.app, *case.down): fate for case in reply.cases for fate in case.fates}
 
 
-def what_follows(fate: Fate) -> "tuple[str | None, int | None]":
-    """What a loss does to an application."""
-    return fate.then, fate.milliseconds
+def what_follows(fate: Fate) -> "tuple[object, ...]":
+    """What a loss does to an application. All random files have one net_ticktime, so an outage is as long as its wait."""
+    able = {node for node, mark in marks_in(fate.marks) if mark == "ok"}
+    return fate.then, fate.milliseconds, fate.how == "failover", fate.back, fate.then is not None and able <= {fate.then}
+
+
+def moved_now(before: "dict[tuple[str, ...], Fate]", behind: "dict[tuple[str, ...], Fate]") -> "set[str]":
+    """The applications of both answers that are elsewhere before any loss."""
+    both = {key[0] for key in before} & {key[0] for key in behind}
+    return {app for app in both if now_of(before, app) != now_of(behind, app)}
 
 
 def now_of(fates: "dict[tuple[str, ...], Fate]", app: str) -> "str | None":
@@ -244,13 +365,16 @@ class Json(Files):
             ("load", gate, "--now", now),
             ("rolling", self.shop, "--drain"),
             ("rolling", gate, "--now", now),
+            ("rolling", self.shop, "--takes", "4000"),
+            ("load", self.shop, "--pairs", "--most", "1", "--fail-on", "lost,load,hang"),
+            ("what-if", self.shop, "--takes", "4000"),
             ("what-if", self.shop, "--then", gate),
             ("what-if", self.shop, "--then", self.path("new.config", SHOP.replace("shop3", "shop4").replace("audit", "fax"))),
             ("what-if", self.shop, "--down", "shop1@h", "shop2@h", "--back", "shop1@h"),
         )
         for words in questions:
             said = view(*words, "--json")
-            self.assertEqual((schema.faults_of(said.output), said.errors), ([], ""), words)
+            self.assertEqual(schema.faults_of(said.output), [], words)
 
 
 class Now(Files):
@@ -277,6 +401,32 @@ class Now(Files):
         said = view("what-if", self.shop, "--now", "billing=shop2@h", "--down", "shop3@h")
         self.assertIn("Here shop1@h takes over billing at once: OTP leaves it at shop2@h until shop1@h starts it.", said.output)
         self.assertIn("By --now reports, mail and audit run nowhere: no node starts it.", said.output)
+
+    def test_the_part_before_the_host(self) -> None:
+        whole = json.loads(view("what-if", self.shop, "--json", "--now", "mail=shop2@h", "billing=shop1@h", "--down", "shop1@h").output)
+        file = self.path("now", "shop1 billing\nshop2 mail\nshop3@h\n")
+        for now in (("mail=shop2", "billing=shop1"), (file,)):
+            short = view("what-if", self.shop, "--json", "--now", *now, "--down", "shop1", "--back", "shop1")
+            self.assertEqual(json.loads(short.output), whole)
+        self.assertEqual(view("what-if", self.shop, "--then", self.shop, "--down", "shop1").status, 0)
+        self.assertEqual(view("rolling", self.shop, "--order", "shop2", "shop1").output.splitlines()[0][:28], "order shop2@h > shop1@h: 6 m")
+        two = self.path("two.config", "[{kernel,[{distributed,[{a,1,[x@h,x@k,y@k]}]}]}].")
+        self.assertEqual((view("what-if", two, "--down", "x").status, view("what-if", two, "--down", "y").status), (2, 0))
+        self.assertIn("no node x: its nodes are x@h, x@k, y@k", view("what-if", two, "--down", "x").errors)
+
+    def test_what_nodes_answered(self) -> None:
+        answers = self.path("answers", "\nshop1@h billing audit\n{ok, ok}\nshop2@h mail\n{ok, ok}\n'shop3@h' reports\nok\n:ok\n{ok,ok}")
+        answer = json.loads(view("load", self.shop, "--json", "--now", answers).output)
+        self.assertEqual([count["applications"] for count in answer["losses"][0]["load"]], [2, 1, 1])
+        for language in ("now", "elixir-now"):
+            self.assertIn("which_applications", view("gather", "--print-command", language).output)
+
+    def test_no_table_shows_quotes(self) -> None:
+        path = self.path("quoted.config", QUOTED_SHOP)
+        now = ("--now", "Billing=shop-2@h", "audit=shop1@10.0.0.1")
+        new = self.path("new.config", QUOTED_SHOP.replace("5000", "6000").replace(",'shop1@10.0.0.1'", ""))
+        for words in (("what-if", path), ("what-if", path, *now), ("rolling", path), ("rolling", path, *now), ("load", path, *now), ("what-if", path, "--then", new)):
+            self.assertNotRegex(view(*words).output, r"'(shop|Billing)|@\S+'", words)
 
     def test_names_in_quotes(self) -> None:
         path = self.path("quoted.config", "[{kernel,[{distributed,[{'My-App',1,['a=b@h','c-d@h']}]}]}].")

@@ -5,6 +5,7 @@ A case that is written in one go is compared with the same case played step by s
 
 from __future__ import annotations
 
+import json
 import tempfile
 import unittest
 from functools import partial
@@ -17,6 +18,7 @@ from random_scripts import CALM, CONFIGS, DRAINS, PAUSES, ScriptMaker
 from test_what_if import random_config
 from view.cases import Course, Loss, careful_course, first_pages, quick_course
 from view.cluster import share_all
+from view.forbidden import comment_of, forbidden_in
 from view.loading import Checked, check_config
 from view.noticing import outage_of
 from view.openings import Side, opened, opened_after
@@ -34,6 +36,12 @@ GATED = (
     "[{kernel,[{distributed,[{myapp,5000,[cp1@cave,{cp2@cave,cp3@cave}]}]},"
     "{sync_nodes_mandatory,[cp1@cave,cp2@cave,cp3@cave]},{sync_nodes_timeout,5000}]}].\n"
 )
+FORBIDDEN = """\
+%% forbidden myapp at b@h
+%% forbidden other at a@h
+[{kernel,[{distributed,[{myapp,1000,[a@h,b@h,c@h]},{other,2000,[a@h,c@h,b@h]}]}]}].
+"""
+TUPLES = "[{kernel,[{distributed,[{x,0,[{a@h,b@h}]},{y,0,[{a@h,b@h}]}]}]}].\n"
 UP = "boot cp1@cave 0\nboot cp2@cave 0\nboot cp3@cave 0\nshare\n"
 STARTED = UP + "".join(f"start {node} myapp {node}\n" for node in ("cp1@cave", "cp2@cave", "cp3@cave")) + "share\n"
 WITHOUT_CP3 = "share\ncrash cp3@cave\ndown cp1@cave cp3@cave\nshare\n"
@@ -163,6 +171,58 @@ def random_places(random: Random, checked: Checked) -> Placed:
     return Placed(places, up)
 
 
+class Forbidden(Asked):
+    """Permissions of single nodes, as comments above a configuration say them."""
+
+    def setUp(self) -> None:
+        super().setUp()
+        self.path.write_text(FORBIDDEN)
+
+    def fates(self, *words: str) -> "list[tuple[object, ...]]":
+        """Where each application is now, then and back."""
+        answer = json.loads(view("what-if", str(self.path), "--json", *words).output)
+        return [(fate["now"], fate["then"], fate["back"]) for fate in answer["cases"][0]["applications"]]
+
+    def test_a_node_forbids_it_at_each_boot(self) -> None:
+        self.assertEqual(self.fates("--down", "a@h"), [("a@h", "c@h", "a@h"), ("c@h", "c@h", "c@h")])
+        self.assertEqual(self.fates("--down", "b@h"), [("a@h", "a@h", "a@h"), ("c@h", "c@h", "c@h")])
+        now = ("--now", "myapp=c@h", "other=b@h")
+        self.assertEqual(self.fates("--down", "c@h", *now), [("c@h", "a@h", "a@h"), ("b@h", "b@h", "c@h")])
+
+    def test_other_comments_say_nothing(self) -> None:
+        config = FORBIDDEN[FORBIDDEN.index("[") :]
+        for comment in ("% forbidden", "%% forbidden myapp at d@h", "%% forbidden fax at a@h", "%% forbidden myapp at a@h or b@h"):
+            self.assertEqual(forbidden_in(checked_of(f"{comment}\n{config}")), [], comment)
+        self.assertEqual(forbidden_in(checked_of(f"%forbidden 'myapp' at 'a@h'\r\n{config}")), [("a@h", "myapp")])
+
+    def test_comments_that_forbid_nothing(self) -> None:
+        self.path.write_text(FORBIDDEN.replace("other at a@h", "other at d@h"))
+        said = view("check", str(self.path), "--strict")
+        self.assertEqual(said.status, 1)
+        self.assertIn("script:2:14: UnknownForbidden: d@h is in no list of an application other: this comment forbids nothing", said.errors)
+        self.path.write_text(FORBIDDEN)
+        self.assertEqual(view("check", str(self.path), "--strict").status, 0)
+
+    def test_what_another_file_forbids_is_a_change(self) -> None:
+        new = self.path.with_name("new")
+        new.write_text(FORBIDDEN.replace("myapp at b@h", "myapp at c@h"))
+        said = view("what-if", str(self.path), "--then", str(new))
+        self.assertRegex(said.output, r"~ myapp +forbidden +\[b@h\] -> \[c@h\]\n")
+        self.assertEqual(said.status, 1)
+
+    def test_where_now_is_guessed(self) -> None:
+        self.path.write_text(TUPLES)
+        script = self.path.with_name("lines")
+        for lines, is_guessed in (("", True), ("tick a@h 0\ntick b@h 0\nshare\n", False)):
+            script.write_text(f"{TUPLES}--\nboot a@h 0\nboot b@h 0\nshare\nstart a@h x a@h\nstart a@h y a@h\nshare\n{lines}")
+            answer = json.loads(view("what-if", str(self.path), "--after", str(script), "--json").output)
+            self.assertEqual("StartedAtOnce" in [note["id"] for note in answer["notes"]], is_guessed)
+        for question in ("what-if", "rolling", "load"):
+            for words, is_guessed in (((), True), (("--now", "x=a@h", "y=b@h"), False)):
+                answer = json.loads(view(question, str(self.path), "--json", *words).output)
+                self.assertEqual("StartedAtOnce" in [note["id"] for note in answer["notes"]], is_guessed, question)
+
+
 class Courses(Asked):
     """Random starts and losses."""
 
@@ -186,11 +246,23 @@ class Courses(Asked):
                     quick_ones += self.compare(side, loss)
         self.assertGreater(quick_ones, COUNT // 3)
 
+    def test_permissions_of_single_nodes(self) -> None:
+        for number in range(COUNT // 2):
+            random = Random(f"forbidden {number}")
+            text = random_config(random)
+            pairs = [(each.name, node) for each in checked_of(text).configuration.applications for node in each.nodes]
+            checked = checked_of("".join(f"{comment_of(*pair)}\n" for pair in pairs if random.random() < 0.3) + text)
+            side = opened(distac(), checked, []) if random.random() < 0.5 else opened_now(distac(), checked, random_places(random, checked))
+            loss = self.random_loss(random, side)
+            with self.subTest(number=number, loss=loss):
+                self.compare(side, loss)
+
     def random_loss(self, random: Random, side: Side) -> Loss:
         """Some nodes that go down, and some of them that come back."""
         down = random.sample(side.members, random.choice((1, 1, min(2, len(side.members)))))
         back = [node for node in down if random.random() < 0.8]
-        return Loss(sorted(down), sorted(back), [node for node in down if random.random() < 0.1])
+        not_started = [node for node in down if random.random() < 0.1]
+        return Loss(sorted(down), sorted(back), not_started, random.choice((None, None, 1, 2000, 4000)))
 
     def compare(self, side: Side, loss: Loss) -> bool:
         """Compares a case that is written in one go with the same one step by step. Whether there is one."""

@@ -206,7 +206,7 @@ class Words(unittest.TestCase):
         for path in EXAMPLES.glob("live-*.distac"):
             for words in (("timeline", str(path), "-o", "-"), ("play", str(path))):
                 said = view(*words)
-                self.assertEqual(said.status, 1)
+                self.assertEqual(said.status, 2)
                 self.assertIn("this is a line of distac live", said.output)
 
 

@@ -111,8 +111,9 @@ class Oracle:
         """The node where each application is at rest."""
         return [found.node if found.what in (placement.KEPT, placement.HALTED) else None for found in self.verdicts(world)]
 
-    def fates(self, down: list[int]) -> list[Fate]:
-        """For each application: where it is, then, how, after how long, and where in the end."""
+    def fates(self, down: list[int], takes: int | None) -> list[Fate]:
+        """For each application: where it is, then, how, after how long, and where in the end. Nodes are back after some milliseconds."""
+        last = self.longest if takes is None else min(self.longest, takes - 1)
         world = self.opened()
         begin = 10 * self.longest + 10
         now = self.places(world)
@@ -124,10 +125,10 @@ class Oracle:
                 world.down(left[0], node)
         world.share()
         at_once = self.verdicts(world)
-        after = [self.first_claim(world, app, begin) for app in self.apps]
-        self.wait(world, begin, self.longest)
+        after = [self.first_claim(world, app, begin, last) for app in self.apps]
+        self.wait(world, begin, last)
         then = self.places(world)
-        later = begin + self.longest + 1
+        later = begin + (self.longest + 1 if takes is None else takes)
         for node in down:
             world.boot(node, later)
         world.share()
@@ -141,9 +142,10 @@ class Oracle:
         for moment in sorted({0, milliseconds, *(app.timeout for app in self.config.apps if app.timeout <= milliseconds)}):
             self.ticks(world, begin + moment, len(self.apps) + 1)
 
-    def first_claim(self, world: World, app: int, begin: int) -> int | None:
-        """The least number of milliseconds after which an application is claimed, found by trying."""
-        for milliseconds in sorted({moment for each in self.config.apps for moment in (0, max(0, each.timeout - 1), each.timeout)}):
+    def first_claim(self, world: World, app: int, begin: int, last: int) -> int | None:
+        """The least number of milliseconds, of at most so many, after which an application is claimed, found by trying."""
+        moments = {moment for each in self.config.apps for moment in (0, max(0, each.timeout - 1), each.timeout) if moment <= last}
+        for milliseconds in sorted(moments):
             world.cached.clear()
             trial = copy.deepcopy(world)
             self.wait(trial, begin, milliseconds)
@@ -163,18 +165,19 @@ class WhatIf(unittest.TestCase):
             nodes = [name.decode() for name in config.nodes]
             down = random.sample(nodes, 1 if random.random() < 0.7 else random.randint(1, len(nodes)))
             not_started = [node for node in nodes if random.random() < 0.1]
-            with self.subTest(number=number, text=text, down=down, not_started=not_started):
-                self.compare(config, text, down, not_started)
+            takes = random.choice((None, None, 1, 50, 3000, 4000))
+            with self.subTest(number=number, text=text, down=down, not_started=not_started, takes=takes):
+                self.compare(config, text, down, not_started, takes)
 
-    def compare(self, config: Config, text: str, down: list[str], not_started: list[str]) -> None:
+    def compare(self, config: Config, text: str, down: list[str], not_started: list[str], takes: int | None) -> None:
         """Compares the two answers to one question."""
         names = [name.decode() for name in config.nodes]
         oracle = Oracle(config, {names.index(node) for node in not_started})
-        fates = oracle.fates(sorted(names.index(node) for node in down))
+        fates = oracle.fates(sorted(names.index(node) for node in down), takes)
         named: dict[int | None, str | None] = {None: None}
         named.update(enumerate(names))
         expected = [(named[now], named[then], how, after, named[back]) for now, then, how, after, back in fates]
-        reply = reply_on(distac(), check_config(distac(), "x", text.encode()), Question("x", down, not_started))
+        reply = reply_on(distac(), check_config(distac(), "x", text.encode()), Question("x", down, not_started, takes=takes))
         answered = [(fate.now, fate.then, fate.how, fate.milliseconds, fate.back) for fate in reply.cases[0].fates]
         self.assertEqual(answered, expected)
 
