@@ -11,7 +11,7 @@ from view.noticing import notice_range, seconds_of
 from view.notes import Note
 from view.openings import Side
 from view.pages import marks_in
-from view.texts import cut, listed, shown
+from view.texts import listed, shown
 from view.what_if import Answers, Case, Fate, Reply
 
 MOST_NAMED = 8
