@@ -2,6 +2,7 @@
 
 from __future__ import annotations
 
+import runpy
 import shutil
 import subprocess
 import unittest
@@ -19,8 +20,42 @@ def say(*words: str) -> "tuple[int, str, str]":
     return done.returncode, done.stdout, done.stderr
 
 
+# Words that a command doesn't take, and a part of what it says.
+REFUSED = (
+    (("growths", "nosuch"), "no call and no example begins with nosuch"),
+    (("growths", "State", "nosuch"), "no call and no example begins with nosuch"),
+    (("growths", "--counts", "State"), "takes no names"),
+    (("tests", "--wrong"), "no words are taken"),
+    (("tests", "dac_status"), "no words are taken"),
+    (("examples/check", "--wrong"), "may follow"),
+    (("examples/check", "--proved", "x"), "may follow"),
+    (("mutants", "nosuch"), "no crate is called nosuch"),
+    (("nightly", "--only", "nosuch"), "no part is called nosuch"),
+    (("fuzz", "nosuch"), "no command is called nosuch"),
+)
+HELPED = ("tests", "examples/check", "growths", "mutants", "races", "fuzz", "stacks", "nightly", "check-documents")
+
+
 class OwnCommands(unittest.TestCase):
-    """What is refused."""
+    """What is refused, and what help says."""
+
+    def test_unknown_words_are_refused_before_anything_is_done(self) -> None:
+        for words, said in REFUSED:
+            status, output, errors = say(*words)
+            self.assertNotEqual(status, 0, words)
+            self.assertEqual(output, "", words)
+            self.assertIn(said, errors, words)
+
+    def test_help(self) -> None:
+        for command in HELPED:
+            status, output, errors = say(command, "--help")
+            self.assertEqual((status, errors), (0, ""), command)
+            self.assertGreater(len(output.splitlines()), 3, command)
+
+    def test_beginnings_of_names(self) -> None:
+        unknown = runpy.run_path(str(TOP / "growths"), run_name="growths")["unknown"]
+        known = ("State", "Node::step:ship-again", "first-path", "live-failover", "take")
+        self.assertEqual(unknown((*known, "nosuch", "first-path.distac")), ["nosuch", "first-path.distac"])
 
     @unittest.skipUnless(shutil.which("prlimit"), "prlimit sets the stacks")
     def test_stacks_of_a_program_that_answers_nothing(self) -> None:
