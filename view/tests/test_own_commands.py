@@ -32,8 +32,14 @@ REFUSED = (
     (("mutants", "nosuch"), "no crate is called nosuch"),
     (("nightly", "--only", "nosuch"), "no part is called nosuch"),
     (("fuzz", "nosuch"), "no command is called nosuch"),
+    (("fuzz", "--jobs", "0"), "'0' isn't a number of 1 or more"),
+    (("fuzz", "--minutes", "-1"), "'-1' isn't a number of 0 or more"),
+    (("races", "--jobs", "0"), "'0' isn't a number of 1 or more"),
+    (("growths", "--states", "-1"), "'-1' isn't a number of 0 or more"),
 )
-HELPED = ("tests", "examples/check", "growths", "mutants", "races", "fuzz", "stacks", "nightly", "check-documents")
+# Those whose first comment is their help.
+COMMENTED = ("growths", "mutants", "races", "fuzz", "stacks", "nightly")
+HELPED = ("tests", "examples/check", "check-documents", *COMMENTED)
 
 
 class OwnCommands(unittest.TestCase):
@@ -51,6 +57,9 @@ class OwnCommands(unittest.TestCase):
             status, output, errors = say(command, "--help")
             self.assertEqual((status, errors), (0, ""), command)
             self.assertGreater(len(output.splitlines()), 3, command)
+            if command in COMMENTED:
+                first_line = (TOP / command).read_text().partition('"""')[2].partition("\n")[0]
+                self.assertIn(first_line, output, command)
 
     def test_beginnings_of_names(self) -> None:
         unknown = runpy.run_path(str(TOP / "growths"), run_name="growths")["unknown"]
