@@ -16,7 +16,8 @@ WHAT = """Checks that documents, crates.txt, edits and scripts agree with each o
 
 Nothing is proved, and no program runs but bash, shellcheck and mypy, which check scripts if they are there.
 
-Each check has a line, and behind it its faults. The last line is `N passed, M failed`. The status is 0 if none failed.
+Each check has a line, and behind it its faults, or why it is skipped. The last line is `N passed, M failed`, and how many were
+skipped. The status is 0 if none failed.
 """
 
 
@@ -25,6 +26,8 @@ class Check(NamedTuple):
 
     holds: str
     faults: Callable[[], Iterator[str]]
+    # why it is skipped, or nothing
+    lacks: str = ""
 
 
 def document_list() -> List[Check]:
@@ -57,17 +60,16 @@ def crate_list() -> List[Check]:
 def script_list(types: bool) -> List[Check]:
     """The checks of edits and scripts, by the tools that are here."""
     files = document_checks.files_of(HERE)
-    made = [
+    no_types = script_checks.why_no_types() if types else "--no-types was given"
+    no_shellcheck = script_checks.why_not("shellcheck")
+    return [
         Check("each edit applies to one place", lambda: edit_checks.edit_faults(HERE)),
         Check("bash reads the scripts", lambda: script_checks.bash_faults(HERE, files)),
         Check("the oldest Python reads the scripts", lambda: script_checks.python_faults(HERE, files)),
+        Check("shellcheck warns of nothing", lambda: script_checks.shellcheck_faults(HERE, files), no_shellcheck),
+        Check("the tests of the folder tools pass", tests.faults_of_tests),
+        Check("mypy finds the types right", lambda: script_checks.type_faults(HERE), no_types),
     ]
-    if script_checks.is_here("shellcheck"):
-        made.append(Check("shellcheck warns of nothing", lambda: script_checks.shellcheck_faults(HERE, files)))
-    made.append(Check("the tests of the folder tools pass", tests.faults_of_tests))
-    if types and script_checks.is_here("mypy"):
-        made.append(Check("mypy finds the types right", lambda: script_checks.type_faults(HERE)))
-    return made
 
 
 def passes(check: Check) -> bool:
@@ -87,8 +89,12 @@ def main(arguments: Sequence[str]) -> int:
     parser.add_argument("--no-types", action="store_true", help="leave out mypy, which takes longer than all the others")
     asked = parser.parse_args(arguments)
     checks = document_list() + crate_list() + script_list(not asked.no_types)
-    passed = [passes(check) for check in checks]
-    print(f"{sum(passed)} passed, {len(passed) - sum(passed)} failed")
+    skipped = [check for check in checks if check.lacks]
+    passed = [passes(check) for check in checks if not check.lacks]
+    for check in skipped:
+        print(f"skipped {check.holds}: {check.lacks}")
+    of_skipped = f", {len(skipped)} skipped" if skipped else ""
+    print(f"{sum(passed)} passed, {len(passed) - sum(passed)} failed{of_skipped}")
     return 0 if all(passed) else 1
 
 

@@ -3,6 +3,7 @@
 import ast
 import os
 import pathlib
+import re
 import shutil
 import subprocess
 from typing import Iterator, List, Sequence, Tuple
@@ -16,6 +17,8 @@ OLDEST: Tuple[Tuple[str, Tuple[int, int]], ...] = (
     ("believe", (3, 8)),
     ("check-documents", (3, 8)),
 )
+# the oldest mypy that finds the types right, which is Debian 12's
+OLDEST_MYPY = (1, 0)
 
 
 def first_line(file: pathlib.Path) -> str:
@@ -98,3 +101,20 @@ def faults_of_types(status: int, said: str) -> Iterator[str]:
 def is_here(tool: str) -> bool:
     """Whether this machine has a tool."""
     return shutil.which(tool) is not None
+
+
+def why_not(tool: str) -> str:
+    """Why scripts aren't checked by a tool, or nothing."""
+    return "" if is_here(tool) else f"{tool} isn't in PATH"
+
+
+def why_no_types() -> str:
+    """Why mypy isn't asked, or nothing."""
+    needed = ".".join(map(str, OLDEST_MYPY))
+    if not is_here("mypy"):
+        return f"mypy {needed} or later isn't in PATH"
+    _, said = output_of(["mypy", "--version"], pathlib.Path("."))
+    found = re.match(r"mypy (\d+)\.(\d+)", said)
+    if found is not None and (int(found[1]), int(found[2])) < OLDEST_MYPY:
+        return f"this is {said.partition(' (')[0].strip()}, and {needed} or later is needed"
+    return ""

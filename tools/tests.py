@@ -8,8 +8,9 @@ import runpy
 import tempfile
 import unittest
 from typing import Dict, Iterator, List, Sequence, Tuple
+from unittest import mock
 
-from tools import judging
+from tools import judging, script_checks
 from tools.bodies import Body, Code, Edit, edit_in
 from tools.code_types import declarations_in
 from tools.contracts import Sources, clauses_of, head_of
@@ -435,7 +436,8 @@ class RoundsTest(unittest.TestCase):
         self.assertEqual(halves, [["early.edit"], ["from.edit", "second.edit"]])
         (rest,) = rests_of(self.code, one, ["src/lib.rt:28:9: error[unknown-name]: cannot find value"])
         self.assertEqual((rest.names(), rest.texts), (["early.edit", "second.edit"], self.round("early", "second").texts))
-        for said in ([], ["src/lib.rt:14:9: error[unknown-name]: cannot find value"]):
+        unread: List[List[str]] = [[], ["src/lib.rt:14:9: error[unknown-name]: cannot find value"]]
+        for said in unread:
             self.assertEqual(rests_of(self.code, self.round("early"), said), [])
 
     def test_an_edit_waits_for_another_that_has_its_text(self) -> None:
@@ -599,6 +601,23 @@ class JudgingTest(unittest.TestCase):
         for text in ("", f"{mid}new: a", "file: src/../specs/Mid.antt\nold: mid\nnew: a", f"{mid}old: x\nnew: a"):
             edit.write_text(text, encoding="utf-8")
             self.assertRaises(BadEdit, texts_with, edit, folder)
+
+
+class ScriptChecksTest(unittest.TestCase):
+    """Which tools check the scripts here."""
+
+    def test_mypy(self) -> None:
+        said_by = {"mypy 1.0.1 (compiled: yes)": "", "mypy 1.19.0": "", "mypy 2.0.0+dev": "", "a mypy of unknown make": ""}
+        said_by["mypy 0.990 (compiled: yes)"] = "this is mypy 0.990, and 1.0 or later is needed"
+        for said, why in said_by.items():
+            with mock.patch.object(script_checks, "is_here", lambda _: True):
+                with mock.patch.object(script_checks, "output_of", lambda *_: (0, f"{said}\n")):
+                    self.assertEqual(script_checks.why_no_types(), why, said)
+
+    def test_no_tools(self) -> None:
+        with mock.patch.object(script_checks, "is_here", lambda _: False):
+            self.assertEqual(script_checks.why_no_types(), "mypy 1.0 or later isn't in PATH")
+            self.assertEqual(script_checks.why_not("shellcheck"), "shellcheck isn't in PATH")
 
 
 def faults_of_tests() -> Iterator[str]:

@@ -10,7 +10,6 @@ from unittest import mock
 import support
 from hostile_files import hostile_sources
 from random_terms import changed, random_file
-from view import erlang_reader
 from view.erlang_reader import decoded, has_erlang, read_by_erlang, read_by_own
 from view.erlang_terms import Atom, Other, term_of
 from view.erlang_tokens import Misread

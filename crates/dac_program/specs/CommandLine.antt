@@ -9,10 +9,17 @@ use Rattle.dac_program.specs.declared.command_line.Request.TheVariants.{Check, S
 abbrev pub required : App → App
 required app = record { top = record app.top { subcommand_required = true }; subs = app.subs }
 
+-- it has a version, which a flag of its own asks for
+abbrev pub versioned : App → App
+versioned app = record { top = record app.top { has_version = true }; subs = app.subs }
+
+-- the program without its subcommands
+abbrev pub bare : App
+bare = versioned (required (new_app (codes "distac")))
+
 -- the program, with the subcommands that start no threads
 abbrev pub threadless : App
-threadless = with_subcommand (with_subcommand (required (new_app (codes "distac"))) (new_app (codes "check")).top)
-    (new_app (codes "sim")).top
+threadless = with_subcommand (with_subcommand bare (new_app (codes "check")).top) (new_app (codes "sim")).top
 
 -- the program, with all its subcommands
 abbrev pub distac : App

@@ -2,7 +2,7 @@
 
 ghost use Rattle.std.specs.Prelude.{◌≡◌, map, option_map, Some, IfOk, MatchResult};
 ghost use Rattle.clap.specs.Words.{Text, app_of, kind_of};
-ghost use Rattle.dac_program.specs.CommandLine.{threadless, distac, check_words, sim_words, live_words, subcommand_in, request_in};
+ghost use Rattle.dac_program.specs.CommandLine.{bare, threadless, distac, check_words, sim_words, live_words, subcommand_in, request_in};
 
 use clap::error::ErrorKind;
 use clap::{Command, Error};
@@ -18,6 +18,9 @@ pub enum Request {
     /// A script is to be run in threads.
     Live,
 }
+
+/// What `distac --version` prints behind the name: the version that CHANGELOG.md has, and that of the bytes that are written.
+const VERSION: &str = "0.1.0, bytes 2";
 
 /// What stands at the end of the program's help.
 const AFTER_HELP: &str =
@@ -134,6 +137,17 @@ Documents:
   docs/FORMATS.md     What each line prints, and what to look at first for each fault and refusal
   examples/README.md  Scripts to try";
 
+/// The command without its subcommands.
+fn bare<'a>(alloc: Global) -> Command<'a>
+    ensures { app_of result ≡ bare }
+{
+    Command::new(alloc, "distac")
+        .about("A replicated controller for distributed applications of Erlang/OTP")
+        .after_help(AFTER_HELP)
+        .subcommand_required(true)
+        .version(VERSION)
+}
+
 /// The command with the subcommands that start no threads.
 fn threadless<'a>(alloc: Global) -> Result<Command<'a>, AllocError>
     ensures { IfOk result (λ command. app_of command ≡ threadless) }
@@ -146,11 +160,7 @@ fn threadless<'a>(alloc: Global) -> Result<Command<'a>, AllocError>
     let sim = Command::new(alloc, "sim")
         .about("Plays a script: standard input is a configuration, a line `--`, and the script")
         .after_help(AFTER_SIM);
-    let distac = Command::new(alloc, "distac")
-        .about("A replicated controller for distributed applications of Erlang/OTP")
-        .after_help(AFTER_HELP)
-        .subcommand_required(true);
-    let distac = distac.subcommand(check)?;
+    let distac = bare(alloc).subcommand(check)?;
     distac.subcommand(sim)
 }
 

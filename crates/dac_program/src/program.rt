@@ -16,6 +16,7 @@ use clap::error::ErrorKind;
 use dac_live_play::dac_play::{OUT_OF_MEMORY, check, simulate};
 use dac_live_play::live;
 use std::alloc::Global;
+use std::io::ErrorKind as IoErrorKind;
 use std::io::{Eprint, Print, Read, Write};
 use std::sync::Wait;
 use std::thread::Threads;
@@ -29,7 +30,10 @@ fn refuse<T: Print + Eprint, W: Write>(rt: &T, error: &Error, output: &mut W) ->
         let _printed = output.write_all(OUT_OF_MEMORY.as_bytes());
         return 1;
     }
-    if error.print(rt).is_err() {
+    if let Err(why) = error.print(rt) {
+        if !error.use_stderr() && why.kind() != IoErrorKind::BrokenPipe {
+            let _said = eprintln!(rt; "distac: standard output can't be written: {why}");
+        }
         return 1;
     }
     if error.use_stderr() { 2 } else { 0 }
@@ -40,8 +44,8 @@ fn refuse<T: Print + Eprint, W: Write>(rt: &T, error: &Error, output: &mut W) ->
 /// refused or a write failed. They write to the output alone, and only `distac live` starts threads.
 ///
 /// Other words are for `clap`, and the clauses say of them only that the status is at most 2. Help goes to the standard
-/// output with status 0. The text about words that are no command line goes to the standard error with status 2, or 1
-/// where it can't be written.
+/// output with status 0. The text about words that are no command line goes to the standard error with status 2. Where
+/// either can't be written the status is 1, and the standard error says why help wasn't.
 #[tactic(auto, using(crate::proofs::Reading::nothing_read))]
 pub fn run<'a, T: Print + Eprint + Threads + Wait + Sync, R: Read, W: Write>(
     rt: &T,

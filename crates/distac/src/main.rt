@@ -7,12 +7,45 @@
 #![tactic(auto)]
 
 use dac_program::run;
-use std::io::ErrorKind;
+use std::io;
+use std::io::{ErrorKind, Write};
 use std::process::ExitCode;
 
 /// What is printed on the standard error of a command line whose words aren't all UTF-8.
 const NOT_UTF_8: &str =
     "error: a word of the command line isn't UTF-8\n\nFor more information, try '--help'.";
+
+/// A writer that remembers why it took no more.
+#[derive(Drop)]
+struct Noted<W> {
+    writer: W,
+    why: Option<io::Error>,
+}
+
+/// The same error once more.
+fn again(error: &io::Error) -> io::Error {
+    match error.raw_os_error() {
+        Some(code) => io::Error::from_raw_os_error(code),
+        None => io::Error::from(error.kind()),
+    }
+}
+
+impl<W: Write> Write for Noted<W> {
+    ghost contents = { λ noted. W.contents noted.writer };
+
+    fn write(&mut self, buf: &[u8]) -> io::Result<usize> {
+        let written = self.writer.write(buf);
+        self.why = match &written {
+            Ok(_) => None,
+            Err(error) => Some(again(error)),
+        };
+        written
+    }
+
+    fn flush(&mut self) -> io::Result<()> {
+        self.writer.flush()
+    }
+}
 
 fn main(rt: HostRuntime) -> anyhow::Result<ExitCode> {
     let alloc = rt.alloc();
@@ -28,6 +61,16 @@ fn main(rt: HostRuntime) -> anyhow::Result<ExitCode> {
     for word in &words {
         texts.push(word.as_str())?;
     }
-    let status = run(&rt, alloc, &texts, &mut rt.stdin(), &mut rt.stdout());
+    let mut output = Noted {
+        writer: rt.stdout(),
+        why: None,
+    };
+    let status = run(&rt, alloc, &texts, &mut rt.stdin(), &mut output);
+    // A reader that wants no more is no fault that anybody has to be told of.
+    if let Some(why) = &output.why {
+        if why.kind() != ErrorKind::BrokenPipe {
+            let _said = eprintln!(rt; "distac: standard output can't be written: {why}");
+        }
+    }
     Ok(ExitCode::from(status))
 }

@@ -160,7 +160,8 @@ Commands:
   help   Print this message or the help of the given subcommand(s)
 
 Options:
-  -h, --help  Print help
+  -h, --help     Print help
+  -V, --version  Print version
 
 Lines of a script of `sim` begin with one of these verbs (`distac sim --help` says more):
   boot crash down permit start stop drain takeover tick
@@ -180,6 +181,13 @@ Documents:
   docs/FORMATS.md     All formats, and what to look at first for each fault and refusal
   examples/README.md  Scripts and configurations to try
 ",
+    ),
+    (&["distac", "--version"], false, "distac 0.1.0, bytes 2\n"),
+    (&["distac", "-V"], false, "distac 0.1.0, bytes 2\n"),
+    (
+        &["distac", "sim", "--version"],
+        true,
+        "error: unexpected argument '--version' found\n\nUsage: distac sim\n\nFor more information, try '--help'.\n",
     ),
     (
         &["distac", "jump"],
