@@ -13,4 +13,5 @@ pub mod Effect
 pub mod Shipping
 pub mod Again
 pub mod HeldBack
+pub mod Gates
 pub use Rattle.dac_ticks.specs.laws.Claims

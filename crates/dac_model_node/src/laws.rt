@@ -4,6 +4,7 @@ ghost use Rattle.dac_model_node.specs.Again.{SecondTickClaimsNothing};
 ghost use Rattle.dac_model_node.specs.Shipping.{ShipsInWords};
 ghost use Rattle.dac_model_node.specs.Dropping.{DropsInWords};
 ghost use Rattle.dac_model_node.specs.Effect.{EventsTakeEffect};
+ghost use Rattle.dac_model_node.specs.Gates.{OpenIsOpen, OpenStays, TicksOpen};
 ghost use Rattle.dac_model_node.specs.HeldBack.{HeldTicksCount, HeldTicksNoteNothing};
 
 /// The table of causes answers, of the causes that the event can have and that hold in words, the one with the least
@@ -45,4 +46,12 @@ pub fn events_take_effect()
 pub fn held_ticks_wait()
     ensures notes { HeldTicksNoteNothing }
     ensures moment { HeldTicksCount }
+{}
+
+/// A tick by which a node looks after its applications leaves its start gate open. It stays so until the node goes off, and up to
+/// then the node never waits for others again, nor gives up.
+pub fn open_gates_stay()
+    ensures opened { TicksOpen }
+    ensures stays { OpenStays }
+    ensures found { OpenIsOpen }
 {}
