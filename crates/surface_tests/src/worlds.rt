@@ -36,7 +36,7 @@ fn is_up(alloc: Global) -> Option<bool> {
 }
 
 /// A message that carries nothing.
-fn message() -> Message {
+pub fn message() -> Message {
     let from = Origin {
         node: NodeId(0),
         inc: 1,
