@@ -50,7 +50,10 @@ fn is_row_read(alloc: Global) -> Result<bool, NoMemory> {
     let is_put: bool = context.push_row(ORIGIN, 3, &[5])?;
     let row = match context.row(0) {
         Some((origin, upto, further)) => {
-            origin == ORIGIN && upto == 3 && further.list(alloc)?.as_slice() == [5u64].as_slice()
+            origin == ORIGIN
+                && upto == 3
+                && further.get(0) == Some(5u64)
+                && further.list(alloc)?.as_slice() == [5u64].as_slice()
         }
         None => false,
     };
