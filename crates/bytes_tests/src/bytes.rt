@@ -240,6 +240,40 @@ fn contexts_from_bytes(rt: HostRuntime) {
     );
 }
 
+/// How many incarnations of a node have dots, and how many gaps each has: more than one byte says.
+const WIDE: &[(u16, u16)] = &[(1, 300), (300, 1)];
+
+/// A context of so many incarnations of the second node. Each has the counters 1 and 2, and so many further ones with a gap before
+/// each.
+fn wide(alloc: Global, incarnations: u16, gaps: u16) -> Result<Context, NoMemory> {
+    let mut further = Vec::new(alloc);
+    for gap in 0..gaps {
+        further.push(4 + 2 * u64::from(gap))?;
+    }
+    let mut context = Context::empty(alloc);
+    for before in 0..incarnations {
+        context.push_row(origin(1, u64::from(before) + 1), 2, further.as_slice())?;
+    }
+    Ok(context)
+}
+
+/// Whether such a context is read from its own bytes, with all its dots.
+fn is_wide_read(alloc: Global, incarnations: u16, gaps: u16) -> Result<bool, ReadFault> {
+    let wanted = wide(alloc, incarnations, gaps)?;
+    let writer = ByteWriter::new(alloc).write_context(Version::Two, &wanted)?;
+    let bytes = writer.into_bytes();
+    let (read, _) = ByteReader::new(bytes.as_slice()).read_context(alloc, Version::Two, 3)?;
+    let dots = u128::from(incarnations) * (u128::from(gaps) + 2);
+    Ok(read.rows() == usize::from(incarnations) && read.len() == dots && read.is_subset(&wanted))
+}
+
+#[test]
+fn wide_contexts_are_read_again(rt: HostRuntime) {
+    for (incarnations, gaps) in WIDE {
+        assert!(rt; is_wide_read(rt.alloc(), *incarnations, *gaps) == Ok(true));
+    }
+}
+
 /// Bytes that are no context, each with the fault and its place. They are a count of much more than there is, a
 /// counter that continues, an origin without dots, and counter 0.
 const FAULTS: &[(&[u8], ReadFaultKind, usize)] = &[

@@ -1,14 +1,17 @@
 -- Waits and the start gate compute what they say in words. They do so for every list of notes and every state, also
 -- one that no operation made.
-use Rattle.std.specs.Prelude.{◌≡◌, ◌↔◌, ℕ, ◌<◌, true, List, length, Some}
+use Rattle.std.specs.Prelude.{◌≡◌, ◌↔◌, ℕ, ◌+◌, ◌<◌, true, List, length, Some}
 use Rattle.dac_base.specs.declared.AppId.{AppId}
-use Rattle.dac_config.specs.Table.{Table, app_count}
+use Rattle.dac_config.specs.Table.{Table, app_count, node_count, is_mandatory, timeout_of}
+use Rattle.dac_shapes.specs.declared.draft.SyncWait.TheVariants.{NoSync}
+use Rattle.dac_chains.specs.Lives.{IsLive}
+use Rattle.dac_decide.specs.declared.start_gate.Opening.TheVariants.{Opened}
 use Rattle.dac_chains.specs.declared.claims.Claim.{Claim}
 use Rattle.dac_placement.specs.StateValue.{StateValue}
 use Rattle.dac_base.specs.declared.NodeId.{NodeId}
 use Rattle.dac_placement.specs.declared.verdicts.Verdict.TheVariants.{Failover}
-use Rattle.dac_placement.specs.Placement.{IsFirst, IsVerdict}
-use Rattle.dac_decide.specs.FailoverWait.{Note, IsLost, lost_in, IsNotedSince, noted_of, noted_at, waits_of, IsDue, is_due}
+use Rattle.dac_placement.specs.Placement.{IsFirst, IsVerdict, verdict_of}
+use Rattle.dac_decide.specs.FailoverWait.{Note, IsHeldAt, IsLost, lost_in, IsNotedSince, noted_of, noted_at, waits_of, IsDue, is_due}
 use Rattle.dac_decide.specs.StartGate.{IsOpening, opening_of}
 
 -- which claim of an application is lost
@@ -40,3 +43,16 @@ abbrev pub NotesAreKept : Type 0
 NotesAreKept = (table : Table) (notes : List Note)
     → (length (waits_of table notes) ≡ app_count table)
     × ((app : AppId) → app.0 < app_count table → noted_at (waits_of table notes) app ≡ noted_of app notes)
+
+-- Where there is a time to wait, the start gate doesn't open while a mandatory node is live at no incarnation.
+abbrev pub NotWithoutMandatory : Type 0
+NotWithoutMandatory = (table : Table) (s : StateValue) (elapsed : ℕ) (node : NodeId) → ¬ (table.sync_wait ≡ NoSync)
+    → node.0 < node_count table → is_mandatory table node ≡ true → ((inc : ℕ) → ¬ (IsLive s.lives node inc))
+    → ¬ (opening_of table s elapsed ≡ Opened)
+
+-- A failover to another node than the lost holder's isn't due before the application's own time has passed since its claim
+-- was first noted as lost.
+abbrev pub NotBeforeItsTime : Type 0
+NotBeforeItsTime = (table : Table) (notes : List Note) (s : StateValue) (app : AppId) (claim : Claim) (n : NodeId) (since now : ℕ)
+    → verdict_of table s app ≡ Failover n → ¬ (IsHeldAt s app n) → IsNotedSince notes app claim since → IsLost s app claim
+    → now < since + timeout_of table app → ¬ (IsDue table notes s app now)

@@ -4,5 +4,6 @@ pub mod Due
 pub mod AllUp
 pub mod Kept
 pub mod FailsOver
+pub mod Early
 pub use Rattle.dac_placement.specs.laws.Judged
 pub use Rattle.dac_placement.specs.laws.Tests

@@ -34,7 +34,7 @@ has_from_on f (suc k) n = ap (λ b. eq_by_cmp nat_cmp n f || b) (has_from_on (su
 to_last : (f l n : ℕ) → (nat_le f n && nat_lt n (f + (l + 1 - f))) ≡ (nat_le f n && nat_le n l)
 to_last f l n = grind (arith, nat_tests)
 
-has_span : (span : Span) (n : ℕ) → has_key nat_cmp (counters_of_span span) n ≡ span_has n span
+pub has_span : (span : Span) (n : ℕ) → has_key nat_cmp (counters_of_span span) n ≡ span_has n span
 unfolding counters_of_span
 has_span span n = has_from_on span.first (span.last + 1 - span.first) n ∙ to_last span.first span.last n
 
@@ -61,17 +61,17 @@ unfolding from_on
 rising_from f zero = refl
 rising_from f (suc k) = and_from _ _ (below_from f (suc f) k (omega arith)) (rising_from (suc f) k)
 
-below_append : (x : ℕ) (xs ys : List ℕ) → is_below_all nat_cmp x xs ≡ true → is_below_all nat_cmp x ys ≡ true → is_below_all nat_cmp x (xs ++ ys) ≡ true
+pub below_append : (x : ℕ) (xs ys : List ℕ) → is_below_all nat_cmp x xs ≡ true → is_below_all nat_cmp x ys ≡ true → is_below_all nat_cmp x (xs ++ ys) ≡ true
 below_append x [] ys g h = h
 below_append x (y ∷ xs) ys g h = and_from _ _ (and_parts _ _ g).0 (below_append x xs ys (and_parts _ _ g).1 h)
 
-rising_after : (f k : ℕ) (ys : List ℕ) → ((x : ℕ) → x < f + k → is_below_all nat_cmp x ys ≡ true) → IsRising nat_cmp ys → IsRising nat_cmp (from_on f k ++ ys)
+pub rising_after : (f k : ℕ) (ys : List ℕ) → ((x : ℕ) → x < f + k → is_below_all nat_cmp x ys ≡ true) → IsRising nat_cmp ys → IsRising nat_cmp (from_on f k ++ ys)
 unfolding from_on
 rising_after f zero ys below h = h
 rising_after f (suc k) ys below h =
     and_from _ _ (below_append f (from_on (suc f) k) ys (below_from f (suc f) k (omega arith)) (below f (omega arith))) (rising_after (suc f) k ys (λ x p. below x (omega arith)) h)
 
-below_span : (x : ℕ) (span : Span) → x < span.first → is_below_all nat_cmp x (counters_of_span span) ≡ true
+pub below_span : (x : ℕ) (span : Span) → x < span.first → is_below_all nat_cmp x (counters_of_span span) ≡ true
 unfolding counters_of_span
 below_span x span p = below_from x span.first (span.last + 1 - span.first) p
 
@@ -790,7 +790,7 @@ module _ (spans : List Span) (h : are_apart 0 spans ≡ true) (now : List ℕ) (
       (λ n. all n ∙ further_has n ∙ sym (has_key-filter (λ n. nat_lt (reach_of now) n || nat_eq n 0) now n))
 
 -- 0 where the set has it
-zero_alone : (n : ℕ) → (eq_by_cmp nat_cmp n 0 || false) ≡ nat_eq n 0
+pub zero_alone : (n : ℕ) → (eq_by_cmp nat_cmp n 0 || false) ≡ nat_eq n 0
 zero_alone n = grind (arith, nat_tests)
 
 no_more_zero : (b : Bool) → false ≡ (b && false)

@@ -1,5 +1,5 @@
 -- Counters as spans: numbers that follow one another without a gap.
-use Rattle.std.specs.Prelude.{◌≡◌, ℕ, zero, suc, ◌+◌, ◌-◌, ◌≤◌, min, max, nat_le, nat_lt, ◌&&◌, Bool, true, false, cond, List, [], ◌∷◌, length}
+use Rattle.std.specs.Prelude.{◌≡◌, ℕ, zero, suc, ◌+◌, ◌-◌, ◌≤◌, min, max, nat_le, nat_lt, ◌&&◌, Bool, true, false, cond, List, [], ◌∷◌, ◌++◌, length}
 use Rattle.std.specs.List.{flat_map, list_any, AllByRecursion, AllWithin}
 use Rattle.dac_dots.specs.declared.spans.Span.{Span}
 use Rattle.dac_dots.specs.declared.spans.Spans.{Spans}
@@ -29,6 +29,11 @@ any_span spans n = list_any (span_has n) spans
 -- whether one of the spans that begin above upto has the counter
 abbrev pub any_past : ℕ → List Span → ℕ → Bool
 any_past upto spans n = list_any (λ (span : Span). nat_lt upto span.first && span_has n span) spans
+
+-- the counters of those spans that begin above upto, in the order of the spans
+abbrev pub past : ℕ → List Span → List ℕ
+past upto [] = []
+past upto (span ∷ spans) = cond (nat_lt upto span.first) (counters_of_span span) [] ++ past upto spans
 
 -- Each span has a counter, the first begins at low or later, and a counter lies between a span and the next.
 abbrev pub are_apart : ℕ → List Span → Bool

@@ -6,7 +6,8 @@ ghost use Rattle.dac_origins.specs.Keys.{IsRising, has_key};
 ghost use Rattle.dac_origins.specs.declared.dot.Dot.{Dot};
 ghost use Rattle.dac_dots.specs.DotFilters.{may_have};
 ghost use Rattle.dac_dots.specs.Rows.{IsGreatest, further_of, reach_of};
-ghost use Rattle.dac_dots.specs.Spans.{AreSpans, HaveEnded, any_past, any_span, are_apart, counters_in, span_has};
+ghost use Rattle.dac_dots.specs.Spans.{AreSpans, HaveEnded, any_past, any_span, are_apart, counters_in, past, span_has};
+ghost use Rattle.std.specs.List.{slice_get};
 
 use crate::filter::DotFilter;
 use crate::spans::{Span, Spans};
@@ -50,6 +51,24 @@ fn list_past(counters: &mut Vec<u64>, upto: u64, spans: &[Span]) -> Result<(), N
         }
     }
     Ok(())
+}
+
+/// The counter at this place among those of the spans that begin above `low`.
+fn past_at(spans: &[Span], low: u64, place: u128) -> Option<u64>
+    requires { AreSpans spans.now }
+    ensures { result ≡ slice_get (past low spans.now) place }
+{
+    let mut left = place;
+    for span in spans {
+        if low < span.first {
+            let len = span.len();
+            if left < len {
+                return Some(span.at(left));
+            }
+            left -= len;
+        }
+    }
+    None
 }
 
 /// Sets the slot of each dot of an origin whose counter is in a span.
@@ -347,6 +366,21 @@ impl Counters {
         }
         list_past(&mut further, self.upto(), self.spans())?;
         Ok(further)
+    }
+
+    /// The counter at this place, from 0, among those that aren't 1 to `upto`, in rising order. It takes no memory.
+    pub(crate) fn further_at(&self, place: u128) -> Option<u64>
+        ensures { result ≡ slice_get (further_of (reach_of self.now) self.now) place }
+    {
+        let spans = self.spans();
+        let mut left = place;
+        if self.contains(0) {
+            if left == 0 {
+                return Some(0);
+            }
+            left -= 1;
+        }
+        past_at(spans, self.upto(), left)
     }
 
     /// Sets the slot of each dot of an origin whose counter is in the set.

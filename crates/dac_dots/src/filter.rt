@@ -29,8 +29,8 @@ impl DotFilter {
         DotFilter { slots: [0; WORDS] }
     }
 
-    /// Each slot is set.
-    pub(crate) fn all() -> Self
+    /// Each slot is set: it tells nothing of any dot.
+    pub fn all() -> Self
         ensures { (q : Dot) → may_have result.slots q ≡ true }
     {
         DotFilter {

@@ -1,5 +1,6 @@
 //! The dots of one origin: how far its counters go without a gap, and the further ones.
 ghost use Rattle.std.specs.Prelude.{◌≡◌, ◌↔◌, ◌+◌, ◌^◌, ◌<◌, ◌≤◌, ◌||◌, ◌∷◌, [], length, false, true, IfOk, IsTrue, OnErr, OnOk};
+ghost use Rattle.std.specs.List.{slice_get};
 ghost use Rattle.std.specs.Ordering.{nat_cmp};
 ghost use Rattle.dac_dots.specs.DotFilters.{may_have};
 ghost use Rattle.dac_dots.specs.Rows.{has_counter, HasBoth, HasMore, HasSome, IsLastOf, IsOne, IsPlaceOf, HasAlso, IsWithinRow, origins, rises_on, row_has};
@@ -61,6 +62,13 @@ impl<'a> Further<'a> {
         ensures { IfOk result (λ further. further.items ≡ self.now) }
     {
         self.counters.further(alloc)
+    }
+
+    /// The counter at this place, from 0. It takes no memory, and goes through the gaps before it.
+    pub fn get(&self, place: usize) -> Option<u64>
+        ensures { result ≡ slice_get self.now place }
+    {
+        self.counters.further_at(place as u128)
     }
 
     /// How many counters there are.

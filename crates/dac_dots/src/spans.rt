@@ -37,6 +37,15 @@ impl Span {
         u128::from(self.last - self.first) + 1
     }
 
+    /// The counter at this place of the span, from 0.
+    pub(crate) fn at(self, place: u128) -> u64
+        requires valid { self.first ≤ self.last }
+        requires within { place < self.last + 1 - self.first }
+        ensures { result ≡ self.first + place }
+    {
+        self.first + place as u64
+    }
+
     /// From where the first of both begins to where the last of both ends.
     fn hull(self, other: Span) -> Span
         ensures { result ≡ hull self other }

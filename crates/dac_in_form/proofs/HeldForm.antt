@@ -16,7 +16,7 @@ use Rattle.dac_model_world.specs.ModelWorld.{InEachRun}
 use Rattle.dac_model_world.specs.Convergence.{heard_among}
 use Rattle.dac_model_world.specs.Converges.{Converges}
 use Rattle.dac_model_world.specs.laws.Operations.{Agree-within, DistinctDots-agree}
-use Rattle.dac_in_form.specs.InForm.{StateFits, AreInForm, MeaningsAreInForm}
+use Rattle.dac_in_form.specs.InForm.{StateFits, IsSmall, AreInForm, MeaningsAreInForm}
 use Rattle.dac_in_form.specs.HeldForm.{BodyFits, HeldAreInForm}
 
 -- what passes a test is among the operations
@@ -29,9 +29,9 @@ of_filter : (p : Operation → Bool) (os : List Operation) → AreOperationsOf (
 of_filter p [] o i = i
 of_filter p (x ∷ os) o i = passed_is (p x) o x os (filter p os) (of_filter p os o) i
 
-module _ (means : MeaningsAreInForm) (t : Table) (os all : List Operation) (inside : AreOperationsOf os all) (agree : DotsDetermine all) (form : AreInForm t all) where
+module _ (means : MeaningsAreInForm) (t : Table) (small : IsSmall t) (os all : List Operation) (inside : AreOperationsOf os all) (agree : DotsDetermine all) (form : AreInForm t all) where
   state_in_form : (s : StateValue) → s ≡ meaning_of os → StateFits s → IsInForm Two t s
-  state_in_form s is fits = subst (IsInForm Two t) (sym is) (means t os (Agree-within os all inside agree) (λ o i. form o (inside o i)) (subst StateFits is fits))
+  state_in_form s is fits = subst (IsInForm Two t) (sym is) (means t os small (Agree-within os all inside agree) (λ o i. form o (inside o i)) (subst StateFits is fits))
 
   body_in_form : (b : Body) → content_of b ≡ meaning_of os → BodyFits b → IsBodyInForm Two t b
   body_in_form (Whole s) is fits = state_in_form s is fits
@@ -43,6 +43,6 @@ held_are_in_form means converge t events answers v ran =
     let c = converge t events answers v ran in
     let agree = DistinctDots-agree v.operations c.distinct in
     record {
-      states = λ form n s runs fits. state_in_form means t (heard_among s.heard v.operations) v.operations (of_filter (λ (o : Operation). set.contains s.heard o.dot) v.operations) agree form s (c.headline.each n s runs) fits;
-      bodies = λ form k m there fits. let os = c.bodies.each k m there in body_in_form means t os.0 v.operations os.1.0 agree form m.body os.1.1 fits;
+      states = λ small form n s runs fits. state_in_form means t small (heard_among s.heard v.operations) v.operations (of_filter (λ (o : Operation). set.contains s.heard o.dot) v.operations) agree form s (c.headline.each n s runs) fits;
+      bodies = λ small form k m there fits. let os = c.bodies.each k m there in body_in_form means t small os.0 v.operations os.1.0 agree form m.body os.1.1 fits;
     }

@@ -1,9 +1,10 @@
 -- What operations in form mean, part by part.
-use Rattle.std.specs.Prelude.{◌≡◌, ℕ, true, false, cond, T, List, [], ◌∷◌, Option, None, Some, is_some, unwrap_or, refl}
-use Rattle.std.proofs.Common.{sym, ap, subst, ◌∙◌, inl, inr, true≢false}
+use Rattle.std.specs.Prelude.{◌≡◌, ℕ, ◌+◌, ◌<◌, ◌≤◌, ◌^◌, length, true, false, cond, T, List, [], ◌∷◌, Option, None, Some, is_some, unwrap_or, refl}
+use Rattle.std.proofs.Common.{sym, ap, subst, ◌∙◌, inl, inr, arith, true≢false}
 use Rattle.std.specs.declared.cmp.Ordering.{Ordering}
-use Rattle.std.specs.Ordering.{eq_by_cmp, is_eq}
-use Rattle.std.specs.Cmp.{IsTotalOrder, tied_itself}
+use Rattle.std.specs.declared.cmp.Ordering.TheVariants.{Less, Equal, Greater}
+use Rattle.std.specs.Ordering.{eq_by_cmp, is_eq, is_lt}
+use Rattle.std.specs.Cmp.{IsTotalOrder, ranked, tied_itself}
 use Rattle.std.specs.List.{AllByRecursion}
 use Rattle.std.specs.FinSet as set
 use Rattle.std.specs.FinMap as map
@@ -13,6 +14,9 @@ use Rattle.std.proofs.lemmas.Bool.{or_cases}
 use Rattle.std.proofs.lemmas.Map.Lookups.{CmpEqualImpliesEq}
 use Rattle.dac_base.specs.declared.NodeId.{NodeId}
 use Rattle.dac_base.specs.declared.AppId.{AppId}
+use Rattle.dac_base.specs.Ids.{node_cmp, app_cmp}
+use Rattle.dac_base.specs.Limits.{the_limits}
+use Rattle.dac_base.specs.declared.limits.TheConstants.{MAX_NODES, MAX_APPS}
 use Rattle.dac_base.specs.laws.Ids.{nodes_total, exact_nodes, apps_total, exact_apps}
 use Rattle.dac_origins.specs.declared.dot.Dot.{Dot}
 use Rattle.dac_origins.specs.declared.dot.Origin.{Origin}
@@ -37,7 +41,7 @@ use Rattle.dac_operations.specs.Operations.{Operation, over_list}
 use Rattle.dac_meaning.specs.StateValue.{StateValue}
 use Rattle.dac_meaning.specs.Meaning.{IsOperationOf, DotsDetermine, meaning_of}
 use Rattle.dac_meaning.specs.MeaningLaws.{HeardAreDots, KnownAreNamed, PermitsAreUnreplaced, StartsAreUnreplaced, LivesAreGreatest, ClaimsAreGreatest, DrainsAreUnreplaced, MeaningsAreStates, SaysLife, IsClaim}
-use Rattle.dac_config.specs.Table.{Table, node_count}
+use Rattle.dac_config.specs.Table.{Table, node_count, app_count}
 use Rattle.dac_bytes.specs.Ranges.{IsDot, IsOrigin, InRange}
 use Rattle.dac_bytes.specs.declared.version.Version.TheVariants.{Two}
 use Rattle.dac_part_bytes.specs.ChainForm.{IsLifeInForm, IsClaimInForm as IsClaimEntry}
@@ -45,7 +49,7 @@ use Rattle.dac_part_bytes.specs.KeyedForm.{IsKey, IsKnownDot, IsKnownWrite}
 use Rattle.dac_state.specs.StateForm.{IsInForm}
 use Rattle.dac_wire.specs.Form.{IsAct, IsClaimInForm}
 use Rattle.dac_model_node.specs.Step.{up as boot_of}
-use Rattle.dac_in_form.specs.InForm.{StateFits, AreInForm}
+use Rattle.dac_in_form.specs.InForm.{StateFits, IsSmall, AreInForm}
 use Rattle.dac_in_form.proofs.MayIssue.{MayIssue}
 
 none_some : {X : Type 0} {v : X} {Y : Type 0} → ◌≡◌ {A = Option X} None (Some v) → Y
@@ -88,6 +92,56 @@ module _ {K X : Type 0} {R : K → K → Ordering} (total : IsTotalOrder R) (exa
 
   of_entries : (P : K × X → Type 0) (m : map.FinMap R X) → ((k : K) (x : X) → map.get m k ≡ Some x → P (k, x)) → AllByRecursion P (map.entries m)
   of_entries P m each = all_found P (map.entries m) (map.entries_sorted m) (λ k x p. each k x (map.get-entries m k ∙ p))
+
+-- ---- keys below a number
+
+all_below : {X : Type 0} {P Q : X → Type 0} → ((x : X) → P x → Q x) → (xs : List X) → AllByRecursion P xs → AllByRecursion Q xs
+all_below f [] h = tt
+all_below f (x ∷ xs) h = (f x h.0, all_below f xs h.1)
+
+is_less : (o : Ordering) → T (is_lt o) → o ≡ Less
+is_less Less p = refl
+is_less Equal p = absurd p
+is_less Greater p = absurd p
+
+-- no more entries than numbers below this one, where each key has its own
+module _ {K X : Type 0} {R : K → K → Ordering} (number : K → ℕ) (less : (a b : K) → R a b ≡ Less → number a < number b) where
+  later : (k : K) (es : List (K × X)) → T (below_all R k es) → AllByRecursion (λ (e : K × X). number k + 1 ≤ number e.0) es
+  later k [] h = tt
+  later k (e ∷ es) h = let more = less k e.0 (is_less (R k e.0) (first _ _ h)) in (omega (arith, more), later k es (second _ _ h))
+
+  from_on : (lo hi : ℕ) (es : List (K × X)) → lo ≤ hi → T (is_sorted R es) → AllByRecursion (λ (e : K × X). lo ≤ number e.0) es → AllByRecursion (λ (e : K × X). number e.0 < hi) es → lo + length es ≤ hi
+  from_on lo hi [] below h low high = omega arith
+  from_on lo hi (e ∷ es) below h low high =
+      let under = high.0 in
+      let above = low.0 in
+      let rest : number e.0 + 1 + length es ≤ hi = from_on (number e.0 + 1) hi es (omega (arith, under)) (second _ _ h) (later e.0 es (first _ _ h)) high.1 in
+      omega (arith, rest, above)
+
+  each_from : (es : List (K × X)) → AllByRecursion (λ (e : K × X). 0 ≤ number e.0) es
+  each_from [] = tt
+  each_from (e ∷ es) = (omega arith, each_from es)
+
+  few_entries : (es : List (K × X)) (hi : ℕ) → T (is_sorted R es) → AllByRecursion (λ (e : K × X). number e.0 < hi) es → length es ≤ hi
+  few_entries es hi h high = let all = from_on 0 hi es (omega arith) h (each_from es) high in omega (arith, all)
+
+abbrev node_number : NodeId → ℕ
+node_number n = n.0
+
+abbrev app_number : AppId → ℕ
+app_number a = a.0
+
+node_less : (a b : NodeId) → node_cmp a b ≡ Less → node_number a < node_number b
+node_less a b e = ranked a.0 b.0 Less (sym e)
+
+app_less : (a b : AppId) → app_cmp a b ≡ Less → app_number a < app_number b
+app_less a b e = ranked a.0 b.0 Less (sym e)
+
+small_byte : (n k : ℕ) → n ≤ MAX_NODES → k ≤ n → k < 2 ^ 8
+small_byte n k p q = let is = the_limits.0 in omega (arith, is)
+
+small_word : (n k : ℕ) → n ≤ MAX_APPS → k ≤ n → k < 2 ^ 16
+small_word n k p q = let is = the_limits.1.0 in omega (arith, is)
 
 -- ---- the parts
 stands : (o : Option Flag) → is_some o ≡ true → (f : Flag) × (o ≡ Some f)
@@ -159,15 +213,21 @@ module _ (t : Table) (os : List Operation) (agree : DotsDetermine os) (form : Ar
         let is : IsClaimInForm t c.origin.node app c.term c.how c.from = subst (λ (q : Origin). IsClaimInForm t q.node app c.term c.how c.from) origin_is (act_in_form f.0 (Claim app c.term c.how c.from) f.1.0 f.1.1.1) in
         record { app = is.app; first = is.first; last = is.last; origin = subst (IsOrigin Two nodes) origin_is (form f.0 f.1.0).dot.origin; listed = is.listed; from = is.from }
 
-    pub meaning_in_form : StateFits s → IsInForm Two t s
-    meaning_in_form fits = record {
-      heard = (heard_dots, fits.heard);
-      known = (known_dots, fits.known);
+    each_life : AllByRecursion (IsLifeInForm Two nodes) (map.entries s.lives)
+    each_life = of_entries nodes_total exact_nodes (IsLifeInForm Two nodes) s.lives life_in_form
+
+    each_claim : AllByRecursion (IsClaimEntry Two t) (map.entries s.claims)
+    each_claim = of_entries apps_total exact_apps (IsClaimEntry Two t) s.claims claim_in_form
+
+    pub meaning_in_form : IsSmall t → StateFits s → IsInForm Two t s
+    meaning_in_form small fits = record {
+      heard = (heard_dots, record { origins = fits.heard.origins; further = fits.heard.further });
+      known = (known_dots, record { origins = fits.known.origins; further = fits.known.further });
       within = (states os).heard;
       permits = record { each = permit_in_form; keys = fits.permits.keys; dots = fits.permits.dots };
       starts = record { each = start_in_form; keys = fits.starts.keys; dots = fits.starts.dots };
-      lives = record { each = of_entries nodes_total exact_nodes (IsLifeInForm Two nodes) s.lives life_in_form; count = fits.lives };
-      claims = record { each = of_entries apps_total exact_apps (IsClaimEntry Two t) s.claims claim_in_form; count = fits.claims };
+      lives = record { each = each_life; count = small_byte nodes (length (map.entries s.lives)) small.nodes (few_entries node_number node_less (map.entries s.lives) nodes (map.entries_sorted s.lives) (all_below (λ e is. is.node) (map.entries s.lives) each_life)) };
+      claims = record { each = each_claim; count = small_word (app_count t) (length (map.entries s.claims)) small.apps (few_entries app_number app_less (map.entries s.claims) (app_count t) (map.entries_sorted s.claims) (all_below (λ e is. is.app) (map.entries s.claims) each_claim)) };
       drains = record { each = drain_in_form; keys = fits.drains.keys; dots = fits.drains.dots };
     }
 

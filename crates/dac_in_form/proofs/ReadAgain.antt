@@ -20,6 +20,7 @@ use Rattle.dac_wire.specs.declared.packet.Packet.TheVariants.{Msg, Single}
 use Rattle.dac_wire.specs.laws.Fronts.{version_is}
 use Rattle.dac_wire.specs.laws.PacketLaws.{packet_again}
 use Rattle.dac_model_world.specs.ModelWorld.{InEachRun}
+use Rattle.dac_in_form.specs.InForm.{IsSmall}
 use Rattle.dac_in_form.specs.Issued.{RunIsInForm}
 use Rattle.dac_in_form.specs.ReadAgain.{StateIsRead, PacketIsRead, EachRunIsRead}
 
@@ -38,11 +39,11 @@ module _ (t : Table) (parts : PartCodecs Two t) (states : IsCodec (parts_at Two 
       ap (λ (bytes : List ℕ). parts_at Two t (whole bytes) >>= λ s. cond (length s.1.bytes == 0) (Ok s.0) (fault Trailing s.1)) (sym (append-nil (state.state_bytes Two s)))
       ∙ ap (λ f. f >>= λ s. cond (length s.1.bytes == 0) (Ok s.0) (fault Trailing s.1)) (states.again s is 0 [])
 
-  pub each_run_is_read : InEachRun RunIsInForm → EachRunIsRead t
-  each_run_is_read runs events answers v ran =
+  pub each_run_is_read : IsSmall t → InEachRun RunIsInForm → EachRunIsRead t
+  each_run_is_read small runs events answers v ran =
       let run = runs t events answers v ran in
       record {
         issued = λ o i. packet_read (Single o) (run.issued o i);
-        states = λ n s held fits. state_read s (run.states n s held fits);
-        shipped = λ k m there fits. packet_read (Msg m) (run.shipped k m there fits);
+        states = λ n s held fits. state_read s (run.states small n s held fits);
+        shipped = λ k m there fits. packet_read (Msg m) (run.shipped small k m there fits);
       }

@@ -242,8 +242,8 @@ runs_are_in_form means held t events answers v ran =
     let parts = held t events answers v ran in
     record {
       issued = issued;
-      states = parts.states issued;
-      shipped = λ k m there fit.
+      states = λ small. parts.states small issued;
+      shipped = λ small k m there fit.
           let head = head_at t ran.final.messages k m all.messages (ap (λ ms. slice_get ms k) (sym ran.shows.messages) ∙ there) in
-          record { from = head.from; to = head.to; only = head.only; up_to = head.up_to; ack = head.ack; body = parts.bodies issued k m there fit };
+          record { from = head.from; to = head.to; only = head.only; up_to = head.up_to; ack = head.ack; body = parts.bodies small issued k m there fit };
     }

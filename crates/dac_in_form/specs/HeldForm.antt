@@ -14,7 +14,7 @@ use Rattle.dac_events.specs.declared.world_fault.WorldFault.{WorldFault}
 use Rattle.dac_wire.specs.Form.{IsBodyInForm}
 use Rattle.dac_model_world.specs.WorldValue.{WorldValue}
 use Rattle.dac_model_world.specs.Convergence.{RunsWith}
-use Rattle.dac_in_form.specs.InForm.{StateFits, AreInForm}
+use Rattle.dac_in_form.specs.InForm.{StateFits, IsSmall, AreInForm}
 
 -- the counts of the state that it brings, if any, fit their fields
 abbrev pub BodyFits : Body → Type 0
@@ -22,10 +22,11 @@ BodyFits (Whole s) = StateFits s
 BodyFits (Interval s) = StateFits s
 BodyFits Nothing = Unit {0}
 
--- Where the operations that were issued are in form, so is what is made of them. It is each running controller's state,
+-- Where the configuration keeps its limits and the operations that were issued are in form, so is what is made of them. It is each running controller's state,
 -- and the state that each shipped message brings, whose counts fit their fields.
 pub record HeldAreInForm (t : Table) (events : List WorldEvent) (answers : List (Result Reply WorldFault))
     (v : WorldValue) : Type 0 where
-  pub states : AreInForm t v.operations → (n : ℕ) (s : StateValue) → RunsWith v n s → StateFits s → IsInForm Two t s
-  pub bodies : AreInForm t v.operations → (k : ℕ) (m : Message) → slice_get v.messages k ≡ Some m → BodyFits m.body
-      → IsBodyInForm Two t m.body
+  pub states : IsSmall t → AreInForm t v.operations → (n : ℕ) (s : StateValue) → RunsWith v n s → StateFits s
+      → IsInForm Two t s
+  pub bodies : IsSmall t → AreInForm t v.operations → (k : ℕ) (m : Message) → slice_get v.messages k ≡ Some m
+      → BodyFits m.body → IsBodyInForm Two t m.body

@@ -1,8 +1,8 @@
 -- What is in form of what runs hold. Operations in form mean a state in form, where the counts fit their fields.
-use Rattle.std.specs.Prelude.{◌<◌, ◌^◌, List, length}
+use Rattle.std.specs.Prelude.{◌<◌, ◌≤◌, ◌^◌, List, length}
 use Rattle.std.specs.declared.cmp.Ordering.{Ordering}
-use Rattle.std.specs.FinMap as map
-use Rattle.dac_origins.specs.Dots.{origin_cmp}
+use Rattle.std.specs.List.{AllByRecursion}
+use Rattle.dac_origins.specs.Dots.{Dots, origin_cmp}
 use Rattle.dac_origins.specs.InOrder.{in_order}
 use Rattle.dac_wishes.specs.declared.key.Key.{Key}
 use Rattle.dac_wishes.specs.Keys.{key_cmp}
@@ -13,11 +13,17 @@ use Rattle.dac_wishes.specs.VotesByKey.{votes_by_key}
 use Rattle.dac_operations.specs.Operations.{Operation}
 use Rattle.dac_meaning.specs.StateValue.{StateValue}
 use Rattle.dac_meaning.specs.Meaning.{IsOperationOf, DotsDetermine, meaning_of}
-use Rattle.dac_config.specs.Table.{Table}
-use Rattle.dac_bytes.specs.Ranges.{CountsFit}
+use Rattle.dac_base.specs.declared.limits.TheConstants.{MAX_NODES, MAX_APPS}
+use Rattle.dac_config.specs.Table.{Table, node_count, app_count}
+use Rattle.dac_dots.specs.Rows.{Row, rows_of}
 use Rattle.dac_bytes.specs.declared.version.Version.TheVariants.{Two}
 use Rattle.dac_state.specs.StateForm.{IsInForm}
 use Rattle.dac_wire.specs.Form.{IsOperation}
+
+-- how many origins have dots, and how many further counters each has, fits its field: two bytes and four
+pub record ContextFits (dots : Dots) : Type 0 where
+  pub origins : length (rows_of dots) < 2 ^ 16
+  pub further : AllByRecursion (λ (row : Row). length row.further < 2 ^ 32) (rows_of dots)
 
 -- how many keys have votes, and how many votes each key has, fits its field
 pub record VotesFit {K : Type 0} (R : K → K → Ordering) (votes : Votes R) : Type 0 where
@@ -29,15 +35,19 @@ pub record StartsFit (starts : Writes) : Type 0 where
   pub keys : length (starts_by_key starts) < 2 ^ 32
   pub dots : (key : Key) → length (in_order (dots_at key starts)) < 2 ^ 32
 
--- The counts of a state fit the fields that they are written in. This says nothing of any name or number.
+-- The counts of a state fit the fields that they are written in, of two bytes and of four. This says nothing of any name or
+-- number, and nothing of lives and claims: there are no more of them than nodes and applications.
 pub record StateFits (s : StateValue) : Type 0 where
-  pub heard : CountsFit s.heard
-  pub known : CountsFit s.known
+  pub heard : ContextFits s.heard
+  pub known : ContextFits s.known
   pub permits : VotesFit key_cmp s.permits
   pub starts : StartsFit s.starts
-  pub lives : length (map.entries s.lives) < 2 ^ 8
-  pub claims : length (map.entries s.claims) < 2 ^ 16
   pub drains : VotesFit origin_cmp s.drains
+
+-- there are no more nodes and applications than a configuration may have
+pub record IsSmall (t : Table) : Type 0 where
+  pub nodes : node_count t ≤ MAX_NODES
+  pub apps : app_count t ≤ MAX_APPS
 
 -- each of the operations has bytes that are read again
 abbrev pub AreInForm : Table → List Operation → Type 0
@@ -46,5 +56,5 @@ AreInForm t os = (o : Operation) → IsOperationOf o os → IsOperation Two t o
 -- What they mean has such bytes too, where the counts fit their fields. This asks that no two different operations have
 -- one dot.
 abbrev pub MeaningsAreInForm : Type 0
-MeaningsAreInForm = (t : Table) (os : List Operation) → DotsDetermine os → AreInForm t os → StateFits (meaning_of os)
-    → IsInForm Two t (meaning_of os)
+MeaningsAreInForm = (t : Table) (os : List Operation) → IsSmall t → DotsDetermine os → AreInForm t os
+    → StateFits (meaning_of os) → IsInForm Two t (meaning_of os)

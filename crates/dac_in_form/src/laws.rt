@@ -28,7 +28,7 @@ pub fn held_are_in_form()
 
 /// What runs issue, hold and ship is in form. It is so of each run of the model world: of each operation that was issued,
 /// and, where the counts fit their fields, of each controller's state and of each message that was shipped. Nothing
-/// else is asked, because what bytes can't say is refused.
+/// else is asked but the limits of a configuration, because what bytes can't say is refused.
 pub fn runs_are_in_form()
     ensures { InEachRun RunIsInForm }
 {
@@ -42,6 +42,8 @@ pub fn runs_are_in_form()
 pub fn runs_are_read(config: &Config)
     ensures { EachRunIsRead config.now }
 {
+    let _nodes = config.nodes();
+    let _apps = config.apps();
     runs_are_in_form();
     parts_have_one_spelling(config);
     states_have_one_spelling(config);

@@ -7,7 +7,7 @@
 pub use callers::{answers_of, are_asked, are_told, strange_node};
 pub use dac_crews::{Ask, Closed, Gate, Line, Page, Phase, RunFault};
 pub use dac_sites::{
-    Answer, Call, CloseFault, LiveFault, OpenFault, PageReader, Receipt, Record, Seat, Site,
+    Answer, Call, CloseFault, Desk, LiveFault, OpenFault, PageReader, Receipt, Record, Seat, Site,
     SiteBlank, SiteName, blank_site, laws, open_site,
 };
 pub use dac_workers::{Reading, fresh_page, links};

@@ -114,6 +114,14 @@ impl AppList {
         AppList { apps }
     }
 
+    /// The vector of the applications. It takes no memory.
+    pub fn into_vec(self) -> Vec<AppId>
+        ensures { result.items ≡ self }
+    {
+        let AppList { apps } = self;
+        apps
+    }
+
     /// The applications in their order.
     pub fn as_slice(&self) -> &[AppId]
         ensures { result.now ≡ self.now }

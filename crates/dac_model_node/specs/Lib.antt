@@ -12,6 +12,8 @@ pub mod Keeping
 pub mod Dropping
 pub mod Effect
 pub mod Again
+pub mod HeldBack
+pub mod Gates
 pub mod laws
 pub use Rattle.dac_peers.specs.Peers
 pub use Rattle.dac_peers.specs.declared.positions.Position

@@ -12,4 +12,6 @@ pub mod Staying
 pub mod Effect
 pub mod Shipping
 pub mod Again
+pub mod HeldBack
+pub mod Gates
 pub use Rattle.dac_ticks.specs.laws.Claims

@@ -4,6 +4,8 @@ ghost use Rattle.dac_model_node.specs.Again.{SecondTickClaimsNothing};
 ghost use Rattle.dac_model_node.specs.Shipping.{ShipsInWords};
 ghost use Rattle.dac_model_node.specs.Dropping.{DropsInWords};
 ghost use Rattle.dac_model_node.specs.Effect.{EventsTakeEffect};
+ghost use Rattle.dac_model_node.specs.Gates.{OpenIsOpen, OpenStays, TicksOpen};
+ghost use Rattle.dac_model_node.specs.HeldBack.{HeldTicksCount, HeldTicksNoteNothing};
 
 /// The table of causes answers, of the causes that the event can have and that hold in words, the one with the least
 /// number. It lets an event through only where none of them holds, and it never answers `NoMemory`.
@@ -37,4 +39,19 @@ pub fn drops_in_words()
 /// state that all of them leave.
 pub fn events_take_effect()
     ensures { EventsTakeEffect }
+{}
+
+/// A tick that is held back notes nothing, so no wait of a failover begins or ends while the start gate is shut. Its moment
+/// counts all the same: a tick at an earlier one is refused after it.
+pub fn held_ticks_wait()
+    ensures notes { HeldTicksNoteNothing }
+    ensures moment { HeldTicksCount }
+{}
+
+/// A tick by which a node looks after its applications leaves its start gate open. It stays so until the node goes off, and up to
+/// then the node never waits for others again, nor gives up.
+pub fn open_gates_stay()
+    ensures opened { TicksOpen }
+    ensures stays { OpenStays }
+    ensures found { OpenIsOpen }
 {}

@@ -18,6 +18,7 @@ use Rattle.dac_model_world.specs.Shares.{SharesUnite}
 use Rattle.dac_model_world.specs.Issuing.{TellIssued}
 use Rattle.dac_model_world.specs.Causality.{HandsNothing, IsCausal}
 use Rattle.dac_model_world.specs.Records.{HaveHistories}
+use Rattle.dac_model_world.specs.Gates.{StayOpen}
 
 -- what these events, answered so, leave in the program's world
 pub record Converges (t : Table) (events : List WorldEvent) (answers : List (Result Reply WorldFault))
@@ -59,5 +60,8 @@ pub record Converges (t : Table) (events : List WorldEvent) (answers : List (Res
   -- where no single operation is handed, each controller has heard what is causally before what it heard, and
   -- the maximal writes stand
   pub causal : HandsNothing events answers → IsCausal v (set_run no_sets events answers)
+  -- From each tick on by which a controller looked after its applications, no tick of it is held back or makes it give up, until
+  -- it goes off.
+  pub gates : StayOpen events answers
   -- what happened at each controller is a history of it, from never booted to where the run leaves it
   pub histories : HaveHistories t events answers v

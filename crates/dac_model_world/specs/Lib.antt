@@ -23,3 +23,4 @@ pub use Rattle.dac_model_node.specs.Keeping
 pub use Rattle.dac_model_node.specs.ModelNode
 pub use Rattle.dac_model_node.specs.NodeValue
 pub use Rattle.dac_model_node.specs.Step
+pub mod Gates

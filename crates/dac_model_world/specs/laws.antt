@@ -28,6 +28,7 @@ pub mod Histories
 pub mod Records
 pub mod EveryList
 pub mod Follow
+pub mod StaysOpen
 pub use Rattle.dac_model_node.specs.laws.Options
 pub use Rattle.dac_model_node.specs.laws.Staying
 pub use Rattle.dac_model_node.specs.laws.Steps

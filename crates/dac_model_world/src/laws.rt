@@ -3,6 +3,7 @@
 //! A proof that needs a law calls its function. The functions take nothing and answer nothing.
 ghost use Rattle.dac_model_world.specs.ModelWorld.{InEachRun, RanAs};
 ghost use Rattle.dac_model_world.specs.Converges.{Converges};
+ghost use Rattle.dac_model_world.specs.Gates.{GatesStayOpen};
 ghost use Rattle.dac_model_world.specs.Records.{RecordsAreHistories};
 ghost use Rattle.dac_model_world.specs.EveryList.{IsEnough, OfEachList, RunsEachList};
 
@@ -21,7 +22,8 @@ ghost use Rattle.dac_model_world.specs.EveryList.{IsEnough, OfEachList, RunsEach
 /// It leaves them the union of their sets, where each knows the others' present incarnations or nothing of their lives.
 /// Where no single operation is handed, each controller has with each operation all that were causally before it. What
 /// stands in its state are then exactly the maximal writes. What happened at each controller, its own events with their
-/// answers, is a history of it. The history goes from never booted to where the run leaves it.
+/// answers, is a history of it. The history goes from never booted to where the run leaves it. From each tick on by which a
+/// controller looked after its applications, its start gate stays open until it goes off.
 pub fn runs_converge()
     ensures converges { InEachRun Converges }
     // The same of the model nodes, wherever the run goes.
@@ -35,4 +37,10 @@ pub fn every_list_converges()
     ensures enough { OfEachList (λ t events answers v. IsEnough answers) }
     ensures shown { OfEachList RanAs }
     ensures converges { OfEachList Converges }
+{}
+
+/// A start gate that opened stays open. In every history of a node, no tick after one by which it looked after its applications
+/// is held back or makes it give up, until the node goes off.
+pub fn gates_stay_open()
+    ensures { GatesStayOpen }
 {}

@@ -1,3 +1,4 @@
 pub mod KeyLaws
 pub mod Dots
 pub mod InOrder
+pub mod Bools

@@ -7,7 +7,7 @@ ghost use Rattle.dac_origins.specs.Keys.{IsRising, has_key};
 use dac_base::{AppId, NoMemory, NodeId};
 
 /// A type of keys: copied, and ordered so that only equal keys tie. Any type whose order is derived from
-/// numbers qualifies.
+/// numbers qualifies. Numbers that are a key already are named below, and so are pairs of keys.
 pub trait MapKey: Ord + Copy {
     /// Only equal keys tie.
     ghost exact: { CmpEqualImpliesEq Self.cmp };
@@ -35,6 +35,37 @@ impl MapKey for u64 {
     ghost use Rattle.std.proofs.lemmas.Map.Lookups.{exact_unsigned};
 
     ghost exact = { exact_unsigned };
+}
+
+impl MapKey for u128 {
+    ghost use Rattle.std.proofs.lemmas.Map.Lookups.{exact_unsigned};
+
+    ghost exact = { exact_unsigned };
+}
+
+impl MapKey for usize {
+    ghost use Rattle.std.proofs.lemmas.Map.Lookups.{exact_unsigned};
+
+    ghost exact = { exact_unsigned };
+}
+
+impl MapKey for i64 {
+    ghost use Rattle.std.proofs.lemmas.Map.Lookups.{exact_signed};
+
+    ghost exact = { exact_signed };
+}
+
+impl MapKey for bool {
+    ghost use Rattle.dac_origins.specs.laws.Bools.{exact_bools};
+
+    ghost exact = { exact_bools };
+}
+
+/// Pairs are ordered by their first parts, and then by their second ones.
+impl<A: MapKey, B: MapKey> MapKey for (A, B) {
+    ghost use Rattle.std.proofs.lemmas.Map.Lookups.{exact_pairs};
+
+    ghost exact = { exact_pairs A.cmp B.cmp A.exact B.exact };
 }
 
 impl MapKey for NodeId {

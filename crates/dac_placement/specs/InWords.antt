@@ -1,15 +1,16 @@
 -- Placement computes what it says in words, for every configuration and every state, also one that no operation made.
-use Rattle.std.specs.Prelude.{◌≡◌, ◌↔◌, ℕ, true, None, Some, MatchOption}
+use Rattle.std.specs.Prelude.{◌≡◌, ◌↔◌, ℕ, ◌<◌, ◌≤◌, true, false, List, length, None, Some, IsSome, MatchOption}
 use Rattle.dac_origins.specs.declared.dot.Origin.{Origin}
 use Rattle.dac_chains.specs.Lives.{IsLive}
-use Rattle.dac_placement.specs.declared.verdicts.Verdict.TheVariants.{Halted}
+use Rattle.dac_state.specs.PermissionsValue.{NoneStands}
+use Rattle.dac_placement.specs.declared.verdicts.Verdict.TheVariants.{Halted, Takeover, Kept}
 use Rattle.dac_placement.specs.declared.standing.Standing.{Standing}
 use Rattle.dac_placement.specs.declared.standing.Standing.TheVariants.{Unclaimed, Lost, Stopped, Barred, Upheld}
 use Rattle.dac_base.specs.declared.NodeId.{NodeId}
 use Rattle.dac_base.specs.declared.AppId.{AppId}
-use Rattle.dac_config.specs.Table.{Table}
-use Rattle.dac_state.specs.StateValue.{StateValue}
-use Rattle.dac_placement.specs.Placement.{holder_of, key_of, IsUp, IsStartedAt, IsDrainedAt, IsEligible, is_eligible, EachEligible, IsEarlier, RunsAt, runs_at, runner_of, IsFirst, first_choice, IsStanding, standing_of, IsVerdict, verdict_of, candidate_of}
+use Rattle.dac_config.specs.Table.{Table, node_count, app_count, group_of, default_permission}
+use Rattle.dac_state.specs.StateValue.{StateValue, permissions_of}
+use Rattle.dac_placement.specs.Placement.{holder_of, key_at, key_of, IsUp, IsStartedAt, IsDrainedAt, IsEligible, is_eligible, EachEligible, IsEarlier, RunsAt, runs_at, runner_of, IsOneOf, AreDistinct, IsFirst, first_choice, IsStanding, standing_of, IsVerdict, verdict_of, candidate_of}
 
 -- which nodes may run an application
 abbrev pub EligibleInWords : Type 0
@@ -68,3 +69,42 @@ StoppedStays = (table : Table) (s : StateValue) (app : AppId) (o : Origin) → h
 abbrev pub DrainedRunsNothing : Type 0
 DrainedRunsNothing = (table : Table) (s : StateValue) (app : AppId) (node : NodeId) (inc : ℕ) → IsLive s.lives node inc
     → IsDrainedAt s node inc → ¬ RunsAt table s app node
+
+-- Where no permit of an application stands at a node's live incarnation, it may run there only if the configuration's file
+-- permits it. If the file does, nothing but the list, a drain and a missing start keeps it away.
+abbrev pub FileCounts : Type 0
+FileCounts = (table : Table) (s : StateValue) (app : AppId) (node : NodeId) (inc : ℕ) → IsLive s.lives node inc
+    → NoneStands (key_at app node inc) (permissions_of s)
+    → (default_permission table app ≡ false → ¬ IsEligible table s app node)
+    × (default_permission table app ≡ true → IsSome (group_of table app node) → ¬ IsDrainedAt s node inc
+    → IsStartedAt s (key_at app node inc) → IsEligible table s app node)
+
+-- Where an application is kept, no eligible node stands before its holder in the list.
+abbrev pub NoneBefore : Type 0
+NoneBefore = (table : Table) (s : StateValue) (app : AppId) (holder m : NodeId) (g h : ℕ)
+    → verdict_of table s app ≡ Kept holder → m.0 < node_count table → IsEligible table s app m
+    → group_of table app m ≡ Some g → group_of table app holder ≡ Some h → h ≤ g
+
+-- An application is taken over from a node of a later group, by one of an earlier. Groups count from 0, as the list has them.
+abbrev pub FromLater : Type 0
+FromLater = (table : Table) (s : StateValue) (app : AppId) (n : NodeId) (holder : Origin)
+    → verdict_of table s app ≡ Takeover n → holder_of s app ≡ Some holder
+    → (g : ℕ) × (h : ℕ) × (group_of table app n ≡ Some g) × (group_of table app holder.node ≡ Some h) × (g < h)
+
+-- each of these is another application of the configuration than this one, and runs at the node
+abbrev pub RunThere : Table → StateValue → AppId → NodeId → List AppId → Type 0
+RunThere table s app node apps = (other : AppId) → IsOneOf other apps
+    → (other.0 < app_count table) × ¬ (other ≡ app) × RunsAt table s other node
+
+-- every other application of the configuration that runs at the node is one of these
+abbrev pub HaveAllThere : Table → StateValue → AppId → NodeId → List AppId → Type 0
+HaveAllThere table s app node apps = (other : AppId) → other.0 < app_count table → ¬ (other ≡ app) → RunsAt table s other node
+    → IsOneOf other apps
+
+-- Where a node is to claim an application, no eligible node of its group runs fewer others. As many different ones as run here,
+-- run there too.
+abbrev pub FewestRun : Type 0
+FewestRun = (table : Table) (s : StateValue) (app : AppId) (n m : NodeId) (here there : List AppId)
+    → candidate_of (verdict_of table s app) ≡ Some n → m.0 < node_count table → IsEligible table s app m
+    → group_of table app m ≡ group_of table app n → AreDistinct here → RunThere table s app n here
+    → HaveAllThere table s app m there → length here ≤ length there

@@ -8,3 +8,4 @@ pub mod Leads
 pub mod Judged
 pub mod Rests
 pub mod Stopped
+pub mod ByFile

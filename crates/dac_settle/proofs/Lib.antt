@@ -4,3 +4,4 @@ pub mod Handed
 pub mod Losing
 pub mod FailsOver
 pub mod Moves
+pub mod Shared

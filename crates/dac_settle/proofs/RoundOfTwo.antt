@@ -62,10 +62,10 @@ acked_none s to = by_life (map.get s.lives to)
     by_life None = refl
     by_life (Some life) = ap (option_map (λ (n : ℕ). record { inc = life.inc; number = n })) (map.get-empty origin_cmp (record { node = to; inc = life.inc }))
 
-begins_none : (s : StateValue) (base : ℕ) (to : NodeId) → begins no_peers s base to ≡ None
+pub begins_none : (s : StateValue) (base : ℕ) (to : NodeId) → begins no_peers s base to ≡ None
 begins_none s base to = ap (kept_from base) (acked_none s to)
 
-and_none : (b : Bool) → (b && false) ≡ false
+pub and_none : (b : Bool) → (b && false) ≡ false
 and_none true = refl
 and_none false = refl
 

@@ -8,5 +8,7 @@ pub mod WorkedMove
 pub mod WorldRounds
 pub mod WorkedLoss
 pub mod WorkedDrain
+pub mod AtRest
+pub mod WorkedShare
 pub mod laws
 pub use Rattle.dac_model_world.specs as dac_model_world

@@ -13,3 +13,4 @@ pub mod BothTick
 pub mod WorkedRound
 pub mod MovedRound
 pub mod Unsettling
+pub mod AtRest

@@ -7,6 +7,8 @@ ghost use Rattle.dac_settle.specs.WorldRounds.{Settles};
 ghost use Rattle.dac_settle.specs.WorkedMove.{RoundsCanMove};
 ghost use Rattle.dac_settle.specs.WorkedLoss.{RunsCanFailOver};
 ghost use Rattle.dac_settle.specs.WorkedDrain.{RunsCanMove};
+ghost use Rattle.dac_settle.specs.AtRest.{SettledClaimNothing};
+ghost use Rattle.dac_settle.specs.WorkedShare.{SharesCanBe};
 ghost use Rattle.dac_model_world.specs.ModelWorld.{InEachRun};
 
 /// Rounds settle all. As many rounds as the configuration has applications, begun in a ready world, settle each
@@ -36,4 +38,16 @@ pub fn verdicts_stay()
     ensures stays { Stays judged }
     // Not so by a rule that takes an application over inside a tuple, where fewer run at the other node.
     ensures refused { Stays restless_of → ⊥ }
+{}
+
+/// What settled means: where each application is settled by what a running node knows, its ticks claim nothing, at whatever
+/// moment they come.
+pub fn settled_claim_nothing()
+    ensures { SettledClaimNothing }
+{}
+
+/// Shares can be: a run from the start meets what a share asks for. Two nodes are up, one has heard of the other's boot, each tells
+/// the other all that it has, and both have the union then.
+pub fn shares_can_be()
+    ensures { SharesCanBe }
 {}

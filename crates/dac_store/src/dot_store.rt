@@ -77,15 +77,22 @@ pub trait DotStore: Drop {
     fn is_unheard(&self, heard: &FilteredContext<'_>) -> bool
         ensures { IsTrue result ↔ IsUnheard (has self.now) heard.now };
 
-    /// Whether both stores are surely equal.
+    /// Whether both stores are surely equal. An impl that has no quick answer leaves it out, and joins then go through the stores.
     fn is_same(&self, other: &Self) -> bool
-        ensures { result ≡ true → self.now ≡ other.now };
+        ensures { result ≡ true → self.now ≡ other.now }
+    {
+        false
+    }
 
-    /// Puts each dot of the store into a filter, which keeps those that it has.
+    /// Puts each dot of the store into a filter, which keeps those that it has. An impl that can't list its dots leaves it out,
+    /// and the filter then tells nothing of any dot.
     fn fill(&self, filter: &mut DotFilter)
         ensures own { (x : Dot) → has self.now x ≡ true → may_have filter.new.slots x ≡ true }
         ensures more { (x : Dot) → may_have filter.old.slots x ≡ true
-            → may_have filter.new.slots x ≡ true };
+            → may_have filter.new.slots x ≡ true }
+    {
+        *filter = DotFilter::all();
+    }
 
     /// Whether the store holds no dot.
     fn is_empty(&self) -> bool

@@ -7,7 +7,7 @@ use thiserror::Error;
 #[derive(Clone, Copy, Debug, PartialEq, Eq, Error)]
 pub enum WeaveFault {
     /// No run gives the journals.
-    #[error("no running gives the journals")]
+    #[error("no run gives the journals")]
     Unwoven {
         /// The node at which each run ends before its journal does.
         node: NodeId,

@@ -19,11 +19,22 @@ fn is_row(alloc: Global, context: &Context, upto: u64, further: &[u64]) -> Resul
     Ok(is_own && are_listed_as(alloc, &row.2, further)?)
 }
 
+/// Whether each of these counters is at its place, and none behind them.
+fn are_at_their_places(further: &Further<'_>, counters: &[u64]) -> bool {
+    for place in 0..counters.len() {
+        if further.get(place) != Some(counters[place]) {
+            return false;
+        }
+    }
+    further.get(counters.len()).is_none()
+}
+
 /// Whether these are the further counters of a row.
 fn are_listed_as(alloc: Global, further: &Further<'_>, counters: &[u64]) -> Result<bool, NoMemory> {
     let has_length = further.len() == counters.len() as u128;
     let says_empty = further.is_empty() == counters.is_empty();
-    Ok(has_length && says_empty && further.list(alloc)?.as_slice() == counters)
+    let has_each = are_at_their_places(further, counters);
+    Ok(has_length && says_empty && has_each && further.list(alloc)?.as_slice() == counters)
 }
 
 /// Whether a context that these counters were put into goes on so, and has this one row.

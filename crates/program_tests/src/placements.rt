@@ -103,4 +103,58 @@ pub const PLACEMENTS: &[(&str, &str, &str)] = &[
         "boot c2@h 10\ntick c2@h 9\ndown c2@h c2@h\ndown c2@h c1@h\nstart c2@h zz c2@h\nstart c2@h a zz@h\nstart c2@h b c3@h\ntakeover c2@h a\nstart c2@h a c2@h\ntakeover c2@h a\nhear c2@h 1\nhand c2@h 3\n",
         "booted 1 op 1\nrefused 8 MomentBack\nrefused 6 OnSelf\nrefused 9 NotLive\nrefused 4 UnknownApp\nrefused 5 UnknownNode\nrefused 7 NotInList\nrefused 11 NotEligible\nissued 2 c2@h 1 2\nrefused 12 NotRunning\nno message 1\nno operation 3\n",
     ),
+    // The file forbids the application. Nobody runs it until a permit at one node says otherwise.
+    (
+        "[{kernel,[{distributed,[{a,[c1@h,c2@h]}]},{permissions,[{a,false}]}]}].\n",
+        "boot c1@h 0\nboot c2@h 0\nstart c1@h a c1@h\nstart c2@h a c2@h\nshare\ntick c1@h 0\ntick c2@h 0\npage c1@h\npermit c2@h a c2@h true\ntick c2@h 1\n",
+        "booted 1 op 1\nbooted 1 op 2\nissued 3 c1@h 1 2\nissued 4 c2@h 1 2\nshared 2\nticked\nticked\nnode c1@h 1\nheard 4 known 4\nnode c1@h up 1\nnode c2@h up 1\napp a holder none verdict nobody\nlist c1@h=barred c2@h=barred\nissued 5 c2@h 1 3\nticked\nclaim 6 a term 1 normal\n",
+    ),
+    // A permit is of one incarnation. After a reboot the file counts again, also once the permit of the incarnation before is heard.
+    (
+        "[{kernel,[{distributed,[{a,[c1@h,{c2@h,c3@h}]}]}]}].\n",
+        "boot c1@h 0\nstart c1@h a c1@h\npermit c1@h a c1@h false\ncrash c1@h\nboot c1@h 1\nstart c1@h a c1@h\nboot c2@h 0\nshare\nhand c1@h 3\npage c1@h\n",
+        "booted 1 op 1\nissued 2 c1@h 1 2\nissued 3 c1@h 1 3\ncrashed\nbooted 2 op 4\nissued 5 c1@h 2 2\nbooted 1 op 6\nshared 2\nheard new\nnode c1@h 2\nheard 4 known 4\nnode c1@h up 2\nnode c2@h up 1\nnode c3@h unknown\napp a holder none verdict start c1@h\nlist c1@h=ok c2@h=idle c3@h=down\n",
+    ),
+    // Three groups of one node each. The second takes over from the third, and then the first from the second.
+    (
+        "[{kernel,[{distributed,[{a,[c1@h,c2@h,c3@h]}]}]}].\n",
+        "boot c3@h 0\nstart c3@h a c3@h\ntick c3@h 0\nboot c2@h 0\nstart c2@h a c2@h\nshare\ntick c2@h 0\nshare\nboot c1@h 0\nstart c1@h a c1@h\nshare\ntick c1@h 1\n",
+        "booted 1 op 1\nissued 2 c3@h 1 2\nticked\nclaim 3 a term 1 normal\nbooted 1 op 4\nissued 5 c2@h 1 2\nshared 2\nticked\nclaim 6 a term 2 takeover from c3@h\nshared 2\nbooted 1 op 7\nissued 8 c1@h 1 2\nshared 6\nticked\nclaim 9 a term 3 takeover from c2@h\n",
+    ),
+    // Two applications run at the first node of the tuple and one at the second, so a third goes to the second.
+    (
+        "[{kernel,[{distributed,[{a,[c1@h]},{b,[c1@h]},{c,[c2@h]},{d,[{c1@h,c2@h}]}]}]}].\n",
+        "boot c1@h 0\nboot c2@h 0\nstart c1@h a c1@h\nstart c1@h b c1@h\nstart c2@h c c2@h\ntick c1@h 0\ntick c2@h 0\nstart c1@h d c1@h\nstart c2@h d c2@h\nshare\ntick c1@h 1\ntick c2@h 1\n",
+        "booted 1 op 1\nbooted 1 op 2\nissued 3 c1@h 1 2\nissued 4 c1@h 1 3\nissued 5 c2@h 1 2\nticked\nclaim 6 a term 1 normal\nclaim 7 b term 1 normal\nticked\nclaim 8 c term 1 normal\nissued 9 c1@h 1 6\nissued 10 c2@h 1 4\nshared 2\nticked\nticked\nclaim 11 d term 1 normal\n",
+    ),
+    // Each failover waits its own application's time.
+    (
+        "[{kernel,[{distributed,[{a,1000,[c1@h,c2@h]},{b,9000,[c1@h,c2@h]}]}]}].\n",
+        "boot c1@h 0\nboot c2@h 0\nstart c1@h a c1@h\nstart c1@h b c1@h\nstart c2@h a c2@h\nstart c2@h b c2@h\nshare\ntick c1@h 0\nshare\ncrash c1@h\ndown c2@h c1@h\ntick c2@h 100\ntick c2@h 1100\ntick c2@h 9099\ntick c2@h 9100\n",
+        "booted 1 op 1\nbooted 1 op 2\nissued 3 c1@h 1 2\nissued 4 c1@h 1 3\nissued 5 c2@h 1 2\nissued 6 c2@h 1 3\nshared 2\nticked\nclaim 7 a term 1 normal\nclaim 8 b term 1 normal\nshared 2\ncrashed\nissued 9 c2@h 1 4\nticked\nticked\nclaim 10 a term 2 failover from c1@h\nticked\nticked\nclaim 11 b term 2 failover from c1@h\n",
+    ),
+    // A mandatory node goes down once the start gate is open. The node runs on, also after the time of the start gate.
+    (
+        "[{kernel,[{distributed,[{a,[c1@h,c2@h]}]},{sync_nodes_mandatory,[c2@h]},{sync_nodes_timeout,5000}]}].\n",
+        "boot c1@h 0\nboot c2@h 0\nstart c1@h a c1@h\nshare\ntick c1@h 1\ncrash c2@h\ndown c1@h c2@h\ntick c1@h 4000\ntick c1@h 5000\n",
+        "booted 1 op 1\nbooted 1 op 2\nissued 3 c1@h 1 2\nshared 2\nticked\nclaim 4 a term 1 normal\ncrashed\nissued 5 c1@h 1 4\nticked\nticked\n",
+    ),
+    // A mandatory node that was declared down isn't up: the start gate gives up.
+    (
+        "[{kernel,[{distributed,[{a,[c1@h,c2@h]}]},{sync_nodes_mandatory,[c2@h]},{sync_nodes_timeout,5000}]}].\n",
+        "boot c1@h 0\nboot c2@h 0\nshare\ndown c1@h c2@h\ntick c1@h 1\ntick c1@h 5000\n",
+        "booted 1 op 1\nbooted 1 op 2\nshared 2\nissued 3 c1@h 1 2\nheld\ngave up\n",
+    ),
+    // Ticks that are held back note no lost claim. The wait of the failover begins with the first tick after the start gate opened.
+    (
+        "[{kernel,[{distributed,[{a,1000,[c1@h,c2@h]}]},{sync_nodes_optional,[c3@h]},{sync_nodes_timeout,5000}]}].\n",
+        "boot c1@h 0\nstart c1@h a c1@h\ntick c1@h 5000\nboot c2@h 0\nstart c2@h a c2@h\nshare\ncrash c1@h\ndown c2@h c1@h\ntick c2@h 4000\ntick c2@h 5000\ntick c2@h 5999\ntick c2@h 6000\n",
+        "booted 1 op 1\nissued 2 c1@h 1 2\nticked\nclaim 3 a term 1 normal\nbooted 1 op 4\nissued 5 c2@h 1 2\nshared 2\ncrashed\nissued 6 c2@h 1 3\nheld\nticked\nticked\nticked\nclaim 7 a term 2 failover from c1@h\n",
+    ),
+    // A tick that is held back moves the last moment all the same.
+    (
+        "[{kernel,[{distributed,[{a,1000,[c1@h,c2@h]}]},{sync_nodes_optional,[c2@h]},{sync_nodes_timeout,5000}]}].\n",
+        "boot c1@h 0\ntick c1@h 4000\ntick c1@h 3999\ntick c1@h 4000\n",
+        "booted 1 op 1\nheld\nrefused 8 MomentBack\nheld\n",
+    ),
 ];

@@ -189,6 +189,12 @@ pub const SCRIPTS: &[(&str, &str, &str)] = &[
         "boot cp1@cave 0\nstart cp1@cave myapp cp1@cave\nstart cp1@cave myapp cp1@cave\nboot cp2@cave 0\nhand cp2@cave 3\nhand cp2@cave 2\nhand cp2@cave 2\nhand cp2@cave 1\nship cp2@cave cp1@cave\nhear cp1@cave 1\nsame cp1@cave cp2@cave\n",
         "booted 1 op 1\nissued 2 cp1@cave 1 2\nissued 3 cp1@cave 1 3\nbooted 1 op 4\nheard new\nheard new\nheard nothing new\nheard new\nshipped 1 whole 4\nheard new\nsame\n",
     ),
+    // Of an interval it prints how many of its dots are heard, and not how many are known: a stop names a start that it ends.
+    (
+        PLAIN,
+        "boot c1@h 0\nboot c2@h 0\nshare\nstart c1@h a c1@h\nshare\nshare\nstop c1@h a c1@h\nship c1@h c2@h\n",
+        "booted 1 op 1\nbooted 1 op 2\nshared 2\nissued 3 c1@h 1 2\nshared 2\nshared 1\nissued 4 c1@h 1 3\nshipped 6 interval 1\n",
+    ),
     // Nothing is played.
     (TWO, "", ""),
     // Nobody runs who could share.

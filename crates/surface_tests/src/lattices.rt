@@ -50,7 +50,10 @@ fn is_row_read(alloc: Global) -> Result<bool, NoMemory> {
     let is_put: bool = context.push_row(ORIGIN, 3, &[5])?;
     let row = match context.row(0) {
         Some((origin, upto, further)) => {
-            origin == ORIGIN && upto == 3 && further.list(alloc)?.as_slice() == [5u64].as_slice()
+            origin == ORIGIN
+                && upto == 3
+                && further.get(0) == Some(5u64)
+                && further.list(alloc)?.as_slice() == [5u64].as_slice()
         }
         None => false,
     };
@@ -74,6 +77,14 @@ fn is_pair_above(alloc: Global) -> Result<bool, NoMemory> {
     is_above_bottom(alloc, &pair_of(alloc)?)
 }
 
+/// Whether maps go by keys of each kind.
+fn are_keyed(alloc: Global) -> Result<bool, NoMemory> {
+    let by_pairs: MapOf<(i64, bool), Max<u64>> = MapOf::one(alloc, (3i64, true), Max::new(1u64))?;
+    let by_places: MapOf<usize, Max<u64>> = MapOf::one(alloc, 3usize, Max::new(1u64))?;
+    let by_sums: MapOf<u128, Max<u64>> = MapOf::one(alloc, 3u128, Max::new(1u64))?;
+    Ok(by_pairs.equal(&by_pairs) && by_places.equal(&by_places) && by_sums.equal(&by_sums))
+}
+
 #[test]
 fn contexts(rt: HostRuntime) {
     assert!(rt; matches!(is_united(rt.alloc()), Ok(true)));
@@ -83,5 +94,6 @@ fn contexts(rt: HostRuntime) {
 #[test]
 fn lattices(rt: HostRuntime) {
     assert!(rt; matches!(is_pair_above(rt.alloc()), Ok(true)));
+    assert!(rt; matches!(are_keyed(rt.alloc()), Ok(true)));
     assert!(rt; Flag::Up.leq(&Flag::Down));
 }

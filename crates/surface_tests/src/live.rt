@@ -5,9 +5,9 @@ use crate::texts::TWO;
 use dac_config::{Config, NodeId, read_config};
 use dac_core::{Event, WorldEvent};
 use dac_live::laws::{add_record, same_calls};
-use dac_live::links::{LinkReceiver, LinkSender, hear_link, link, ship_link};
+use dac_live::links::{Gone, Letter, LinkReceiver, LinkSender, hear_link, link, ship_link};
 use dac_live::{
-    Ask, CloseFault, Closed, Gate, Line, LineAnswer, LiveFault, LiveReport, OpenFault, Page,
+    Ask, CloseFault, Closed, Desk, Gate, Line, LineAnswer, LiveFault, LiveReport, OpenFault, Page,
     PageReader, Phase, Reading, Receipt, Record, RunFault, Seat, Site, SiteBlank, SiteName,
     are_runnable, blank_site, fresh_page, open_site, run_live,
 };
@@ -101,10 +101,18 @@ fn is_opened<R: Wait>(rt: &R, alloc: Global) -> Option<bool> {
 fn is_recorded<R: Wait>(rt: &R, alloc: Global) -> Option<bool> {
     let config = read_config(alloc, TWO).ok()?;
     let blank: Result<SiteBlank, OpenFault> = blank_site(rt, alloc, &config, NodeId(0), 0, 2, 0);
-    let mut desk = blank.ok()?.into_desk();
+    let mut desk: Desk = blank.ok()?.into_desk();
     let added = add_record(rt, &mut desk, 1, Event::Boot { now: 0 }).is_ok();
     let (journal, _page) = desk.end(rt);
     Some(added && same_calls(journal.records(), 2, &[]).is_none())
+}
+
+/// Whether a letter comes out of a link as it was put in.
+fn is_carried<R: Wait>(rt: &R, alloc: Global) -> Option<bool> {
+    let (mut out, mut into): (LinkSender, LinkReceiver) = link(alloc, 64).ok()?;
+    let put: Result<(), Gone> = out.put(rt, Letter::end());
+    let letter: Letter = into.take(rt).ok()?;
+    Some(put.is_ok() && letter.into_bytes().is_none())
 }
 
 /// A phase in which the first node is booted, and its page read.
@@ -163,6 +171,7 @@ fn is_run<R: Threads + Wait + Sync>(rt: &R, alloc: Global) -> Option<bool> {
 fn sites(rt: HostRuntime) -> Result<(), Fail> {
     assert_eq!(rt; is_opened(&rt, rt.alloc()), Some(true));
     assert_eq!(rt; is_recorded(&rt, rt.alloc()), Some(true));
+    assert_eq!(rt; is_carried(&rt, rt.alloc()), Some(true));
     Ok(())
 }
 

@@ -1,7 +1,9 @@
 //! `dac_wire` and `dac_core`.
 use crate::texts::TWO;
 use dac_config::{AppId, Config, NodeId, read_config};
-use dac_core::{Command, Event, Node, Refusal, Reply, What, World, WorldEvent, WorldFault};
+use dac_core::{
+    AppList, Command, Event, Node, OpList, Refusal, Reply, What, World, WorldEvent, WorldFault,
+};
 use dac_dots::Origin;
 use dac_state::{Op, State};
 use dac_wire::{Body, Message, Packet, WireFault, WireFaultKind, decode, encode};
@@ -36,7 +38,7 @@ fn is_up(alloc: Global) -> Option<bool> {
 }
 
 /// A message that carries nothing.
-fn message() -> Message {
+pub fn message() -> Message {
     let from = Origin {
         node: NodeId(0),
         inc: 1,
@@ -107,6 +109,16 @@ fn begins_off(alloc: Global) -> Option<bool> {
     Some(world.node(NodeId(0)).state().is_none())
 }
 
+/// Whether lists give back what they were made of.
+fn are_given_back(alloc: Global) -> Option<bool> {
+    let mut apps = Vec::new(alloc);
+    apps.push(AppId(0)).ok()?;
+    let list: AppList = AppList::new(apps);
+    let back: Vec<AppId> = list.into_vec();
+    let none: Vec<Op> = OpList::new(Vec::new(alloc)).into_vec();
+    Some(back.len() == 1 && back[0] == AppId(0) && none.is_empty())
+}
+
 #[test]
 fn nodes(rt: HostRuntime) {
     assert!(rt; is_up(rt.alloc()) == Some(true));
@@ -117,4 +129,5 @@ fn nodes(rt: HostRuntime) {
 fn worlds(rt: HostRuntime) {
     assert!(rt; goes_on(rt.alloc()) == Some(true));
     assert!(rt; begins_off(rt.alloc()) == Some(true));
+    assert!(rt; are_given_back(rt.alloc()) == Some(true));
 }

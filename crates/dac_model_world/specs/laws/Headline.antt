@@ -39,6 +39,7 @@ use Rattle.dac_model_world.specs.laws.CausalRuns.{causal_run, causal_start}
 use Rattle.dac_model_world.specs.laws.CausalityInRuns.{is_causal}
 use Rattle.dac_model_world.specs.laws.Runs.{node_there}
 use Rattle.dac_model_world.specs.laws.Records.{have_histories}
+use Rattle.dac_model_world.specs.laws.StaysOpen.{stay_open}
 
 state_shown : (t : Table) (running : Option ModelRunning) → option_map (λ (r : RunningValue). r.state) (option_map (running_shown t) running) ≡ option_map state_in running
 state_shown t None = refl
@@ -135,5 +136,6 @@ converged t events answers v r =
       up_to_date = up_to_date_run t (start t) no_sets events answers r.final (sound_start t) r.run;
       shares = shares_run t events answers r.final r.run;
       causal = λ unhanded. is_causal v r.final all sets h (causal_run t (start t) no_sets events answers r.final (sound_start t) causal_start r.run unhanded);
+      gates = stay_open t (start t) events answers r.run.0;
       histories = have_histories t events answers v r;
     }

@@ -89,7 +89,7 @@ module _ (t : Table) (n : NodeId) (rest : List Entry) (final : ModelNode) where
       ]
 
   -- an event that is answered so, by `NoMemory` perhaps
-  answered_first : (w : ModelWorld) (e : WorldEvent) (a : Result Reply WorldFault) → IsAnswer (happens t w e) a → From ((went t w e a).node n) [] → From (w.node n) (records_of n w e a)
+  pub answered_first : (w : ModelWorld) (e : WorldEvent) (a : Result Reply WorldFault) → IsAnswer (happens t w e) a → From ((went t w e a).node n) [] → From (w.node n) (records_of n w e a)
   answered_first w e a (inl is) h =
       subst (λ x. From (w.node n) (records_of n w e x)) (sym is)
       (happens_first w e (subst (λ (v : ModelWorld). From (v.node n) []) (went_as_answered t w e a is) h))

@@ -139,7 +139,7 @@ split a (y ∷ ys) (inr later) =
     record { rest = y ∷ more.rest; longer = omega (arith, longer); others = λ b h ne. elim h [ inl same ↦ inl same | inr there ↦ inr (more.others b there ne) ] }
 
 -- a list without repeats, each of which the other names, isn't longer
-no_longer : (xs ys : List AppId) → AreDistinct xs → ((b : AppId) → IsOneOf b xs → IsOneOf b ys) → length xs ≤ length ys
+pub no_longer : (xs ys : List AppId) → AreDistinct xs → ((b : AppId) → IsOneOf b xs → IsOneOf b ys) → length xs ≤ length ys
 no_longer [] ys distinct within = omega arith
 no_longer (x ∷ xs) ys distinct within =
     let parts = split x ys (within x (inl refl)) in

@@ -66,7 +66,7 @@ may_run = record {
   started = (dot (first_of first_node) 2, starts-meaning worked_set (write (key_at the_app first_node 1) (dot (first_of first_node) 2)));
 }
 
-nobody_claims : (v : Verdict) → IsSettled v → candidate_of v ≡ None
+pub nobody_claims : (v : Verdict) → IsSettled v → candidate_of v ≡ None
 nobody_claims (ToStart n) h = absurd h
 nobody_claims (Failover n) h = absurd h
 nobody_claims (Halted n) h = refl

@@ -4,6 +4,7 @@ use Rattle.dac_decide.specs.laws.Due.{due_to_words}
 use Rattle.dac_decide.specs.laws.AllUp.{opening_is}
 use Rattle.dac_decide.specs.laws.Kept.{length_waits, kept_is}
 use Rattle.dac_decide.specs.laws.FailsOver.{lost_fails_over}
+use Rattle.dac_decide.specs.laws.Early.{not_without_mandatory, not_before}
 use Rattle.dac_decide.proofs.laws.waits_in_words.Goals as goal
 
 pub returns-clause-lost : goal.returns-clause-lost
@@ -23,3 +24,9 @@ returns-clause-kept c = λ table notes. (length_waits table notes, kept_is table
 
 pub returns-clause-fails_over : goal.returns-clause-fails_over
 returns-clause-fails_over c = lost_fails_over
+
+pub returns-clause-missing : goal.returns-clause-missing
+returns-clause-missing c = not_without_mandatory
+
+pub returns-clause-not_before : goal.returns-clause-not_before
+returns-clause-not_before c = not_before

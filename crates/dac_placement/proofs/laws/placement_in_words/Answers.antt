@@ -4,6 +4,7 @@ use Rattle.dac_placement.specs.laws.FirstChoice.{first_is}
 use Rattle.dac_placement.specs.laws.Judged.{verdict_in_words}
 use Rattle.dac_placement.specs.laws.Rests.{candidate_is, rests_is, drained_runs_nothing}
 use Rattle.dac_placement.specs.laws.Stopped.{stopped_stays}
+use Rattle.dac_placement.specs.laws.ByFile.{file_counts, none_before, from_later, fewest_run}
 use Rattle.dac_placement.proofs.laws.placement_in_words.Goals as goal
 
 pub returns-clause-eligible : goal.returns-clause-eligible
@@ -35,3 +36,15 @@ returns-clause-stopped c = stopped_stays
 
 pub returns-clause-drained : goal.returns-clause-drained
 returns-clause-drained c = drained_runs_nothing
+
+pub returns-clause-file : goal.returns-clause-file
+returns-clause-file c = file_counts
+
+pub returns-clause-none_before : goal.returns-clause-none_before
+returns-clause-none_before c = none_before
+
+pub returns-clause-from_later : goal.returns-clause-from_later
+returns-clause-from_later c = from_later
+
+pub returns-clause-fewest : goal.returns-clause-fewest
+returns-clause-fewest c = fewest_run

@@ -1,0 +1,172 @@
+-- The counters of the spans that begin above a number, place by place.
+use Rattle.std.proofs.Common.{◌≡◌, ℕ, zero, suc, ◌+◌, ◌-◌, ◌<◌, ◌≤◌, Bool, true, false, cond, ◌||◌, ◌&&◌, nat_le, nat_lt, nat_eq, List, [], ◌∷◌, ◌++◌, length, drop, get_or, Option, Some, None, refl, sym, ap, ◌∙◌, arith, add-one}
+use Rattle.std.specs.Ordering.{nat_cmp, eq_by_cmp}
+use Rattle.std.specs.List.{slice_get}
+use Rattle.std.proofs.lemmas.Bool.{and_from, ltb-true}
+use Rattle.std.proofs.lemmas.List.Folds.{list_any-append}
+use Rattle.dac_origins.specs.Keys.{is_below_all, is_rising, IsRising, has_key}
+use Rattle.dac_dots.specs.Rows.{further_of, reach_of}
+use Rattle.dac_dots.specs.Spans.{from_on, counters_of_span, counters_in, span_has, any_past, are_apart, past}
+use Rattle.dac_dots.specs.declared.spans.Span.{Span}
+use Rattle.dac_dots.proofs.SpanLemmas.{has_span, below_append, below_span, rising_after, apart_first, further_is, zero_alone}
+
+-- ---- place by place
+
+at_in : (f k i : ℕ) (rest : List ℕ) → i < k → slice_get (from_on f k ++ rest) i ≡ Some (f + i)
+unfolding from_on
+at_in f zero i rest p = absurd (omega arith)
+at_in f (suc k) zero rest p = ap Some (sum f)
+  where
+    sum : (f : ℕ) → f ≡ f + 0
+    sum f = omega arith
+at_in f (suc k) (suc i) rest p = at_in (suc f) k i rest (less i k p) ∙ ap Some (sum f i)
+  where
+    sum : (f i : ℕ) → suc f + i ≡ f + suc i
+    sum f i = omega arith
+
+    less : (i k : ℕ) → suc i < suc k → i < k
+    less i k p = omega arith
+
+at_behind : (f k i j : ℕ) (rest : List ℕ) → j ≡ k + i → slice_get (from_on f k ++ rest) j ≡ slice_get rest i
+unfolding from_on
+at_behind f zero i j rest e = ap (slice_get rest) (none i j e)
+  where
+    none : (i j : ℕ) → j ≡ 0 + i → j ≡ i
+    none i j e = omega arith
+at_behind f (suc k) i zero rest e = absurd (omega arith)
+at_behind f (suc k) i (suc j) rest e = at_behind (suc f) k i j rest (less k i j e)
+  where
+    less : (k i j : ℕ) → suc j ≡ suc k + i → j ≡ k + i
+    less k i j e = omega arith
+
+-- the place is in the first of these spans, or behind it
+pub in_span : (u : ℕ) (spans : List Span) (i : ℕ) (d : Span) (left : ℕ) → i < length spans → nat_lt u (get_or spans i d).first ≡ true → left < (get_or spans i d).last + 1 - (get_or spans i d).first
+    → slice_get (past u (drop i spans)) left ≡ Some ((get_or spans i d).first + left)
+unfolding counters_of_span
+in_span u [] i d left lt above p = absurd (omega arith)
+in_span u (span ∷ spans) zero d left lt above p =
+    ap (λ b. slice_get (cond b (counters_of_span span) [] ++ past u spans) left) above ∙ at_in span.first (span.last + 1 - span.first) left (past u spans) p
+in_span u (span ∷ spans) (suc i) d left lt above p = in_span u spans i d left (omega arith) above p
+
+behind_span_suc : (u : ℕ) (spans : List Span) (i : ℕ) (d : Span) (left rest : ℕ) → i < length spans → nat_lt u (get_or spans i d).first ≡ true → left ≡ ((get_or spans i d).last + 1 - (get_or spans i d).first) + rest
+    → slice_get (past u (drop i spans)) left ≡ slice_get (past u (drop (suc i) spans)) rest
+unfolding counters_of_span
+behind_span_suc u [] i d left rest lt above p = absurd (omega arith)
+behind_span_suc u (span ∷ spans) zero d left rest lt above p =
+    ap (λ b. slice_get (cond b (counters_of_span span) [] ++ past u spans) left) above ∙ at_behind span.first (span.last + 1 - span.first) rest left (past u spans) p
+behind_span_suc u (span ∷ spans) (suc i) d left rest lt above p = behind_span_suc u spans i d left rest (omega arith) above p
+
+skipped_span_suc : (u : ℕ) (spans : List Span) (i : ℕ) (d : Span) (left : ℕ) → i < length spans → nat_lt u (get_or spans i d).first ≡ false
+    → slice_get (past u (drop i spans)) left ≡ slice_get (past u (drop (suc i) spans)) left
+skipped_span_suc u [] i d left lt below = absurd (omega arith)
+skipped_span_suc u (span ∷ spans) zero d left lt below = ap (λ b. slice_get (cond b (counters_of_span span) [] ++ past u spans) left) below
+skipped_span_suc u (span ∷ spans) (suc i) d left lt below = skipped_span_suc u spans i d left (omega arith) below
+
+pub behind_span : (u : ℕ) (spans : List Span) (i : ℕ) (d : Span) (left rest : ℕ) → i < length spans → nat_lt u (get_or spans i d).first ≡ true → left ≡ ((get_or spans i d).last + 1 - (get_or spans i d).first) + rest
+    → slice_get (past u (drop i spans)) left ≡ slice_get (past u (drop (i + 1) spans)) rest
+behind_span u spans i d left rest lt above p = behind_span_suc u spans i d left rest lt above p ∙ ap (λ k. slice_get (past u (drop k spans)) rest) (sym (add-one i))
+
+pub skipped_span : (u : ℕ) (spans : List Span) (i : ℕ) (d : Span) (left : ℕ) → i < length spans → nat_lt u (get_or spans i d).first ≡ false
+    → slice_get (past u (drop i spans)) left ≡ slice_get (past u (drop (i + 1) spans)) left
+skipped_span u spans i d left lt below = skipped_span_suc u spans i d left lt below ∙ ap (λ k. slice_get (past u (drop k spans)) left) (sym (add-one i))
+
+pub behind_all : (u : ℕ) (spans : List Span) (i left : ℕ) → length spans ≤ i → slice_get (past u (drop i spans)) left ≡ None
+behind_all u [] zero left p = refl
+behind_all u [] (suc i) left p = refl
+behind_all u (span ∷ spans) zero left p = absurd (omega arith)
+behind_all u (span ∷ spans) (suc i) left p = behind_all u spans i left (omega arith)
+
+-- ---- they are the further ones
+
+below_low : (x low u : ℕ) (spans : List Span) → x < low → are_apart low spans ≡ true → is_below_all nat_cmp x (past u spans) ≡ true
+below_low x low u [] p h = refl
+below_low x low u (span ∷ spans) p h =
+    let is = apart_first low span spans h in
+    let q = is.0 in
+    let r = is.1.0 in
+    below_append x (cond (nat_lt u span.first) (counters_of_span span) []) (past u spans)
+    (elim (nat_lt u span.first) as (λ b. is_below_all nat_cmp x (cond b (counters_of_span span) []) ≡ true) [ true ↦ below_span x span (omega arith) | false ↦ refl ])
+    (below_low x (span.last + 2) u spans (omega arith) is.1.1)
+
+below_past : (x u : ℕ) (spans : List Span) → x ≤ u → is_below_all nat_cmp x (past u spans) ≡ true
+below_past x u [] p = refl
+below_past x u (span ∷ spans) p =
+    below_append x (cond (nat_lt u span.first) (counters_of_span span) []) (past u spans)
+    (elim (nat_lt u span.first) as (λ b. nat_lt u span.first ≡ b → is_below_all nat_cmp x (cond b (counters_of_span span) []) ≡ true) [
+      | true ↦ λ e. let q = ltb-true u span.first e in below_span x span (omega (arith, q))
+      | false ↦ λ e. refl
+    ] refl)
+    (below_past x u spans p)
+
+rising_past : (low u : ℕ) (spans : List Span) → are_apart low spans ≡ true → IsRising nat_cmp (past u spans)
+unfolding counters_of_span
+rising_past low u [] h = refl
+rising_past low u (span ∷ spans) h =
+    let is = apart_first low span spans h in
+    let q = is.1.0 in
+    elim (nat_lt u span.first) as (λ b. IsRising nat_cmp (cond b (counters_of_span span) [] ++ past u spans)) [
+      | true ↦ rising_after span.first (span.last + 1 - span.first) (past u spans) (λ x p. below_low x (span.last + 2) u spans (omega arith) is.1.1) (rising_past (span.last + 2) u spans is.1.1)
+      | false ↦ rising_past (span.last + 2) u spans is.1.1
+    ]
+
+has_past : (u : ℕ) (spans : List Span) (n : ℕ) → has_key nat_cmp (past u spans) n ≡ any_past u spans n
+has_past u [] n = refl
+has_past u (span ∷ spans) n =
+    list_any-append (eq_by_cmp nat_cmp n) (cond (nat_lt u span.first) (counters_of_span span) []) (past u spans)
+    ∙ (λ i. one i || has_past u spans n i)
+  where
+    one : has_key nat_cmp (cond (nat_lt u span.first) (counters_of_span span) []) n ≡ (nat_lt u span.first && span_has n span)
+    one = elim (nat_lt u span.first) as (λ b. has_key nat_cmp (cond b (counters_of_span span) []) n ≡ (b && span_has n span)) [ true ↦ has_span span n | false ↦ refl ]
+
+-- 0, where it is one
+abbrev pub zero_if : Bool → List ℕ
+zero_if has = cond has (0 ∷ []) []
+
+or_turned : (a b : Bool) → (a || b) ≡ (b || a)
+or_turned true true = refl
+or_turned true false = refl
+or_turned false true = refl
+or_turned false false = refl
+
+has_zero : (has : Bool) (n : ℕ) → has_key nat_cmp (zero_if has) n ≡ (nat_eq n 0 && has)
+has_zero true n = zero_alone n ∙ plain (nat_eq n 0)
+  where
+    plain : (b : Bool) → b ≡ (b && true)
+    plain true = refl
+    plain false = refl
+has_zero false n = none (nat_eq n 0)
+  where
+    none : (b : Bool) → false ≡ (b && false)
+    none true = refl
+    none false = refl
+
+rising_all : (u : ℕ) (spans : List Span) (has : Bool) → are_apart 0 spans ≡ true → IsRising nat_cmp (zero_if has ++ past u spans)
+rising_all u spans true h = and_from _ _ (below_past 0 u spans (omega arith)) (rising_past 0 u spans h)
+rising_all u spans false h = rising_past 0 u spans h
+
+pub further_parts : (spans : List Span) → are_apart 0 spans ≡ true → (now : List ℕ) → counters_in spans ≡ now → zero_if (has_key nat_cmp now 0) ++ past (reach_of now) spans ≡ further_of (reach_of now) now
+further_parts spans h now view =
+    let has = has_key nat_cmp now 0 in
+    let u = reach_of now in
+    further_is spans h now view (zero_if has ++ past u spans) (rising_all u spans has h) (λ n.
+    list_any-append (eq_by_cmp nat_cmp n) (zero_if has) (past u spans)
+    ∙ (λ i. has_zero has n i || has_past u spans n i)
+    ∙ or_turned (nat_eq n 0 && has) (any_past u spans n))
+
+-- by whether 0 is one of them
+pub first_is_zero : (spans : List Span) → are_apart 0 spans ≡ true → (now : List ℕ) → counters_in spans ≡ now → has_key nat_cmp now 0 ≡ true → slice_get (further_of (reach_of now) now) 0 ≡ Some 0
+first_is_zero spans h now view has = ap (λ ns. slice_get ns 0) (sym (further_parts spans h now view)) ∙ ap (λ b. slice_get (zero_if b ++ past (reach_of now) spans) 0) has
+
+pub behind_zero : (spans : List Span) → are_apart 0 spans ≡ true → (now : List ℕ) → counters_in spans ≡ now → has_key nat_cmp now 0 ≡ true → (i j : ℕ) → j ≡ i + 1 → slice_get (further_of (reach_of now) now) j ≡ slice_get (past (reach_of now) spans) i
+behind_zero spans h now view has i j e =
+    ap (λ ns. slice_get ns j) (sym (further_parts spans h now view)) ∙ ap (λ b. slice_get (zero_if b ++ past (reach_of now) spans) j) has ∙ one j i e
+  where
+    one : (j i : ℕ) → j ≡ i + 1 → slice_get (0 ∷ past (reach_of now) spans) j ≡ slice_get (past (reach_of now) spans) i
+    one zero i e = absurd (omega arith)
+    one (suc j) i e = ap (slice_get (past (reach_of now) spans)) (less j i e)
+      where
+        less : (j i : ℕ) → suc j ≡ i + 1 → j ≡ i
+        less j i e = omega arith
+
+pub without_zero : (spans : List Span) → are_apart 0 spans ≡ true → (now : List ℕ) → counters_in spans ≡ now → has_key nat_cmp now 0 ≡ false → (i : ℕ) → slice_get (further_of (reach_of now) now) i ≡ slice_get (past (reach_of now) spans) i
+without_zero spans h now view none i = ap (λ ns. slice_get ns i) (sym (further_parts spans h now view)) ∙ ap (λ b. slice_get (zero_if b ++ past (reach_of now) spans) i) none

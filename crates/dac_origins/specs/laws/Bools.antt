@@ -1,0 +1,12 @@
+-- Only equal truth values tie.
+use Rattle.std.specs.Prelude.{◌≡◌, Bool, true, false, refl}
+use Rattle.std.specs.declared.cmp.Ordering.{Ordering}
+use Rattle.std.specs.declared.cmp.Ordering.TheVariants.{Less, Equal, Greater}
+use Rattle.std.specs.Ordering.{bool_cmp}
+use Rattle.std.proofs.lemmas.Map.Lookups.{CmpEqualImpliesEq}
+
+pub exact_bools : CmpEqualImpliesEq bool_cmp
+exact_bools true true e = refl
+exact_bools false false e = refl
+exact_bools true false e = cc
+exact_bools false true e = cc

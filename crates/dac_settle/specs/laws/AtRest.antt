@@ -1,0 +1,77 @@
+-- Where all is settled, a tick claims nothing.
+use Rattle.std.proofs.Common.{◌≡◌, ℕ, ◌<◌, List, [], ◌∷◌, true, Option, Some, None, Result, Ok, refl, sym, ap, subst, ◌∙◌}
+use Rattle.std.proofs.lemmas.Bool.{and_parts}
+use Rattle.dac_base.specs.declared.NodeId.{NodeId}
+use Rattle.dac_base.specs.declared.AppId.{AppId}
+use Rattle.dac_origins.specs.declared.dot.Origin.{Origin}
+use Rattle.dac_operations.specs.Operations.{Operation}
+use Rattle.dac_meaning.specs.StateValue.{StateValue}
+use Rattle.dac_config.specs.Table.{Table, app_count}
+use Rattle.dac_placement.specs.Placement.{verdict_of, candidate_of}
+use Rattle.dac_decide.specs.FailoverWait.{waits_of}
+use Rattle.dac_decide.specs.declared.start_gate.Opening.{Opening}
+use Rattle.dac_decide.specs.declared.start_gate.Opening.TheVariants.{Shut, Opened, GiveUp}
+use Rattle.dac_decide.specs.declared.waits.Noted.{Noted}
+use Rattle.dac_messages.specs.declared.event.Event.TheVariants.{Tick}
+use Rattle.dac_messages.specs.declared.reply.Reply.{Reply}
+use Rattle.dac_messages.specs.declared.reply.Reply.TheVariants.{Ticked}
+use Rattle.dac_events.specs.declared.refusal.Refusal.{Refusal}
+use Rattle.dac_ticks.specs.Ticks.{Turn, turn_of, is_mine}
+use Rattle.dac_ticks.specs.laws.Turning.{numbered, turned_by, turn_reaches}
+use Rattle.dac_ticks.specs.laws.Words.{own_if}
+use Rattle.dac_model_world.specs.ModelNode.{ModelNode, ModelRunning, joined, shown, running_shown}
+use Rattle.dac_model_world.specs.EventRefusals.{refusal_of}
+use Rattle.dac_model_world.specs.Deeds.{opening_at, note_of, ticks_by}
+use Rattle.dac_model_world.specs.Step.{model_step, step_by}
+use Rattle.dac_settle.specs.Settling.{IsSettled}
+use Rattle.dac_settle.specs.Rules.{judged}
+use Rattle.dac_settle.specs.AtRest.{SettledClaimNothing}
+use Rattle.dac_settle.specs.laws.WorkedRound.{nobody_claims}
+
+none_some : {X : Type 0} {v : X} {Y : Type 0} → ◌≡◌ {A = Option X} None (Some v) → Y
+none_some e = cc
+
+-- ---- a turn
+
+module _ (t : Table) (own : Origin) (noted : List (Option Noted)) (now : ℕ) (s : StateValue)
+    (settled : (app : AppId) → app.0 < app_count t → IsSettled (judged t s app))
+  where
+    -- nothing is claimed so far
+    record IsIdle (turn : Turn) : Type 0 where
+      state : turn.state ≡ s
+      ops : turn.ops ≡ []
+
+    not_mine : (turn : Turn) (app : AppId) → app.0 < app_count t → turn.state ≡ s → ¬ (is_mine t own noted now turn.state app ≡ true)
+    not_mine turn app lt same mine =
+        let own_is : candidate_of (verdict_of t turn.state app) ≡ Some own.node = own_if own (candidate_of (verdict_of t turn.state app)) (and_parts _ _ mine).0 in
+        none_some (sym (nobody_claims (verdict_of t s app) (settled app lt)) ∙ ap (λ u. candidate_of (verdict_of t u app)) (sym same) ∙ own_is)
+
+    idle : IsIdle (turn_of t own noted now s)
+    idle = turn_reaches t own noted now (λ n turn. IsIdle turn) s (record { state = refl; ops = refl }) (λ n turn lt h.
+        turned_by t own noted now IsIdle turn (numbered n)
+        (λ none. h)
+        (λ mine used. record { state = h.state; ops = h.ops })
+        (λ mine left. absurd (not_mine turn (numbered n) lt h.state mine)))
+
+-- ---- a tick
+
+module _ (t : Table) (me : NodeId) (last now : ℕ) (r : ModelRunning) (settled : (app : AppId) → app.0 < app_count t → IsSettled (judged t (joined r.log) app)) (ops : List Operation) (passed : List AppId) where
+  abbrev noted : List (Option Noted)
+  noted = waits_of t (note_of (joined r.log) (Tick now) ∷ r.notes)
+
+  by_opening : (o : Opening) → ◌≡◌ {A = Result Reply Refusal} (Ok (ticks_by o t (running_shown t r) noted now).reply) (Ok (Ticked ops passed)) → ops ≡ []
+  by_opening Shut answer = cc
+  by_opening GiveUp answer = cc
+  by_opening Opened answer =
+      let same : (turn_of t r.origin noted now (joined r.log)).ops ≡ ops = cc in
+      sym same ∙ (idle t r.origin noted now (joined r.log) settled).ops
+
+  by_refusal : (x : Option Refusal) → (step_by x t me (record { last = last; running = Some r }) (Tick now)).answer ≡ Ok (Ticked ops passed) → ops ≡ []
+  by_refusal (Some why) answer = cc
+  by_refusal None answer = by_opening (opening_at t (running_shown t r) now) answer
+
+pub settled_claim_nothing : SettledClaimNothing
+settled_claim_nothing t me d r now ops passed runs settled answer =
+    let at : ModelNode = record { last = d.last; running = Some r } in
+    let same : d ≡ at = λ i. record { last = d.last; running = runs i } in
+    by_refusal t me d.last now r settled ops passed (refusal_of t (shown t at) (Tick now)) (ap (λ (n : ModelNode). (model_step t me n (Tick now)).answer) (sym same) ∙ answer)
