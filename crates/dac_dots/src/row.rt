@@ -253,11 +253,7 @@ pub(crate) fn place_of(rows: &[OriginRow], origin: Origin) -> Result<usize, usiz
 }
 
 /// Where the row of an origin is, or would be. It is looked for at this place first.
-pub(crate) fn place_near(
-    rows: &[OriginRow],
-    place: usize,
-    origin: Origin,
-) -> Result<usize, usize>
+pub(crate) fn place_near(rows: &[OriginRow], place: usize, origin: Origin) -> Result<usize, usize>
     requires { IsRising origin_cmp (origins rows.now) }
     ensures { IsPlaceOf rows.now origin result }
 {

@@ -116,15 +116,15 @@ impl OriginRows {
         Ok(())
     }
 
-    /// Puts the dots of a row into the set.
-    fn unite_row(&mut self, row: &OriginRow) -> Result<(), NoMemory>
+    /// Puts the dots of a row into the set. A row of its own is looked for at this place first.
+    fn unite_row(&mut self, near: usize, row: &OriginRow) -> Result<(), NoMemory>
         requires kept { IsKept row.now }
         requires some { HasSome row.now }
         ensures { OnOk result
             ((q : Dot) → set.contains self.new q ≡ (row_has q row.now || set.contains self.old q)) }
     {
         let alloc = *self.rows.allocator();
-        match place_of(&self.rows, row.origin) {
+        match place_near(&self.rows, near, row.origin) {
             Ok(place) => {
                 let own = &mut self.rows[place];
                 own.absorb(alloc, row)?;
@@ -142,8 +142,10 @@ impl OriginRows {
         ensures { IfOk result (λ both. both ≡ set.union self.now other.now) }
     {
         let mut both = self.copy()?;
+        let mut near: usize = 0;
         for row in &other.rows {
-            both.unite_row(row)?;
+            both.unite_row(near, row)?;
+            near = near.saturating_add(1);
         }
         Ok(both)
     }
