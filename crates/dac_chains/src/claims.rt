@@ -102,7 +102,7 @@ impl Claims {
     pub fn greatest(&self, app: AppId) -> Option<Claim>
         ensures { result ≡ map.get self.now app }
     {
-        match self.claims.get(app) {
+        match self.claims.get_near(app.0 as usize, app) {
             Some(greatest) => Some(greatest.value),
             None => None,
         }

@@ -96,7 +96,7 @@ impl Lives {
     pub fn greatest_life(&self, node: NodeId) -> Option<Life>
         ensures { result ≡ map.get self.now node }
     {
-        match self.lives.get(node) {
+        match self.lives.get_near(node.0 as usize, node) {
             Some(greatest) => Some(greatest.value),
             None => None,
         }

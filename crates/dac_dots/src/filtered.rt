@@ -12,7 +12,7 @@ use std::marker::Model;
 const MOST_FILTERED: usize = 128;
 
 /// How many dots a context is asked about at least, where its own are put one by one.
-const LEAST_ASKED: usize = 8;
+const LEAST_ASKED: usize = 3;
 
 /// A context that is asked about many dots. Of a dot whose slot no dot of the context has, the answer comes at once.
 /// Contracts see it as the context.

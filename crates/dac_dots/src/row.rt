@@ -259,3 +259,14 @@ pub(crate) fn place_of(rows: &[OriginRow], origin: Origin) -> Result<usize, usiz
 {
     rows.binary_search_by_key(&origin, |row| row.origin)
 }
+
+/// Where the row of an origin is, or would be. It is looked for at this place first.
+pub(crate) fn place_near(rows: &[OriginRow], place: usize, origin: Origin) -> Result<usize, usize>
+    requires { IsRising origin_cmp (origins rows.now) }
+    ensures { IsPlaceOf rows.now origin result }
+{
+    match rows.get(place) {
+        Some(row) if row.origin.cmp(&origin).is_eq() => Ok(place),
+        _ => place_of(rows, origin),
+    }
+}

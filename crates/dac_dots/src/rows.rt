@@ -9,7 +9,7 @@ ghost use Rattle.dac_dots.specs.Rows.{AreRowsOf, CanFollow, HasSome, EndBefore, 
 ghost use Rattle.dac_origins.specs.declared.dot.Dot.{Dot};
 
 use crate::filter::DotFilter;
-use crate::row::{Further, OriginRow, has_no_dots, place_of, rises_from};
+use crate::row::{Further, OriginRow, has_no_dots, place_near, place_of, rises_from};
 use dac_base::{MAX_COUNTER, NoMemory};
 use dac_origins::{Dot, Origin};
 use std::alloc::{AllocError, Global};
@@ -116,15 +116,15 @@ impl OriginRows {
         Ok(())
     }
 
-    /// Puts the dots of a row into the set.
-    fn unite_row(&mut self, row: &OriginRow) -> Result<(), NoMemory>
+    /// Puts the dots of a row into the set. A row of its own is looked for at this place first.
+    fn unite_row(&mut self, near: usize, row: &OriginRow) -> Result<(), NoMemory>
         requires kept { IsKept row.now }
         requires some { HasSome row.now }
         ensures { OnOk result
             ((q : Dot) → set.contains self.new q ≡ (row_has q row.now || set.contains self.old q)) }
     {
         let alloc = *self.rows.allocator();
-        match place_of(&self.rows, row.origin) {
+        match place_near(&self.rows, near, row.origin) {
             Ok(place) => {
                 let own = &mut self.rows[place];
                 own.absorb(alloc, row)?;
@@ -142,17 +142,19 @@ impl OriginRows {
         ensures { IfOk result (λ both. both ≡ set.union self.now other.now) }
     {
         let mut both = self.copy()?;
+        let mut near: usize = 0;
         for row in &other.rows {
-            both.unite_row(row)?;
+            both.unite_row(near, row)?;
+            near = near.saturating_add(1);
         }
         Ok(both)
     }
 
-    /// Whether the set has each dot of a row.
-    fn has_row(&self, row: &OriginRow) -> bool
+    /// Whether the set has each dot of a row. A row of its own is looked for at this place first.
+    fn has_row(&self, near: usize, row: &OriginRow) -> bool
         ensures { IsTrue result ↔ IsRowIn row.now self.now }
     {
-        match place_of(&self.rows, row.origin) {
+        match place_near(&self.rows, near, row.origin) {
             Ok(place) => row.is_within(&self.rows[place]),
             Err(_) => row.is_empty(),
         }
@@ -162,10 +164,13 @@ impl OriginRows {
     pub(crate) fn is_subset(&self, other: &Self) -> bool
         ensures { IsTrue result ↔ IsSubset self.now other.now }
     {
+        // Both lists go by their origins, so that a row mostly has the same place in both.
+        let mut near: usize = 0;
         for row in &self.rows {
-            if !other.has_row(row) {
+            if !other.has_row(near, row) {
                 return false;
             }
+            near = near.saturating_add(1);
         }
         true
     }

@@ -6,7 +6,7 @@ ghost use Rattle.dac_lattice.specs.Lattices.{IsOptionBelow};
 ghost use Rattle.dac_lattice.specs.Maps.{IsMap};
 ghost use Rattle.dac_lattice.specs.Search.{IsInOrder};
 
-use crate::merging::{Combine, merge, place_near, value_at};
+use crate::merging::{Combine, merge, place_near, value_at, value_near};
 use crate::{Bottom, Lattice};
 use dac_origins::{MapKey, NoMemory};
 use std::alloc::Global;
@@ -64,6 +64,15 @@ impl<K: MapKey, L: Lattice> MapOf<K, L> {
     {
         self.tells_invariant();
         value_at(self.entries(), key)
+    }
+
+    /// The value at a key, if there is one. It is looked for at this place first, which changes nothing but how long that
+    /// takes.
+    pub fn get_near(&self, place: usize, key: K) -> Option<&L>
+        ensures { option_copied result ≡ find K.cmp key self.now }
+    {
+        self.tells_invariant();
+        value_near(self.entries(), place, key)
     }
 
     /// The entries in the order of the keys.

@@ -132,6 +132,17 @@ pub(crate) fn place_near<K: MapKey, X>(
     }
 }
 
+/// The value at a key of a sorted list of entries, if there is one. It is looked for at this place first.
+pub fn value_near<K: MapKey, X>(entries: &[(K, X)], place: usize, key: K) -> Option<&X>
+    requires { IsInOrder K.cmp entries.now }
+    ensures { option_copied result ≡ find K.cmp key entries.now }
+{
+    match place_near(entries, place, key) {
+        Ok(found) => Some(&entries[found].1),
+        Err(_) => None,
+    }
+}
+
 /// The value at a key of a sorted list of entries, if there is one.
 pub fn value_at<K: MapKey, X>(entries: &[(K, X)], key: K) -> Option<&X>
     requires { IsInOrder K.cmp entries.now }

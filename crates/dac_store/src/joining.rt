@@ -336,7 +336,7 @@ pub(crate) fn join_parts<K: MapKey, S: DotStore>(
         ≡ join_keyed K.cmp S.nothing S.is_empty S.join (flat_map arc_value blocks.now ++ last.now)
         how.now.mine.now theirs.entry how.now.theirs.now) }
 {
-    let mut built = Parts::empty(how.alloc);
+    let mut built = Parts::with_room(how.alloc, blocks.len())?;
     let mut others = theirs;
     for block in blocks {
         join_block(how, &mut built, block, &mut others)?;

@@ -56,6 +56,20 @@ impl<K: MapKey, S: DotStore> Parts<K, S> {
         }
     }
 
+    /// No entries, with room for so many blocks and two more, unless none is asked for. [`NoMemory`] is the only error.
+    pub(crate) fn with_room(alloc: Global, blocks: usize) -> Result<Self, NoMemory>
+        ensures { IfOk result (λ parts. parts ≡ []) }
+    {
+        let mut room = Vec::new(alloc);
+        if blocks > 0 {
+            room.reserve_exact(blocks.saturating_add(2))?;
+        }
+        Ok(Parts {
+            blocks: room,
+            last: Vec::new(alloc),
+        })
+    }
+
     /// Where the memory comes from.
     pub(crate) fn allocator(&self) -> Global {
         *self.last.allocator()

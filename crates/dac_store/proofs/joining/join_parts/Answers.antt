@@ -13,7 +13,7 @@ loop-block-init g c =
     let s = g.S.DotStore in
     let f = joined_at s.nothing s.is_empty s.join c.args.how.now.mine.now c.args.how.now.theirs.now in
     record {
-      joined = ap (λ l. l ++ merge_entries g.K.Ord.cmp f (flat_map arc_value c.args.blocks.now ++ c.args.last.now) c.args.theirs) c.empty-built.ensures;
+      joined = ap (λ l. l ++ merge_entries g.K.Ord.cmp f (flat_map arc_value c.args.blocks.now ++ c.args.last.now) c.args.theirs) c.in_ok-built.ensures;
       in_order = c.requires.in_order;
       kept = kept_each s.is_store s.is_empty g.met.K.Ord.total g.met.K.MapKey.exact (flat_map arc_value c.args.blocks.now ++ c.args.last.now) c.requires;
     }

@@ -7,10 +7,10 @@ use Rattle.dac_chains.proofs.lives.Lives.greatest_life.Goals as goal
 
 pub returns-in-Some : goal.returns-in-Some
 returns-in-Some c =
-    ap (λ r. option_map value_of (option_copied r)) (sym c.in-Some.is) ∙ ap (option_map value_of) c.get.ensures
+    ap (λ r. option_map value_of (option_copied r)) (sym c.in-Some.is) ∙ ap (option_map value_of) c.get_near.ensures
     ∙ sym (get-kept nodes_total exact_nodes c.self.inside.lives c.args.node) ∙ ap (λ m. map.get m c.args.node) c.self.view_is
 
 pub returns-in-None : goal.returns-in-None
 returns-in-None c =
-    ap (λ r. option_map value_of (option_copied r)) (sym c.in-None.is) ∙ ap (option_map value_of) c.get.ensures
+    ap (λ r. option_map value_of (option_copied r)) (sym c.in-None.is) ∙ ap (option_map value_of) c.get_near.ensures
     ∙ sym (get-kept nodes_total exact_nodes c.self.inside.lives c.args.node) ∙ ap (λ m. map.get m c.args.node) c.self.view_is
