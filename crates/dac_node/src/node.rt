@@ -152,6 +152,7 @@ impl Node {
         // Where some model node shows as it, one shows as what it becomes.
         ensures shown { IsShown config.now self.old → IsShown config.now self.new }
     {
+        self.warm(&event);
         let change = self.prepare(config, self_id, &event)?;
         let reply = self.apply(change)?;
         Ok(reply)
