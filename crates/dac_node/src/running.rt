@@ -105,7 +105,7 @@ impl Running {
         ensures operation { IfOk result (λ both. both.1 ≡ up origin) }
     {
         let (knowledge, operation, delta) = Knowledge::at_boot(alloc, config, origin, now)?;
-        let mut buffer = Buffer::new(alloc);
+        let mut buffer = Buffer::lazy(alloc);
         buffer.push(delta)?;
         Ok((Running { knowledge, buffer }, operation))
     }
