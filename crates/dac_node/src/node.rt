@@ -173,9 +173,11 @@ impl Node {
     pub fn warm(&mut self, event: &Event)
         ensures { self.new ≡ self.old }
     {
-        if let Event::Ship { to } = event {
-            if let Some(running) = &mut self.running {
-                running.warm(*to);
+        if let Some(running) = &mut self.running {
+            match event {
+                Event::Ship { to } => running.warm(*to),
+                Event::Tick { now: _ } => running.catch_up(),
+                _ => {}
             }
         }
     }
