@@ -5,3 +5,4 @@ mod Shown
 mod Kept
 mod FirstByGroup
 mod Walks
+mod Stays

@@ -23,38 +23,39 @@ use Rattle.dac_wishes.specs.StartsByKey.{starts_by_key}
 use Rattle.dac_wishes.specs.laws.StartsByKey.{are_starts, dots_stored, writes_again}
 use Rattle.dac_lattice.specs.Search.{AtEachKey}
 use Rattle.dac_board.specs.Alike.{IsAbsent, IsSameOf}
+use Rattle.dac_board.specs.Marks.{place_of}
 
 same_key_is : (a b : Key) → eq_by_cmp key_cmp a b ≡ true → a ≡ b
 same_key_is a b e = exact_keys a b ((Equal-is (key_cmp a b)).0 e)
 
-module _ {X : Type 0} (k : ℕ) where
-  passes : (q : Key) (e : Key × X) (es : List (Key × X)) → q.app.0 ≡ k → (e.0.app.0 ≡ k → ⊥) → find key_cmp q (e ∷ es) ≡ find key_cmp q es
-  passes q e es at other = ap (λ b. cond b (Some e.1) (find key_cmp q es)) (false_from_ne_true (eq_by_cmp key_cmp q e.0) (λ t. other (ap (λ (x : Key). x.app.0) (sym (same_key_is q e.0 t)) ∙ at)))
+module _ {X : Type 0} (k : ℕ × ℕ) where
+  passes : (q : Key) (e : Key × X) (es : List (Key × X)) → place_of q ≡ k → (place_of e.0 ≡ k → ⊥) → find key_cmp q (e ∷ es) ≡ find key_cmp q es
+  passes q e es at other = ap (λ b. cond b (Some e.1) (find key_cmp q es)) (false_from_ne_true (eq_by_cmp key_cmp q e.0) (λ t. other (ap place_of (sym (same_key_is q e.0 t)) ∙ at)))
 
-  pub old_passed : (old new next : List (Key × X)) (e : Key × X) → old ≡ e ∷ drop 1 old → next ≡ drop 1 old → (e.0.app.0 ≡ k → ⊥) → IsSameOf k next new → IsSameOf k old new
+  pub old_passed : (old new next : List (Key × X)) (e : Key × X) → old ≡ e ∷ drop 1 old → next ≡ drop 1 old → (place_of e.0 ≡ k → ⊥) → IsSameOf k next new → IsSameOf k old new
   old_passed old new next e is passed other same = λ q at. ap (find key_cmp q) is ∙ passes q e (drop 1 old) at other ∙ ap (find key_cmp q) (sym passed) ∙ same q at
 
-  pub new_passed : (old new next : List (Key × X)) (e : Key × X) → new ≡ e ∷ drop 1 new → next ≡ drop 1 new → (e.0.app.0 ≡ k → ⊥) → IsSameOf k old next → IsSameOf k old new
+  pub new_passed : (old new next : List (Key × X)) (e : Key × X) → new ≡ e ∷ drop 1 new → next ≡ drop 1 new → (place_of e.0 ≡ k → ⊥) → IsSameOf k old next → IsSameOf k old new
   new_passed old new next e is passed other same = λ q at. same q at ∙ ap (find key_cmp q) passed ∙ sym (ap (find key_cmp q) is ∙ passes q e (drop 1 new) at other)
 
   -- nothing of the application is at an entry that is passed
-  pub absent_passed : (now next : List (Key × X)) (e : Key × X) → now ≡ e ∷ next → (e.0.app.0 ≡ k → ⊥) → AtEachKey key_cmp (IsAbsent k) next → AtEachKey key_cmp (IsAbsent k) now
+  pub absent_passed : (now next : List (Key × X)) (e : Key × X) → now ≡ e ∷ next → (place_of e.0 ≡ k → ⊥) → AtEachKey key_cmp (IsAbsent k) next → AtEachKey key_cmp (IsAbsent k) now
   absent_passed now next e is other none = λ q at. ap (find key_cmp q) is ∙ passes q e next at other ∙ none q at
 
   pub none_absent : (now : List (Key × X)) → now ≡ [] → AtEachKey key_cmp (IsAbsent k) now
   none_absent now none = λ q at. ap (find key_cmp q) none
 
-  by_key : (q : Key) (e f : Key × X) (es fs : List (Key × X)) → q.app.0 ≡ k → e.0 ≡ f.0 → (e.0.app.0 ≡ k → e.1 ≡ f.1) → find key_cmp q es ≡ find key_cmp q fs → find key_cmp q (e ∷ es) ≡ find key_cmp q (f ∷ fs)
+  by_key : (q : Key) (e f : Key × X) (es fs : List (Key × X)) → place_of q ≡ k → e.0 ≡ f.0 → (place_of e.0 ≡ k → e.1 ≡ f.1) → find key_cmp q es ≡ find key_cmp q fs → find key_cmp q (e ∷ es) ≡ find key_cmp q (f ∷ fs)
   by_key q e f es fs at keys values rest =
       let there : eq_by_cmp key_cmp q f.0 ≡ eq_by_cmp key_cmp q e.0 = ap (eq_by_cmp key_cmp q) (sym keys) in
       elim (eq_by_cmp key_cmp q e.0) as (λ b. eq_by_cmp key_cmp q e.0 ≡ b → cond b (Some e.1) (find key_cmp q es) ≡ find key_cmp q (f ∷ fs)) [
         | true ↦ λ t.
-            ap (λ v. Some v) (values (ap (λ (x : Key). x.app.0) (sym (same_key_is q e.0 t)) ∙ at))
+            ap (λ v. Some v) (values (ap place_of (sym (same_key_is q e.0 t)) ∙ at))
             ∙ sym (ap (λ b. cond b (Some f.1) (find key_cmp q fs)) (there ∙ t))
         | false ↦ λ t. rest ∙ sym (ap (λ b. cond b (Some f.1) (find key_cmp q fs)) (there ∙ t))
       ] refl
 
-  pub both_passed : (old new next after : List (Key × X)) (e f : Key × X) → old ≡ e ∷ drop 1 old → new ≡ f ∷ drop 1 new → next ≡ drop 1 old → after ≡ drop 1 new → e.0 ≡ f.0 → (e.0.app.0 ≡ k → e.1 ≡ f.1)
+  pub both_passed : (old new next after : List (Key × X)) (e f : Key × X) → old ≡ e ∷ drop 1 old → new ≡ f ∷ drop 1 new → next ≡ drop 1 old → after ≡ drop 1 new → e.0 ≡ f.0 → (place_of e.0 ≡ k → e.1 ≡ f.1)
       → IsSameOf k next after → IsSameOf k old new
   both_passed old new next after e f is also passed gone keys values same = λ q at.
       ap (find key_cmp q) is

@@ -1,7 +1,7 @@
 -- Decisions that are kept up. A board keeps of each application how it stands at its holder and which nodes may run
 -- it. It shows a state where it keeps what the definitions of placement say of that state. Then it gives the state's
 -- verdicts and loads.
-use Rattle.std.specs.Prelude.{◌≡◌, ℕ, List, map as list_map, Option, None, if◌then◌else◌}
+use Rattle.std.specs.Prelude.{◌≡◌, ℕ, Bool, true, false, List, map as list_map, Option, None, if◌then◌else◌}
 use Rattle.std.specs.Option.{option_map}
 use Rattle.dac_base.specs.declared.NodeId.{NodeId}
 use Rattle.dac_base.specs.declared.AppId.{AppId}
@@ -40,6 +40,14 @@ group_held table app Lost = None
 group_held table app (Stopped n) = None
 group_held table app Barred = None
 group_held table app (Upheld n) = group_of table app n
+
+-- whether the incarnation that holds the application isn't live
+abbrev pub is_lost_at : Standing → Bool
+is_lost_at Unclaimed = false
+is_lost_at Lost = true
+is_lost_at (Stopped n) = false
+is_lost_at Barred = false
+is_lost_at (Upheld n) = false
 
 -- what a board that shows a state keeps of an application
 abbrev pub row_of : Table → StateValue → AppId → RowValue

@@ -1,17 +1,40 @@
--- That a state grew by a join, and for which applications all that a board compares stays as it is.
-use Rattle.std.specs.Prelude.{◌≡◌, IsTrue}
+-- What stays as it is where a state came to be another one.
+use Rattle.std.specs.Prelude.{◌≡◌, ℕ, ◌<◌, IsTrue, false, get_or}
+use Rattle.std.specs.FinMap as map
 use Rattle.dac_base.specs.declared.AppId.{AppId}
+use Rattle.dac_base.specs.declared.NodeId.{NodeId}
+use Rattle.dac_base.specs.declared.limits.TheConstants.{MAX_NODES}
+use Rattle.dac_chains.specs.Lives.{IsLive}
 use Rattle.dac_wishes.specs.declared.key.Key.{Key}
-use Rattle.dac_meaning.specs.StateValue.{StateValue, join}
+use Rattle.dac_wishes.specs.Writes.{dots_at}
+use Rattle.dac_wishes.specs.PermissionsValue.{permits_at}
+use Rattle.dac_wishes.specs.DrainsValue.{origin, drains_at}
+use Rattle.dac_meaning.specs.StateValue.{StateValue}
 use Rattle.dac_board.specs.declared.moving.Grown.{Grown}
 use Rattle.dac_board.specs.Touched.{StandAlike}
+use Rattle.dac_board.specs.Marks.{is_marked}
+
+-- the same permits and starts stand at each key of the application and the node
+pub record KeepsPair (old new : StateValue) (app : AppId) (node : NodeId) : Type 0 where
+  pub permits : (key : Key) → key.app ≡ app → key.node ≡ node → permits_at key old.permits ≡ permits_at key new.permits
+  pub starts : (key : Key) → key.app ≡ app → key.node ≡ node → dots_at key old.starts ≡ dots_at key new.starts
+
+-- the node has the same life, and the same drains stand at its live incarnation
+pub record NodeStays (old new : StateValue) (node : NodeId) : Type 0 where
+  pub life : map.get old.lives node ≡ map.get new.lives node
+  pub drains : (inc : ℕ) → IsLive new.lives node inc
+      → drains_at (origin node inc) old.drains ≡ drains_at (origin node inc) new.drains
 
 -- the states have the same lives, and they stand alike at each key of the application
 pub record KeepsApp (old new : StateValue) (app : AppId) : Type 0 where
   pub lives : old.lives ≡ new.lives
   pub alike : (key : Key) → key.app ≡ app → StandAlike old new key
 
--- the new state is the old one joined with the delta, and where the change is said to keep the application it does
+-- all that is said to be as it was is so: permits and starts for the application, nodes, and claims
 pub record IsGrown (g : Grown) (app : AppId) : Type 0 where
-  pub joined : g.new.now ≡ join g.old.now g.delta.now
-  pub keeps : IsTrue g.keeps → KeepsApp g.old.now g.new.now app
+  pub keeps : (node : NodeId) → is_marked g.pairs node.0 ≡ false → KeepsPair g.old.now g.new.now app node
+  pub lives : IsTrue g.is_still → g.old.now.lives ≡ g.new.now.lives
+  pub drains : IsTrue g.is_still → g.old.now.drains ≡ g.new.now.drains
+  pub claims : IsTrue g.is_claimed_alike → g.old.now.claims ≡ g.new.now.claims
+  pub nodes : (node : NodeId) → node.0 < MAX_NODES → get_or g.nodes.now node.0 false ≡ false
+      → NodeStays g.old.now g.new.now node

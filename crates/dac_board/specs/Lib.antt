@@ -4,3 +4,5 @@ pub mod Touched
 pub mod Grown
 pub mod Leads
 pub mod Alike
+pub mod Settled
+pub mod Marks

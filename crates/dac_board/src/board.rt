@@ -4,18 +4,19 @@ ghost use Rattle.dac_base.specs.declared.AppId.{AppId as App};
 ghost use Rattle.dac_base.specs.declared.NodeId.{NodeId as Named};
 ghost use Rattle.dac_config.specs.Table.{Table, app_count, group_of};
 ghost use Rattle.dac_meaning.specs.StateValue.{StateValue, join};
-ghost use Rattle.dac_placement.specs.Placement.{verdict_of, load_of, is_less};
+ghost use Rattle.dac_placement.specs.Placement.{verdict_of, load_of, standing_of};
 ghost use Rattle.dac_board.specs.Boards.{Shows};
-ghost use Rattle.dac_board.specs.Rows.{load_on, rank_on, first_on, verdict_on, row_verdict};
-ghost use Rattle.dac_board.specs.Leads.{is_settled};
+ghost use Rattle.dac_board.specs.Boards.{is_lost_at};
+ghost use Rattle.dac_board.specs.Rows.{load_on, rank_on, first_on, row_verdict};
 ghost use Rattle.dac_board.specs.Touched.{touched, is_touched, IsTouched};
 
-use crate::leading::{Lead, leader};
-use crate::moving::{Grown, moved_by};
+use crate::judging::verdict_by;
+use crate::moving::{Grown, moved_by, moves_nodes, nodes_moved};
 use crate::row::Row;
 use crate::spot::Spot;
 use dac_base::{AppId, NoMemory, NodeId};
 use dac_config::Config;
+use dac_lattice::Lattice;
 use dac_placement::{Rank, Standing, State, Verdict, lesser};
 use std::alloc::Global;
 use std::marker::Model;
@@ -72,6 +73,17 @@ impl Board {
         load_on(&self.rows, app, node)
     }
 
+    /// Whether an application's holder is lost, by the state that is shown. It takes no memory.
+    pub fn is_lost(&self, app: AppId) -> bool
+        ensures { (table : Table) (s : StateValue) → Shows table self.now s → app.0 < app_count table
+            → result ≡ is_lost_at (standing_of table s app) }
+    {
+        match self.rows.get(app.0 as usize) {
+            Some(row) => is_lost_at(row.standing()),
+            None => false,
+        }
+    }
+
     /// How often it was looked whether a node may run an application, since the board was made; the greatest number
     /// stays. It takes no memory.
     pub fn looked(&self) -> u64
@@ -86,6 +98,8 @@ impl Board {
     pub fn absorb(&mut self, config: &Config, old: &State, new: &State, delta: &State)
         ensures shows { Shows config.now self.old old.now → new.now ≡ join old.now delta.now
             → Shows config.now self.new new.now }
+        // Whatever the state came to be, the board shows it.
+        ensures all { Shows config.now self.old old.now → Shows config.now self.new new.now }
         ensures few { self.new.looked ≤ self.old.looked + touched config.now old.now new.now }
         ensures rises { self.old.looked ≤ self.new.looked }
         // what is counted
@@ -96,14 +110,20 @@ impl Board {
             → IsTrue (is_touched config.now old.now new.now app node) → ⊥ }
     {
         let moved = moved_by(old, new);
+        let is_still = !moves_nodes(old, new);
+        let nodes = nodes_moved(old, new, is_still, config.nodes() as usize);
+        let is_claimed_alike = old.claims().equal(new.claims());
+        let _delta = delta;
         let mut looked = self.looked;
         let places = self.rows.len().min(config.apps() as usize);
         for place in 0..places {
             let change = Grown {
                 old,
                 new,
-                delta,
-                keeps: !moved[place],
+                nodes: &nodes,
+                pairs: moved[place],
+                is_still,
+                is_claimed_alike,
             };
             let row = &mut self.rows[place];
             row.absorb(config, &change, AppId(place as u16), &mut looked);
@@ -176,67 +196,24 @@ fn verdict_on(rows: &[Row], app: AppId) -> Verdict
     ensures { result ≡ row_verdict rows.now app }
 {
     match rows.get(app.0 as usize) {
-        Some(row) => judged(rows, app, row),
+        Some(row) => match row.settled() {
+            Some(verdict) => verdict,
+            None => verdict_by(
+                row.standing(),
+                row.group(),
+                first_on(rows, app, row.spots()),
+            ),
+        },
         None => Verdict::Nobody,
     }
 }
 
-/// The verdict of an application that has this row.
-fn judged(rows: &[Row], app: AppId, row: &Row) -> Verdict
-    requires { length rows.now < 2 ^ 16 }
-    ensures { result
-        ≡ verdict_on row.now.standing row.now.group (first_on rows.now app row.now.spots) }
-{
-    let standing = row.standing();
-    let group = row.group();
-    match leader(row.spots()) {
-        Some(lead) if is_settled(standing, group, lead) => {
-            let rank = Rank {
-                group: lead.spot.group,
-                load: 0,
-                node: lead.spot.node,
-            };
-            verdict_by(standing, group, Some(rank))
-        }
-        _ => verdict_by(standing, group, first_on(rows, app, row.spots())),
-    }
-}
-
-/// Whether the verdict is the same whoever of the leading group comes first.
-fn is_settled(standing: Standing, group: Option<u16>, lead: Lead) -> bool
-    ensures { result ≡ is_settled standing group lead }
+/// Whether the incarnation that holds an application isn't live, where it stands so.
+fn is_lost_at(standing: Standing) -> bool
+    ensures { result ≡ is_lost_at standing }
 {
     match standing {
-        Standing::Stopped(_) => true,
-        Standing::Upheld(_) => lead.alone || !is_before(lead.spot.group, group),
-        Standing::Unclaimed | Standing::Lost | Standing::Barred => lead.alone,
-    }
-}
-
-/// Whether a group is earlier than the other that is there.
-fn is_before(early: u16, late: Option<u16>) -> bool
-    ensures { result ≡ is_less (Some early) late }
-{
-    match late {
-        Some(late) => early < late,
-        None => false,
-    }
-}
-
-/// The verdict, where the application stands so, with its holder in this group, and this is the first choice.
-fn verdict_by(standing: Standing, group: Option<u16>, first: Option<Rank>) -> Verdict
-    ensures { result ≡ verdict_on standing group first }
-{
-    match (standing, first) {
-        (Standing::Stopped(holder), _) => Verdict::Halted(holder),
-        (Standing::Upheld(holder), None) => Verdict::Kept(holder),
-        (Standing::Upheld(holder), Some(rank)) => match group {
-            Some(late) if rank.group < late => Verdict::Takeover(rank.node),
-            _ => Verdict::Kept(holder),
-        },
-        (Standing::Unclaimed, Some(rank)) => Verdict::Start(rank.node),
-        (Standing::Lost, Some(rank)) => Verdict::Failover(rank.node),
-        (Standing::Barred, Some(rank)) => Verdict::Move(rank.node),
-        (_, None) => Verdict::Nobody,
+        Standing::Lost => true,
+        _ => false,
     }
 }

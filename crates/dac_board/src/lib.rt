@@ -10,6 +10,7 @@
 #![tactic(auto)]
 
 mod board;
+mod judging;
 mod leading;
 mod moving;
 mod row;

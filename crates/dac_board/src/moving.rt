@@ -1,42 +1,110 @@
 //! Which applications a change may move.
 ghost use Rattle.std.specs.Prelude.{◌≡◌, ◌<◌, ◌+◌, ℕ, get_or, true, false, length};
 ghost use Rattle.dac_base.specs.declared.AppId.{AppId as App};
-ghost use Rattle.dac_base.specs.declared.limits.TheConstants.{MAX_APPS as MOST_APPS};
+ghost use Rattle.dac_base.specs.declared.limits.TheConstants.{MAX_APPS as MOST_APPS, MAX_NODES as MOST_NODES};
 ghost use Rattle.dac_lattice.specs.Search.{AtEachKey};
 ghost use Rattle.dac_wishes.specs.Keys.{key_cmp};
-ghost use Rattle.dac_board.specs.Grown.{KeepsApp};
+ghost use Rattle.dac_board.specs.Grown.{KeepsPair, NodeStays};
+ghost use Rattle.dac_board.specs.Marks.{is_marked, is_moved, place_of};
+ghost use Rattle.dac_base.specs.declared.NodeId.{NodeId as Node};
+ghost use Rattle.dac_wishes.specs.DrainsValue.{origin, drains_at};
+ghost use Rattle.std.specs.FinMap as map;
 ghost use Rattle.dac_board.specs.Alike.{IsSameOf, IsAbsent};
 
-use dac_base::{AppId, MAX_APPS};
+use dac_base::{AppId, MAX_APPS, MAX_NODES, NodeId};
 use dac_lattice::{Flag, Lattice};
 use dac_origins::Origin;
 use dac_state::{Key, State};
-use dac_store::{DotFun, DotSet, Entries};
+use dac_store::{DotFun, DotSet, DotStore, Entries};
 use std::cmp::Ordering;
 
-/// That a state was joined with another.
+/// That a state came to be another one.
 #[derive(Clone, Copy)]
 pub(crate) struct Grown<'a> {
     /// The state before.
     pub(crate) old: &'a State,
     /// The state now.
     pub(crate) new: &'a State,
-    /// What it was joined with.
-    pub(crate) delta: &'a State,
-    /// All lives and drains are as before, and so is all that stands for one application.
-    pub(crate) keeps: bool,
+    /// By the number of a node, whether it may move.
+    pub(crate) nodes: &'a [bool; MAX_NODES],
+    /// A bit for each node at which permits or starts for one application may differ.
+    pub(crate) pairs: u64,
+    /// All lives and drains are as before.
+    pub(crate) is_still: bool,
+    /// All claims are as before.
+    pub(crate) is_claimed_alike: bool,
 }
 
-/// Which applications may be moved where a state came to be another one. Of the others all that stands is the same in both, and
-/// no life and no drain differs. It walks once through what stands in both, and takes no memory.
-pub(crate) fn moved_by(old: &State, new: &State) -> [bool; MAX_APPS]
-    ensures { (app : App) → app.0 < MOST_APPS → get_or result app.0 false ≡ false
-        → KeepsApp old.now new.now app }
+/// Which nodes may move where a state came to be another one. Of the others the life is the same in both, and so are the
+/// drains that stand at the live incarnation. Only the first `count` nodes are looked at, and none where all lives and drains are
+/// as before.
+pub(crate) fn nodes_moved(
+    old: &State,
+    new: &State,
+    is_still: bool,
+    count: usize,
+) -> [bool; MAX_NODES]
+    requires lives { is_still ≡ true → old.now.lives ≡ new.now.lives }
+    requires drains { is_still ≡ true → old.now.drains ≡ new.now.drains }
+    ensures { (node : Node) → node.0 < MOST_NODES → get_or result node.0 false ≡ false
+        → NodeStays old.now new.now node }
 {
-    if moves_all(old, new) {
-        return [true; MAX_APPS];
+    if is_still {
+        return [false; MAX_NODES];
     }
-    let mut moved = [false; MAX_APPS];
+    let mut moved = [true; MAX_NODES];
+    for place in 0..count.min(MAX_NODES) {
+        moved[place] = node_moves(old, new, NodeId(place as u8));
+    }
+    moved
+}
+
+/// Whether a node moves: its life differs, or what stands of drains at its live incarnation.
+fn node_moves(old: &State, new: &State, node: NodeId) -> bool
+    ensures { result ≡ false → NodeStays old.now new.now node }
+{
+    if old.lives().greatest_life(node) != new.lives().greatest_life(node) {
+        return true;
+    }
+    match new.lives().live(node) {
+        Some(inc) => !same_drains_at(old, new, node, inc),
+        None => false,
+    }
+}
+
+/// Whether the same drains stand at an incarnation.
+fn same_drains_at(old: &State, new: &State, node: NodeId, inc: u64) -> bool
+    ensures { result ≡ true
+        → drains_at (origin node inc) old.now.drains ≡ drains_at (origin node inc) new.now.drains }
+{
+    old.drains().dots(node, inc) == new.drains().dots(node, inc)
+}
+
+/// Whether a node of this number is marked in a word.
+pub(crate) fn is_marked(word: u64, number: u8) -> bool
+    ensures { result ≡ is_marked word number }
+{
+    word >> (number % 64) & 1 == 1
+}
+
+/// Whether the greatest claim of an application differs.
+pub(crate) fn is_claimed_anew(old: &State, new: &State, app: AppId) -> bool
+    ensures { result ≡ false → map.get old.now.claims app ≡ map.get new.now.claims app }
+{
+    match (old.claims().greatest(app), new.claims().greatest(app)) {
+        (Some(one), Some(other)) => !one.cmp(&other).is_eq(),
+        (None, None) => false,
+        _ => true,
+    }
+}
+
+/// Which applications may be moved at which nodes where a state came to be another one: a bit for each node. Of the others all
+/// permits and starts that stand are the same in both. It walks once through what stands in both, and takes no memory.
+pub(crate) fn moved_by(old: &State, new: &State) -> [u64; MAX_APPS]
+    ensures { (app : App) (node : Node) → app.0 < MOST_APPS
+        → is_moved result (app.0, node.0) ≡ false → KeepsPair old.now new.now app node }
+{
+    let mut moved = [0; MAX_APPS];
     mark_permits(
         &mut moved,
         old.permissions().entries(),
@@ -46,8 +114,8 @@ pub(crate) fn moved_by(old: &State, new: &State) -> [bool; MAX_APPS]
     moved
 }
 
-/// Whether a change from one state to another may move each application: a life differs, or what stands of drains.
-fn moves_all(old: &State, new: &State) -> bool
+/// Whether a change from one state to another may move a node: a life differs, or what stands of drains.
+pub(crate) fn moves_nodes(old: &State, new: &State) -> bool
     ensures lives { result ≡ false → old.now.lives ≡ new.now.lives }
     ensures drains { result ≡ false → old.now.drains ≡ new.now.drains }
 {
@@ -80,45 +148,45 @@ fn same_drains(
 fn same_votes(one: &DotFun<Flag>, other: &DotFun<Flag>) -> bool
     ensures { result ≡ true → one.now ≡ other.now }
 {
-    one.entries() == other.entries()
+    one.is_same(other)
 }
 
 /// Whether these are the same starts.
 fn same_starts(one: &DotSet, other: &DotSet) -> bool
     ensures { result ≡ true → one.now ≡ other.now }
 {
-    one.dots() == other.dots()
+    one.is_same(other)
 }
 
-/// Counts an application as moved.
-fn count_moved(moved: &mut [bool; MAX_APPS], app: AppId)
-    ensures before { (k : ℕ) → get_or moved.new k true ≡ false → get_or moved.old k true ≡ false }
-    ensures own { (k : ℕ) → get_or moved.new k true ≡ false → app.0 ≡ k → ⊥ }
+/// Counts an application as moved at a node.
+fn count_moved(moved: &mut [u64; MAX_APPS], key: Key)
+    ensures before { (k : ℕ × ℕ) → is_moved moved.new k ≡ false → is_moved moved.old k ≡ false }
+    ensures own { (k : ℕ × ℕ) → is_moved moved.new k ≡ false → place_of key ≡ k → ⊥ }
 {
-    let place = app.0 as usize;
+    let place = key.app.0 as usize;
     if place < MAX_APPS {
-        moved[place] = true;
+        moved[place] |= 1 << (key.node.0 % 64);
     }
 }
 
-/// Counts an application as moved, unless it is said to be the same.
-fn count_moved_unless(moved: &mut [bool; MAX_APPS], app: AppId, same: bool)
-    ensures before { (k : ℕ) → get_or moved.new k true ≡ false → get_or moved.old k true ≡ false }
-    ensures own { (k : ℕ) → get_or moved.new k true ≡ false → app.0 ≡ k → same ≡ true }
+/// Counts an application as moved at a node, unless it is said to be the same.
+fn count_moved_unless(moved: &mut [u64; MAX_APPS], key: Key, same: bool)
+    ensures before { (k : ℕ × ℕ) → is_moved moved.new k ≡ false → is_moved moved.old k ≡ false }
+    ensures own { (k : ℕ × ℕ) → is_moved moved.new k ≡ false → place_of key ≡ k → same ≡ true }
 {
     if !same {
-        count_moved(moved, app);
+        count_moved(moved, key);
     }
 }
 
 /// Counts each application as moved at a key of which the permits of two states differ.
 fn mark_permits(
-    moved: &mut [bool; MAX_APPS],
+    moved: &mut [u64; MAX_APPS],
     old: Entries<'_, Key, DotFun<Flag>>,
     new: Entries<'_, Key, DotFun<Flag>>,
 )
-    ensures before { (k : ℕ) → get_or moved.new k true ≡ false → get_or moved.old k true ≡ false }
-    ensures same { (k : ℕ) → get_or moved.new k true ≡ false → IsSameOf k old.entry new.entry }
+    ensures before { (k : ℕ × ℕ) → is_moved moved.new k ≡ false → is_moved moved.old k ≡ false }
+    ensures same { (k : ℕ × ℕ) → is_moved moved.new k ≡ false → IsSameOf k old.entry new.entry }
 {
     let mut before = old;
     let mut after = new;
@@ -129,13 +197,13 @@ fn mark_permits(
 
 /// Passes the entry of the lesser key, or one of each list where both are of one key. Says whether both had one.
 fn pass_permits(
-    moved: &mut [bool; MAX_APPS],
+    moved: &mut [u64; MAX_APPS],
     old: &mut Entries<'_, Key, DotFun<Flag>>,
     new: &mut Entries<'_, Key, DotFun<Flag>>,
 ) -> bool
-    ensures before { (k : ℕ) → get_or moved.new k true ≡ false → get_or moved.old k true ≡ false }
+    ensures before { (k : ℕ × ℕ) → is_moved moved.new k ≡ false → is_moved moved.old k ≡ false }
     ensures less { result ≡ true → length old.new + length new.new < length old.old + length new.old }
-    ensures same { (k : ℕ) → get_or moved.new k true ≡ false
+    ensures same { (k : ℕ × ℕ) → is_moved moved.new k ≡ false
         → IsSameOf k old.new new.new → IsSameOf k old.old new.old }
 {
     let Some(one) = old.first() else {
@@ -146,17 +214,17 @@ fn pass_permits(
     };
     match one.0.cmp(&other.0) {
         Ordering::Less => {
-            count_moved(moved, one.0.app);
+            count_moved(moved, one.0);
             old.pass();
             true
         }
         Ordering::Greater => {
-            count_moved(moved, other.0.app);
+            count_moved(moved, other.0);
             new.pass();
             true
         }
         Ordering::Equal => {
-            count_moved_unless(moved, one.0.app, same_votes(&one.1, &other.1));
+            count_moved_unless(moved, one.0, same_votes(&one.1, &other.1));
             old.pass();
             new.pass();
             true
@@ -165,25 +233,25 @@ fn pass_permits(
 }
 
 /// Counts each application as moved of which permits stand.
-fn rest_of_permits(moved: &mut [bool; MAX_APPS], entries: Entries<'_, Key, DotFun<Flag>>)
-    ensures before { (k : ℕ) → get_or moved.new k true ≡ false → get_or moved.old k true ≡ false }
-    ensures gone { (k : ℕ) → get_or moved.new k true ≡ false
+fn rest_of_permits(moved: &mut [u64; MAX_APPS], entries: Entries<'_, Key, DotFun<Flag>>)
+    ensures before { (k : ℕ × ℕ) → is_moved moved.new k ≡ false → is_moved moved.old k ≡ false }
+    ensures gone { (k : ℕ × ℕ) → is_moved moved.new k ≡ false
         → AtEachKey key_cmp (IsAbsent k) entries.entry }
 {
     let mut left = entries;
     while let Some((key, _)) = left.next() {
-        count_moved(moved, key.app);
+        count_moved(moved, *key);
     }
 }
 
 /// Counts each application as moved at a key of which the starts of two states differ.
 fn mark_starts(
-    moved: &mut [bool; MAX_APPS],
+    moved: &mut [u64; MAX_APPS],
     old: Entries<'_, Key, DotSet>,
     new: Entries<'_, Key, DotSet>,
 )
-    ensures before { (k : ℕ) → get_or moved.new k true ≡ false → get_or moved.old k true ≡ false }
-    ensures same { (k : ℕ) → get_or moved.new k true ≡ false → IsSameOf k old.entry new.entry }
+    ensures before { (k : ℕ × ℕ) → is_moved moved.new k ≡ false → is_moved moved.old k ≡ false }
+    ensures same { (k : ℕ × ℕ) → is_moved moved.new k ≡ false → IsSameOf k old.entry new.entry }
 {
     let mut before = old;
     let mut after = new;
@@ -194,13 +262,13 @@ fn mark_starts(
 
 /// Passes the entry of the lesser key, or one of each list where both are of one key. Says whether both had one.
 fn pass_starts(
-    moved: &mut [bool; MAX_APPS],
+    moved: &mut [u64; MAX_APPS],
     old: &mut Entries<'_, Key, DotSet>,
     new: &mut Entries<'_, Key, DotSet>,
 ) -> bool
-    ensures before { (k : ℕ) → get_or moved.new k true ≡ false → get_or moved.old k true ≡ false }
+    ensures before { (k : ℕ × ℕ) → is_moved moved.new k ≡ false → is_moved moved.old k ≡ false }
     ensures less { result ≡ true → length old.new + length new.new < length old.old + length new.old }
-    ensures same { (k : ℕ) → get_or moved.new k true ≡ false
+    ensures same { (k : ℕ × ℕ) → is_moved moved.new k ≡ false
         → IsSameOf k old.new new.new → IsSameOf k old.old new.old }
 {
     let Some(one) = old.first() else {
@@ -211,17 +279,17 @@ fn pass_starts(
     };
     match one.0.cmp(&other.0) {
         Ordering::Less => {
-            count_moved(moved, one.0.app);
+            count_moved(moved, one.0);
             old.pass();
             true
         }
         Ordering::Greater => {
-            count_moved(moved, other.0.app);
+            count_moved(moved, other.0);
             new.pass();
             true
         }
         Ordering::Equal => {
-            count_moved_unless(moved, one.0.app, same_starts(&one.1, &other.1));
+            count_moved_unless(moved, one.0, same_starts(&one.1, &other.1));
             old.pass();
             new.pass();
             true
@@ -230,13 +298,13 @@ fn pass_starts(
 }
 
 /// Counts each application as moved of which starts stand.
-fn rest_of_starts(moved: &mut [bool; MAX_APPS], entries: Entries<'_, Key, DotSet>)
-    ensures before { (k : ℕ) → get_or moved.new k true ≡ false → get_or moved.old k true ≡ false }
-    ensures gone { (k : ℕ) → get_or moved.new k true ≡ false
+fn rest_of_starts(moved: &mut [u64; MAX_APPS], entries: Entries<'_, Key, DotSet>)
+    ensures before { (k : ℕ × ℕ) → is_moved moved.new k ≡ false → is_moved moved.old k ≡ false }
+    ensures gone { (k : ℕ × ℕ) → is_moved moved.new k ≡ false
         → AtEachKey key_cmp (IsAbsent k) entries.entry }
 {
     let mut left = entries;
     while let Some((key, _)) = left.next() {
-        count_moved(moved, key.app);
+        count_moved(moved, *key);
     }
 }

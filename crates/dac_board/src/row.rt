@@ -1,18 +1,21 @@
 //! One application on a board.
-ghost use Rattle.std.specs.Prelude.{◌≡◌, ◌<◌, ◌≤◌, ◌+◌, IfOk};
+ghost use Rattle.std.specs.Prelude.{◌≡◌, ◌<◌, ◌≤◌, ◌+◌, IfOk, true, false};
+ghost use Rattle.dac_base.specs.declared.limits.TheConstants.{MAX_NODES as MOST_NODES};
 ghost use Rattle.dac_config.specs.Table.{app_count};
 ghost use Rattle.dac_placement.specs.Placement.{standing_of};
 ghost use Rattle.dac_board.specs.Boards.{row_of, spots_of, group_held};
 ghost use Rattle.dac_board.specs.Rows.{row_runs};
-ghost use Rattle.dac_board.specs.Touched.{touched_of};
+ghost use Rattle.dac_board.specs.Touched.{is_touched, touched_of};
+ghost use Rattle.dac_board.specs.Settled.{IsSettled};
 ghost use Rattle.dac_board.specs.Grown.{IsGrown};
 
-use crate::moving::Grown;
+use crate::judging::settled_verdict;
+use crate::moving::{Grown, is_claimed_anew, is_marked};
 use crate::spot::{Spot, look};
 use crate::touching::is_touched;
 use dac_base::{AppId, NoMemory, NodeId};
 use dac_config::Config;
-use dac_placement::{Standing, State, standing_of};
+use dac_placement::{Standing, State, Verdict, standing_of};
 use std::alloc::Global;
 use std::marker::Model;
 
@@ -23,6 +26,8 @@ pub(crate) struct Row {
     spots: Vec<Option<Spot>>,
     standing: Standing,
     group: Option<u16>,
+    /// The verdict, where no load is asked for it.
+    settled: Option<Verdict>,
 }
 
 impl Model for Row {
@@ -31,6 +36,10 @@ impl Model for Row {
     ghost Value = { RowValue };
 
     ghost view = { λ a. record { spots = a.spots.items; standing = a.standing; group = a.group } };
+
+    ghost use Rattle.dac_board.specs.Settled.{IsSettled};
+
+    ghost invariant = { λ a. IsSettled a.settled a.standing a.group a.spots.items };
 }
 
 impl Row {
@@ -45,23 +54,23 @@ impl Row {
         requires { app.0 < app_count config.now }
         ensures { IfOk result (λ row. row ≡ row_of config.now state.now app) }
     {
-        let mut spots = Vec::new(alloc);
+        let mut spots = Vec::with_capacity(alloc, config.nodes() as usize)?;
         for number in 0..config.nodes() {
             let spot = look(config, state, app, NodeId(number), looked);
             spots.push(spot)?;
         }
         let standing = standing_of(config, state, app);
         let group = group_held(config, app, standing);
+        let settled = settled_verdict(standing, group, &spots);
         Ok(Row {
             spots,
             standing,
             group,
+            settled,
         })
     }
 
-    /// Takes up that the state `old` was joined with `delta`, which gave `new`, and which keeps the
-    /// application where it leaves all lives and what stands for it as they are. The nodes that it doesn't touch aren't
-    /// looked at.
+    /// Takes up that a state came to be another one. The nodes that this doesn't touch aren't looked at.
     pub(crate) fn absorb(
         &mut self,
         config: &Config,
@@ -77,41 +86,19 @@ impl Row {
             + touched_of config.now change.entry.now.old.now change.entry.now.new.now app }
         ensures rises { looked.old ≤ looked.new }
     {
-        if change.keeps {
-            if change.delta.claims().greatest(app).is_some() {
+        if change.pairs == 0 && change.is_still {
+            if !change.is_claimed_alike && is_claimed_anew(change.old, change.new, app) {
                 self.stand(config, change.new, app);
             }
             return;
         }
-        self.look_again(config, change.old, change.new, app, looked);
-        self.stand(config, change.new, app);
+        look_again(&mut self.spots, config, change, app, looked);
+        self.standing = standing_of(config, change.new, app);
+        self.group = group_held(config, app, self.standing);
+        self.settled = settled_verdict(self.standing, self.group, &self.spots);
     }
 
-    /// Looks again at the nodes that a change of state touches.
-    fn look_again(
-        &mut self,
-        config: &Config,
-        old: &State,
-        new: &State,
-        app: AppId,
-        looked: &mut u64,
-    )
-        requires { app.0 < app_count config.now }
-        ensures shows { self.old.spots ≡ spots_of config.now old.now app
-            → self.new.spots ≡ spots_of config.now new.now app }
-        ensures few { looked.new ≤ looked.old + touched_of config.now old.now new.now app }
-        ensures rises { looked.old ≤ looked.new }
-    {
-        let places = self.spots.len().min(config.nodes() as usize);
-        for place in 0..places {
-            let node = NodeId(place as u8);
-            if is_touched(config, old, new, app, node) {
-                self.spots[place] = look(config, new, app, node, looked);
-            }
-        }
-    }
-
-    /// Takes up how the application stands at its holder.
+    /// Takes up how the application stands at its holder, and what its nodes make of that.
     fn stand(&mut self, config: &Config, state: &State, app: AppId)
         requires { app.0 < app_count config.now }
         ensures spots { self.new.spots ≡ self.old.spots }
@@ -121,6 +108,7 @@ impl Row {
     {
         self.standing = standing_of(config, state, app);
         self.group = group_held(config, app, self.standing);
+        self.settled = settled_verdict(self.standing, self.group, &self.spots);
     }
 
     /// Which nodes may run it, node by node.
@@ -128,6 +116,13 @@ impl Row {
         ensures { result.now ≡ self.now.spots }
     {
         self.spots.as_slice()
+    }
+
+    /// The verdict, where no load is asked for it.
+    pub(crate) fn settled(&self) -> Option<Verdict>
+        ensures { IsSettled result self.now.standing self.now.group self.now.spots }
+    {
+        self.settled
     }
 
     /// How it stands at its holder.
@@ -162,8 +157,49 @@ impl Row {
             spots: self.spots.clone()?,
             standing: self.standing,
             group: self.group,
+            settled: self.settled,
         })
     }
+}
+
+/// Looks again at the nodes that a change of state touches.
+fn look_again(
+    spots: &mut Vec<Option<Spot>>,
+    config: &Config,
+    change: &Grown<'_>,
+    app: AppId,
+    looked: &mut u64,
+)
+    requires { app.0 < app_count config.now }
+    ensures shows { IsGrown change.entry.now app
+        → spots.old.items ≡ spots_of config.now change.entry.now.old.now app
+        → spots.new.items ≡ spots_of config.now change.entry.now.new.now app }
+    ensures few { looked.new ≤ looked.old
+        + touched_of config.now change.entry.now.old.now change.entry.now.new.now app }
+    ensures rises { looked.old ≤ looked.new }
+{
+    let places = spots.len().min(config.nodes() as usize);
+    for place in 0..places {
+        let node = NodeId(place as u8);
+        if is_touched_by(config, change, app, node) {
+            spots[place] = look(config, change.new, app, node, looked);
+        }
+    }
+}
+
+/// Whether a change of state touches a node. Where it is known not to, nothing is looked at.
+fn is_touched_by(config: &Config, change: &Grown<'_>, app: AppId, node: NodeId) -> bool
+    requires listed { app.0 < app_count config.now }
+    requires few { node.0 < MOST_NODES }
+    ensures sound { result ≡ true
+        → is_touched config.now change.entry.now.old.now change.entry.now.new.now app node ≡ true }
+    ensures whole { IsGrown change.entry.now app → result ≡ false
+        → is_touched config.now change.entry.now.old.now change.entry.now.new.now app node ≡ false }
+{
+    if !is_marked(change.pairs, node.0) && !change.nodes[node.0 as usize] {
+        return false;
+    }
+    is_touched(config, change.old, change.new, app, node)
 }
 
 /// The group of the holder, where all is well there.

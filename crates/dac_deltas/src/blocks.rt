@@ -108,6 +108,24 @@ pub(crate) fn make_all_joins<L: Lattice>(
     Ok(())
 }
 
+/// The same, if joins are to be made.
+pub(crate) fn join_from<L: Lattice>(
+    kept: &mut VecDeque<BlockEnd<L>>,
+    base: u64,
+    from: usize,
+    makes_joins: bool,
+) -> Result<(), NoMemory>
+    requires room { base + length kept.old.items ≤ MAX_COUNTER }
+    requires joined { AreJoined L.is_value L.join kept.old.items }
+    ensures joined { AreJoined L.is_value L.join kept.new.items }
+    ensures same { deltas_of kept.new.items ≡ deltas_of kept.old.items }
+{
+    if !makes_joins {
+        return Ok(());
+    }
+    make_all_joins(kept, base, from)
+}
+
 /// The longest block whose join is made, of those that begin with a kept delta and have 2^most deltas or fewer: its
 /// level, and its join.
 pub(crate) fn longest_made<L: Lattice>(
@@ -209,4 +227,26 @@ pub(crate) fn add_all<L: Lattice>(
         kept.push_back(BlockEnd::new(alloc, delta))?;
     }
     Ok(())
+}
+
+/// Adds deltas after those that are kept, of which the first has number `base`, with the joins of the blocks that end with
+/// them, if joins are to be made. Where memory is refused, only some are added.
+pub(crate) fn add_joined<L: Lattice>(
+    alloc: Global,
+    kept: &mut VecDeque<BlockEnd<L>>,
+    base: u64,
+    deltas: Vec<L>,
+    makes_joins: bool,
+) -> Result<(), NoMemory>
+    requires room { base + length kept.old.items + length deltas.items ≤ MAX_COUNTER }
+    requires joined { AreJoined L.is_value L.join kept.old.items }
+    ensures joined { AreJoined L.is_value L.join kept.new.items }
+    ensures added { OnOk result
+        (deltas_of kept.new.items ≡ deltas_of kept.old.items ++ deltas.items) }
+    ensures before { take (length kept.old.items) (deltas_of kept.new.items)
+        ≡ deltas_of kept.old.items }
+{
+    let before = kept.len();
+    add_all(alloc, kept, deltas)?;
+    join_from(kept, base, before, makes_joins)
 }

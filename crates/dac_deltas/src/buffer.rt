@@ -5,7 +5,9 @@ ghost use Rattle.dac_deltas.specs.Blocks.{AreBlocks};
 ghost use Rattle.dac_deltas.specs.declared.blocks.TheConstants.{MOST_LEVEL};
 ghost use Rattle.dac_deltas.specs.declared.buffer.TheConstants.{MAX_DELTAS};
 
-use crate::blocks::{BlockEnd, MOST_LEVEL, add_all, level_at, longest_made, make_all_joins};
+use crate::blocks::{
+    BlockEnd, MOST_LEVEL, add_joined, join_from, level_at, longest_made, make_all_joins,
+};
 use dac_base::{MAX_COUNTER, NoMemory};
 use dac_lattice::{Bottom, Lattice};
 use std::alloc::Global;
@@ -15,24 +17,26 @@ use std::marker::Model;
 /// How many deltas a buffer keeps at most. The number is this project's own.
 pub const MAX_DELTAS: usize = 1 << MOST_LEVEL;
 
-/// An interval of so many deltas, or fewer, needs no joins of blocks.
+/// A lazy buffer makes no joins of blocks for an interval of so many deltas, or fewer.
 const FEW_DELTAS: u64 = 2;
 
 /// The newest deltas of a log, at most 256. Deltas are numbered in the order in which they are pushed, from
 /// 0. Contracts see how many there were ever, the least number that is kept, and those kept, the oldest
 /// first.
 ///
-/// Beside its deltas a buffer keeps joins of their aligned blocks of 2 to 256 deltas. A full one has at most 255 of
-/// these. They are made by [`Buffer::warm`], and not before an interval is asked for. After that an interval takes at
-/// most 16 joins, and one more for each delta that is pushed later. A buffer keeps one interval too, until a delta
-/// comes: peers that are to get the same one share it.
+/// Beside its deltas a buffer keeps the joins of their aligned blocks of 2 to 256 deltas. A full one has at most 255 of
+/// these. A push makes those of the blocks that end with it, so that an interval takes at most 16 joins. A lazy buffer's
+/// pushes make none, and [`Buffer::warm`] makes those that it lacks. It is for an owner who asks for few intervals. A
+/// buffer keeps one interval too, until a delta comes: peers that are to get the same one share it.
 #[derive(Drop)]
 pub struct Buffer<L: Bottom> {
     alloc: Global,
     count: u64,
     kept: VecDeque<BlockEnd<L>>,
     ready: Option<(u64, L)>,
-    /// The joins of the blocks that end before this number are made.
+    /// A push makes the joins of its blocks: the buffer isn't lazy.
+    makes_joins: bool,
+    /// The joins of the blocks of a lazy buffer that end before this number are made.
     warm: u64,
 }
 
@@ -94,11 +98,26 @@ impl<L: Bottom> Buffer<L> {
     pub fn new(alloc: Global) -> Self
         ensures { result ≡ empty }
     {
+        Self::without_deltas(alloc, true)
+    }
+
+    /// No deltas, in a lazy buffer: [`Buffer::warm`] makes its joins of blocks. It takes no memory.
+    pub fn lazy(alloc: Global) -> Self
+        ensures { result ≡ empty }
+    {
+        Self::without_deltas(alloc, false)
+    }
+
+    /// No deltas, in a buffer whose pushes make joins of blocks, or in a lazy one.
+    fn without_deltas(alloc: Global, makes_joins: bool) -> Self
+        ensures { result ≡ empty }
+    {
         Buffer {
             alloc,
             count: 0,
             kept: VecDeque::new(alloc),
             ready: None,
+            makes_joins,
             warm: 0,
         }
     }
@@ -133,7 +152,13 @@ impl<L: Bottom> Buffer<L> {
         ensures err { OnErr result (self.new ≡ self.old) }
     {
         delta.tells_invariant();
+        let base = self.base();
+        let length = self.kept.len();
         self.kept.push_back(BlockEnd::new(self.alloc, delta))?;
+        if let Err(refused) = join_from(&mut self.kept, base, length, self.makes_joins) {
+            self.kept.truncate(length);
+            return Err(refused);
+        }
         self.ready = None;
         self.count += 1;
         keep_newest(&mut self.kept);
@@ -150,9 +175,16 @@ impl<L: Bottom> Buffer<L> {
         if deltas.is_empty() {
             return Ok(());
         }
+        let base = self.base();
         let before = self.kept.len();
         let added = deltas.len() as u64;
-        if let Err(refused) = add_all(self.alloc, &mut self.kept, deltas) {
+        if let Err(refused) = add_joined(
+            self.alloc,
+            &mut self.kept,
+            base,
+            deltas,
+            self.makes_joins,
+        ) {
             self.kept.truncate(before);
             return Err(refused);
         }
@@ -175,9 +207,9 @@ impl<L: Bottom> Buffer<L> {
     /// delta from `a` on is no longer kept. The caller owes that `a` is at most the count. [`NoMemory`] is the only
     /// error, and comes only where all deltas from `a` on are kept.
     ///
-    /// It joins the blocks that [`Buffer::blocks`] lists, from the first to the last, if their joins are made. In place of
-    /// a block whose join isn't, it joins shorter ones. Where this interval is remembered, it is a copy of that one, and
-    /// joins nothing.
+    /// It joins the blocks that [`Buffer::blocks`] lists, from the first to the last. A lazy buffer joins shorter ones in
+    /// place of a block whose join isn't made. Where this interval is remembered, it is a copy of that one, and joins
+    /// nothing.
     pub fn interval(&self, a: u64) -> Result<Option<L>, NoMemory>
         requires { a ≤ self.now.count }
         ensures dropped { a < self.now.base → result ≡ Ok None }
@@ -233,12 +265,12 @@ impl<L: Bottom> Buffer<L> {
         self.ready = Some((a, joined));
     }
 
-    /// Makes the joins of blocks, if an interval from number `a` takes more than one join without them. Contracts see no
-    /// change. [`NoMemory`] is the only error, and leaves all as it was.
+    /// Makes the joins of blocks that a lazy buffer lacks, if an interval from number `a` takes more than one join without
+    /// them. Contracts see no change. [`NoMemory`] is the only error, and leaves all as it was.
     pub fn warm(&mut self, a: u64) -> Result<(), NoMemory>
         ensures { self.new ≡ self.old }
     {
-        if self.count.saturating_sub(a) <= FEW_DELTAS {
+        if self.makes_joins || self.count.saturating_sub(a) <= FEW_DELTAS {
             return Ok(());
         }
         let base = self.base();
@@ -248,8 +280,7 @@ impl<L: Bottom> Buffer<L> {
         Ok(())
     }
 
-    /// The blocks that an interval joins where their joins are made, each as its first number and the one after its
-    /// last. From `a` to the count each is the longest aligned block that begins where the one before ended. They are
+    /// The blocks that an interval joins, each as its first number and the one after its last. From `a` to the count each is the longest aligned block that begins where the one before ended. They are
     /// at most 16, and none where `a` is the count. There is no list where a delta from `a` on is no longer kept. The
     /// caller owes that `a` is at most the count. [`NoMemory`] is the only error, and comes only where all deltas from
     /// `a` on are kept.
@@ -287,6 +318,7 @@ impl<L: Bottom> Buffer<L> {
             count: self.count,
             kept,
             ready: copy_ready(&self.ready)?,
+            makes_joins: self.makes_joins,
             warm: self.warm,
         })
     }

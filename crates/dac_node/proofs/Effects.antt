@@ -4,7 +4,7 @@ use Rattle.std.specs.Prelude.{fold, max, min}
 use Rattle.dac_base.specs.declared.limits.TheConstants.{MAX_COUNTER}
 use Rattle.dac_base.specs.declared.NodeId.{NodeId}
 use Rattle.dac_operations.specs.Operations.{Operation}
-use Rattle.dac_meaning.specs.StateValue.{StateValue, IsState}
+use Rattle.dac_meaning.specs.StateValue.{StateValue, IsState, join}
 use Rattle.dac_meaning.specs.Meaning.{meaning_of}
 use Rattle.dac_config.specs.Table.{Table}
 use Rattle.dac_deltas.specs.KeptDeltas.{KeptDeltas, cut, pushed, trimmed}
@@ -138,11 +138,11 @@ effect_fits t last r e change none countable f = record {
 
     by : (b : Bool) → FitsIn (Some r) (cond b Off (GoesOn (next_by r f.noted (deed_of t r f.noted e))))
     by true = tt
-    by false = fits t r f.noted countable e none
+    by false = (fits t r f.noted countable e none, λ nothing. ap (fold join r.state) nothing)
 
 -- so they are for an operation that comes by itself
 heard_op_fits : (r : RunningValue) (o : Operation) → refusal_to_hear_op r o ≡ None → r.kept.count ≤ MAX_COUNTER → FitsIn (Some r) (GoesOn (hearing (knowledge_of r) (meaning_of (o ∷ [])) r.peers))
-heard_op_fits r o none countable = room_to_hear r (meaning_of (o ∷ [])) countable (none_is ((overflows r (meaning_of (o ∷ [])), DotsUsedUp) ∷ []) none).0
+heard_op_fits r o none countable = (room_to_hear r (meaning_of (o ∷ [])) countable (none_is ((overflows r (meaning_of (o ∷ [])), DotsUsedUp) ∷ []) none).0, λ nothing. ap (fold join r.state) nothing)
 
 pub hear_op_fits : (last : ℕ) (r : RunningValue) (o : Operation) (fresh : Bool) (change : ChangeValue) → refusal_to_hear_op r o ≡ None → r.kept.count ≤ MAX_COUNTER →
     change.after ≡ GoesOn (hearing (knowledge_of r) (meaning_of (o ∷ [])) r.peers) → change.reply ≡ Heard fresh → Fits (record { last = last; running = Some r }) change

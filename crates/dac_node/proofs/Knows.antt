@@ -1,6 +1,6 @@
--- A state that knows the operation of its own boot, and the board that shows it.
-use Rattle.std.proofs.Common.{◌≡◌, Bool, true, false, ◌||◌, List, [], ◌∷◌, Option, None, refl, sym, subst, ap, ◌∙◌}
-use Rattle.std.specs.Prelude.{fold, IfSome}
+-- A state that knows the operation of its own boot.
+use Rattle.std.proofs.Common.{◌≡◌, Bool, true, false, ◌||◌, List, [], ◌∷◌, refl, ap, ◌∙◌}
+use Rattle.std.specs.Prelude.{fold}
 use Rattle.std.specs.FinSet as set
 use Rattle.dac_origins.specs.declared.dot.Origin.{Origin}
 use Rattle.dac_origins.specs.Dots.{dot}
@@ -11,10 +11,7 @@ use Rattle.dac_meaning.specs.laws.StateLaws.{known-join}
 use Rattle.dac_meaning.specs.Meaning.{meaning_of}
 use Rattle.dac_meaning.specs.laws.Readers.{known-meaning}
 use Rattle.dac_model_node.specs.dac_commands.Commands.{KnowsItself}
-use Rattle.dac_model_node.specs.dac_ticks.KeptBoards.{KeptBoardValue, IsBoardOf}
 use Rattle.dac_model_node.specs.Step.{up}
-use Rattle.dac_decide.specs.declared.moments.Moments.{Moments}
-use Rattle.dac_node.specs.Knowing.{IsHeld}
 
 -- what is joined is known still
 pub knows-join : (o : Origin) (s t : StateValue) → KnowsItself o s → KnowsItself o (join s t)
@@ -35,12 +32,3 @@ knows-boot o =
     or-right : (a : Bool) → (a || true) ≡ true
     or-right true = refl
     or-right false = refl
-
--- no board shows what it doesn't
-pub no_board : (board : Option KeptBoardValue) (s : StateValue) → board ≡ None → IfSome board (λ b. IsBoardOf b s)
-no_board board s none = subst (λ (o : Option KeptBoardValue). IfSome o (λ b. IsBoardOf b s)) (sym none) tt
-
--- a state and a board that are copied are held as before
-pub held_still : (own : Origin) (moments : Moments) (s t : StateValue) (board copied : Option KeptBoardValue) → t ≡ s → copied ≡ board → IsHeld own moments s board → IsHeld own moments t copied
-held_still own moments s t board copied same alike held =
-    subst (λ (p : StateValue × Option KeptBoardValue). IsHeld own moments p.0 p.1) (λ i. (sym same i, sym alike i)) held

@@ -1,5 +1,5 @@
 -- What runs after a change.
-use Rattle.std.specs.Prelude.{◌≡◌, ◌+◌, ◌≤◌, max, cond, List, length, Option, Some, None, fold}
+use Rattle.std.specs.Prelude.{◌≡◌, ◌+◌, ◌≤◌, max, cond, List, [], length, Option, Some, None, fold}
 use Rattle.std.specs.Option.{option_map}
 use Rattle.dac_base.specs.declared.limits.TheConstants.{MAX_COUNTER}
 use Rattle.dac_meaning.specs.StateValue.{join}
@@ -23,9 +23,9 @@ running_after Off old = None
 running_after (Boots b) old = Some b.value
 running_after (GoesOn next) old = option_map (gone_on next) old
 
--- numbers are left for the deltas that come
+-- numbers are left for the deltas that come, and where none comes the state stays as it is
 abbrev pub FitsIn : Option RunningValue → After → Type 0
-FitsIn (Some r) (GoesOn next) = r.kept.count + length next.deltas ≤ MAX_COUNTER
+FitsIn (Some r) (GoesOn next) = (r.kept.count + length next.deltas ≤ MAX_COUNTER) × (next.deltas ≡ [] → next.knowledge.state ≡ r.state)
 FitsIn old after = Unit {0}
 
 -- a message that a reply ships is the one that this ships as it is

@@ -1,5 +1,5 @@
 -- What a running node keeps beside the newest deltas, and what it goes on with.
-use Rattle.std.specs.Prelude.{ℕ, Bool, false, List, [], ◌∷◌, Option, IfSome, fold, refl}
+use Rattle.std.specs.Prelude.{ℕ, Bool, false, List, [], ◌∷◌, Option, fold, refl}
 use Rattle.std.specs.Coded.{Coded, code_by, coded×, coded_ℕ, coded_bool, coded_list, coded_option}
 use Rattle.dac_origins.specs.declared.dot.Origin.{Origin}
 use Rattle.dac_origins.specs.Dots.{coded_origin}
@@ -11,8 +11,7 @@ use Rattle.dac_peers.specs.Peers.{PeersValue, no_peers, coded_peers}
 use Rattle.dac_decide.specs.declared.waits.Noted.{Noted}
 use Rattle.dac_decide.specs.FailoverWait.{coded_noted, waits_of}
 use Rattle.dac_decide.specs.declared.moments.Moments.{Moments}
-use Rattle.dac_model_node.specs.dac_ticks.KeptBoards.{KeptBoardValue, IsBoardOf}
-use Rattle.dac_model_node.specs.NodeValue.{RunningValue, IsSound, coded_moments}
+use Rattle.dac_model_node.specs.NodeValue.{RunningValue, coded_moments}
 use Rattle.dac_model_node.specs.Deeds.{brings}
 use Rattle.dac_model_node.specs.Step.{up}
 
@@ -34,12 +33,6 @@ coded_knowledge =
     (λ k. ((k.origin, k.moments), ((k.is_open, k.waits), (k.state, k.peers))))
     (λ p. record { origin = p.0.0; moments = p.0.1; is_open = p.1.0.0; waits = p.1.0.1; state = p.1.1.0; peers = p.1.1.1 })
     (λ _. refl)
-
--- What holds of it is that of a running node's value, and that a board that is kept shows the state. (The board is
--- no part of the knowledge as contracts see it.)
-pub record IsHeld (own : Origin) (moments : Moments) (s : StateValue) (board : Option KeptBoardValue) : Type 0 where
-  pub sound : IsSound own moments s
-  pub shows : IfSome board (λ b. IsBoardOf b s)
 
 -- what runs with this knowledge and these deltas
 abbrev pub running_of : KnowledgeValue → KeptDeltas StateValue → RunningValue

@@ -9,7 +9,6 @@ ghost use Rattle.dac_messages.specs.Bodies.{content_of};
 ghost use Rattle.dac_model_node.specs.Step.{up};
 
 use crate::advance::Advance;
-use crate::stillness::Stillness;
 use dac_base::NoMemory;
 use dac_config::Config;
 use dac_decide::{Moments, Waits};
@@ -26,7 +25,7 @@ use std::sync::Arc;
 /// didn't tick before it was booted.
 ///
 /// Ticks alone change its waits, so it shares them with what it is made into by other events. So it is with its state,
-/// where nothing new comes. And what moves is small. Contracts don't see whether it has a board of its state.
+/// where nothing new comes. And what moves is small.
 pub(crate) struct Knowledge {
     pub(crate) alloc: Global,
     pub(crate) origin: Origin,
@@ -35,7 +34,6 @@ pub(crate) struct Knowledge {
     pub(crate) waits: Arc<Waits, Global>,
     pub(crate) state: Arc<State, Global>,
     pub(crate) peers: Peers,
-    pub(crate) still: Stillness,
 }
 
 /// Written out: a drop is one call for a proof, wherever it stands.
@@ -49,14 +47,14 @@ impl Drop for Knowledge {
             waits: _waits,
             state: _state,
             peers: _peers,
-            still: _still,
         } = self;
     }
 }
 
 impl Model for Knowledge {
     ghost use Rattle.std.specs.Arc.{arc_value};
-    ghost use Rattle.dac_node.specs.Knowing.{KnowledgeValue, coded_knowledge, IsHeld};
+    ghost use Rattle.dac_node.specs.Knowing.{KnowledgeValue, coded_knowledge};
+    ghost use Rattle.dac_model_node.specs.NodeValue.{IsSound};
 
     ghost Value = { KnowledgeValue };
 
@@ -71,7 +69,7 @@ impl Model for Knowledge {
       peers = a.peers;
     } };
 
-    ghost invariant = { λ a. IsHeld a.origin a.moments (arc_value a.state) a.still };
+    ghost invariant = { λ a. IsSound a.origin a.moments (arc_value a.state) };
 }
 
 impl Knowledge {
@@ -112,7 +110,6 @@ impl Knowledge {
             waits,
             state,
             peers: Peers::new(alloc),
-            still: Stillness::none(),
         };
         Ok((knowledge, operation, delta))
     }
@@ -124,7 +121,6 @@ impl Knowledge {
         let waits = Arc::try_clone(&self.waits)?;
         let state = Arc::try_clone(&self.state)?;
         let peers = self.peers.copy()?;
-        let still = self.still.copy()?;
         Ok(Knowledge {
             alloc: self.alloc,
             origin: self.origin,
@@ -133,7 +129,6 @@ impl Knowledge {
             waits,
             state,
             peers,
-            still,
         })
     }
 
@@ -143,7 +138,6 @@ impl Knowledge {
     {
         let waits = Arc::try_clone(&self.waits)?;
         let state = Arc::try_clone(&self.state)?;
-        let still = self.still.copy()?;
         Ok(Knowledge {
             alloc: self.alloc,
             origin: self.origin,
@@ -152,7 +146,6 @@ impl Knowledge {
             waits,
             state,
             peers,
-            still,
         })
     }
 
@@ -163,7 +156,6 @@ impl Knowledge {
         let waits = Arc::try_clone(&self.waits)?;
         let joined = self.state.join(other)?;
         let state = Arc::new(self.alloc, joined)?;
-        let still = Stillness::none();
         Ok(Knowledge {
             alloc: self.alloc,
             origin: self.origin,
@@ -172,7 +164,6 @@ impl Knowledge {
             waits,
             state,
             peers,
-            still,
         })
     }
 

@@ -40,5 +40,5 @@ mod knowledge;
 mod node;
 mod running;
 mod shipping;
-mod stillness;
+mod shown;
 mod ticking;

@@ -152,6 +152,7 @@ impl Node {
         // Where some model node shows as it, one shows as what it becomes.
         ensures shown { IsShown config.now self.old → IsShown config.now self.new }
     {
+        self.warm(&event);
         let change = self.prepare(config, self_id, &event)?;
         let reply = self.apply(change)?;
         Ok(reply)
@@ -172,9 +173,11 @@ impl Node {
     pub fn warm(&mut self, event: &Event)
         ensures { self.new ≡ self.old }
     {
-        if let Event::Ship { to } = event {
-            if let Some(running) = &mut self.running {
-                running.warm(*to);
+        if let Some(running) = &mut self.running {
+            match event {
+                Event::Ship { to } => running.warm(*to),
+                Event::Tick { now: _ } => running.catch_up(),
+                _ => {}
             }
         }
     }

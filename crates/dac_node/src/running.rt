@@ -1,6 +1,8 @@
 //! What runs: what a controller knows and the newest deltas, and which events it refuses.
 
-ghost use Rattle.std.specs.Prelude.{◌≡◌, ◌+◌, ◌≤◌, ◌∷◌, [], ◌^◌, length, IfOk, OnOk, OnErr};
+ghost use Rattle.std.specs.Prelude.{◌≡◌, ◌+◌, ◌≤◌, ◌∷◌, [], ◌^◌, length, IfOk, IfSome, OnOk, OnErr};
+ghost use Rattle.std.specs.Option.{option_copied};
+ghost use Rattle.dac_model_node.specs.dac_ticks.KeptBoards.{IsBoardOf};
 ghost use Rattle.dac_base.specs.declared.limits.TheConstants.{MAX_COUNTER as LAST_NUMBER};
 ghost use Rattle.dac_deltas.specs.KeptDeltas.{trimmed};
 ghost use Rattle.dac_meaning.specs.StateValue.{IsState};
@@ -14,6 +16,7 @@ ghost use Rattle.dac_model_node.specs.Step.{up};
 
 use crate::advance::Advance;
 use crate::knowledge::{Knowledge, covers, is_below};
+use crate::shown::Shown;
 use dac_base::{MAX_COUNTER, NoMemory, NodeId};
 use dac_config::Config;
 use dac_deltas::Buffer;
@@ -21,16 +24,19 @@ use dac_events::{Command, Refusal};
 use dac_lattice::{Bottom, Lattice};
 use dac_messages::{Event, Message, Reply};
 use dac_model_node::dac_commands::{operation_of, refusal_of};
+use dac_model_node::dac_ticks::KeptBoard;
 use dac_origins::Origin;
 use dac_placement::is_up;
 use dac_state::{Op, State};
 use std::alloc::Global;
 use std::marker::Model;
 
-/// A controller that runs: what it knows, and the newest of the deltas that made its state.
+/// A controller that runs: what it knows, the newest of the deltas that made its state, and a board. Contracts don't see the
+/// board.
 pub(crate) struct Running {
     pub(crate) knowledge: Knowledge,
     pub(crate) buffer: Buffer<State>,
+    shown: Shown,
 }
 
 /// Written out: a drop is one call for a proof, wherever it stands.
@@ -39,11 +45,13 @@ impl Drop for Running {
         let Running {
             knowledge: _knowledge,
             buffer: _buffer,
+            shown: _shown,
         } = self;
     }
 }
 
 impl Model for Running {
+    ghost use Rattle.std.specs.Prelude.{◌≡◌, true};
     ghost use Rattle.dac_model_node.specs.NodeValue.{RunningValue, coded_running};
     ghost use Rattle.dac_node.specs.Knowing.{running_of};
 
@@ -52,6 +60,8 @@ impl Model for Running {
     ghost coded = { coded_running };
 
     ghost view = { λ a. running_of a.knowledge a.buffer };
+
+    ghost invariant = { λ a. a.shown.1 ≡ true → a.shown.0 ≡ a.knowledge.state };
 }
 
 impl Running {
@@ -91,7 +101,12 @@ impl Running {
     {
         let knowledge = self.knowledge.copy()?;
         let buffer = self.buffer.copy()?;
-        Ok(Running { knowledge, buffer })
+        let shown = self.shown.copy()?;
+        Ok(Running {
+            knowledge,
+            buffer,
+            shown,
+        })
     }
 
     /// A controller that comes up as this incarnation at this moment, and the operation that says so.
@@ -105,15 +120,22 @@ impl Running {
         ensures operation { IfOk result (λ both. both.1 ≡ up origin) }
     {
         let (knowledge, operation, delta) = Knowledge::at_boot(alloc, config, origin, now)?;
-        let mut buffer = Buffer::new(alloc);
+        let mut buffer = Buffer::lazy(alloc);
         buffer.push(delta)?;
-        Ok((Running { knowledge, buffer }, operation))
+        let shown = Shown::new(alloc, config, &knowledge.state)?;
+        let running = Running {
+            knowledge,
+            buffer,
+            shown,
+        };
+        Ok((running, operation))
     }
 
     /// Goes on so, with this reply. Where memory is refused for the deltas that come, all is as before. An interval that
     /// the reply ships is remembered.
     pub(crate) fn go_on(&mut self, next: Advance, reply: &Reply) -> Result<(), NoMemory>
         requires numbers { self.old.kept.count + length next.deltas ≤ LAST_NUMBER }
+        requires stays { next.deltas ≡ [] → next.knowledge.state ≡ self.old.state }
         requires ships { ShipsOwnIn (Some self.old) reply.now }
         ensures ok { OnOk result (self.new ≡ gone_on next self.old) }
         ensures err { OnErr result (self.new ≡ self.old) }
@@ -122,11 +144,29 @@ impl Running {
             self.remember(message);
         }
         let (knowledge, deltas, trim) = next.into_parts();
+        let stays = deltas.is_empty();
         self.buffer.push_all(deltas)?;
         drop_below(&mut self.buffer, trim);
+        if !stays {
+            self.shown.goes_stale();
+        }
         self.knowledge = knowledge;
         self.knowledge.peers.settle();
         Ok(())
+    }
+
+    /// The board takes up what came since it was used last. Where that fails, it isn't used.
+    pub(crate) fn catch_up(&mut self)
+        ensures { self.new ≡ self.old }
+    {
+        let _caught_up = self.shown.catch_up(&self.knowledge.state);
+    }
+
+    /// The board, where it shows the state.
+    pub(crate) fn board(&self) -> Option<&KeptBoard>
+        ensures { IfSome (option_copied result) (λ board. IsBoardOf board self.now.state) }
+    {
+        self.shown.board()
     }
 
     /// Whether so many deltas more would pass the last number.

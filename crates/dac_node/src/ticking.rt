@@ -2,6 +2,7 @@
 
 ghost use Rattle.std.specs.Prelude.{◌≡◌, ◌≤◌, ◌∷◌, [], List, IfOk, IfSome, false, fold, unwrap_or};
 ghost use Rattle.std.specs.Arc.{arc_value};
+ghost use Rattle.std.specs.Option.{option_copied};
 ghost use Rattle.dac_meaning.specs.StateValue.{join};
 ghost use Rattle.dac_messages.specs.declared.event.Event.TheVariants.{Tick};
 ghost use Rattle.dac_decide.specs.FailoverWait.{Note, waits_of};
@@ -17,13 +18,12 @@ use crate::advance::Advance;
 use crate::change::{After, Change};
 use crate::knowledge::Knowledge;
 use crate::running::Running;
-use crate::stillness::Stillness;
 use dac_base::NoMemory;
 use dac_config::Config;
 use dac_decide::{Moments, Opening, Waits, gate};
 use dac_lattice::Lattice;
 use dac_messages::Reply;
-use dac_model_node::dac_ticks::{Turn, turn_of};
+use dac_model_node::dac_ticks::{KeptBoard, Turn, turn_of};
 use dac_state::{Op, State};
 use std::alloc::Global;
 use std::sync::Arc;
@@ -56,13 +56,12 @@ fn open_tick(config: &Config, last: u64, running: &Running, now: u64) -> Result<
     ensures { IfOk result (Effect config.now last running.now (Tick now)) }
 {
     let known = &running.knowledge;
-    let still = known.still_at_tick(config)?;
-    let (waits, turn) = known.note_and_turn(config, &still, now)?;
+    let (waits, turn) = known.note_and_turn(config, running.board(), now)?;
     let Turn { ops, passed, left } = turn;
     let deltas = deltas_of(known.alloc, ops.as_slice())?;
     let noted = Arc::new(known.alloc, waits)?;
-    let (state, still) = known.left_by(left, still)?;
-    let next = known.after_tick(now, true, noted, state, deltas, still)?;
+    let state = known.left_by(left)?;
+    let next = known.after_tick(now, true, noted, state, deltas)?;
     let reply = Reply::Ticked { ops, passed };
     let change = Change::new(known.alloc, last, After::GoesOn(next), reply)?;
     Ok(change)
@@ -95,23 +94,16 @@ impl Running {
 }
 
 impl Knowledge {
-    /// What is kept by a tick that finds the state as it was.
-    fn still_at_tick(&self, config: &Config) -> Result<Stillness, NoMemory>
-        ensures { IfOk result
-            (λ still. IfSome still (λ board. IsBoardOf board self.now.state)) }
-    {
-        self.still.at_tick(self.alloc, config, &self.state)
-    }
-
     /// What is noted by a tick at this moment, and what the applications come to by it.
     fn note_and_turn(
         &self,
         config: &Config,
-        still: &Stillness,
+        board: Option<&KeptBoard>,
         now: u64,
     ) -> Result<(Waits, Turn), NoMemory>
         requires room { too_few_left config.now self.now.state self.now.origin ≡ false }
-        requires shows { IfSome still.now (λ board. IsBoardOf board self.now.state) }
+        requires shows { IfSome (option_copied board)
+            (λ kept. IsBoardOf kept self.now.state) }
         ensures noted { IfOk result (λ both. (notes : List Note)
             → self.now.waits ≡ waits_of config.now notes
             → both.0
@@ -126,7 +118,7 @@ impl Knowledge {
             config,
             self.origin,
             &self.state,
-            still.board(),
+            board,
             &waits,
             now,
         )?;
@@ -140,35 +132,27 @@ impl Knowledge {
     {
         let waits = Arc::try_clone(&self.waits)?;
         let state = Arc::try_clone(&self.state)?;
-        let still = self.still.copy()?;
-        self.after_tick(now, false, waits, state, Vec::new(self.alloc), still)
+        self.after_tick(now, false, waits, state, Vec::new(self.alloc))
     }
 
-    /// The state after claims that left this one, where there were any, and what is kept of it.
-    fn left_by(
-        &self,
-        left: Option<State>,
-        still: Stillness,
-    ) -> Result<(Arc<State, Global>, Stillness), NoMemory>
-        requires { IfSome still (λ board. IsBoardOf board self.now.state) }
-        ensures state { IfOk result (λ both. arc_value both.0 ≡ unwrap_or left self.now.state) }
-        ensures still { IfOk result
-            (λ both. IfSome both.1 (λ board. IsBoardOf board (arc_value both.0))) }
+    /// The state after claims that left this one, where there were any.
+    fn left_by(&self, left: Option<State>) -> Result<Arc<State, Global>, NoMemory>
+        ensures { IfOk result (λ state. arc_value state ≡ unwrap_or left self.now.state) }
     {
         match left {
             Some(state) => {
                 let state = Arc::new(self.alloc, state)?;
-                Ok((state, Stillness::none()))
+                Ok(state)
             }
             None => {
                 let state = Arc::try_clone(&self.state)?;
-                Ok((state, still))
+                Ok(state)
             }
         }
     }
 
     /// What goes on after a tick at this moment. The start gate is so, so much is noted, and the claims' deltas left
-    /// this state, of which this is kept.
+    /// this state.
     fn after_tick(
         &self,
         now: u64,
@@ -176,11 +160,9 @@ impl Knowledge {
         waits: Arc<Waits, Global>,
         state: Arc<State, Global>,
         deltas: Vec<State>,
-        still: Stillness,
     ) -> Result<Advance, NoMemory>
         requires order { self.now.moments.last ≤ now }
         requires grown { arc_value state ≡ fold join self.now.state deltas.items }
-        requires shows { IfSome still (λ board. IsBoardOf board (arc_value state)) }
         ensures { IfOk result
             (λ next. next ≡ ticking self.now now is_open (arc_value waits) deltas.items) }
     {
@@ -196,7 +178,6 @@ impl Knowledge {
             waits,
             state,
             peers,
-            still,
         };
         Ok(Advance {
             knowledge,

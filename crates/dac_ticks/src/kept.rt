@@ -49,6 +49,23 @@ impl KeptBoard {
         Ok(KeptBoard { config, board })
     }
 
+    /// Takes up that the state that is shown came to be another one. It takes no memory.
+    pub fn absorb(&mut self, old: &State, new: &State)
+        ensures { IsBoardOf self.old old.now → IsBoardOf self.new new.now }
+    {
+        let KeptBoard { config, board } = self;
+        board.absorb(config, old, new, new);
+    }
+
+    /// An equal board, with memory of its own. [`NoMemory`] is the only error.
+    pub fn copy(&self) -> Result<Self, NoMemory>
+        ensures { IfOk result (λ copied. copied ≡ self.now) }
+    {
+        let config = self.config.copy()?;
+        let board = self.board.copy()?;
+        Ok(KeptBoard { config, board })
+    }
+
     /// The board, where it goes by this configuration. It takes no memory.
     pub fn under(&self, config: &Config) -> Option<&Board>
         ensures shows { (s : Value) → IsBoardOf self.now s

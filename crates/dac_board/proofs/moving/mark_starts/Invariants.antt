@@ -1,11 +1,12 @@
-use Rattle.std.proofs.Common.{◌≡◌, ℕ, ◌+◌, get_or, true, false, length}
+use Rattle.std.proofs.Common.{◌≡◌, ℕ, ◌+◌, false, length}
+use Rattle.dac_board.specs.Marks.{is_moved}
 use Rattle.dac_board.specs.Alike.{IsSameOf}
 use Rattle.dac_board.proofs.moving.mark_starts.Given as goal
 
 abbrev pub invariant-walk : goal.invariant-walk
 invariant-walk l = record {
-  marked : (k : ℕ) → get_or l.moved k true ≡ false → get_or l.initial.moved k true ≡ false;
-  same : (k : ℕ) → get_or l.moved k true ≡ false → IsSameOf k l.before l.after → IsSameOf k l.fn.old l.fn.new;
+  marked : (k : ℕ × ℕ) → is_moved l.moved k ≡ false → is_moved l.initial.moved k ≡ false;
+  same : (k : ℕ × ℕ) → is_moved l.moved k ≡ false → IsSameOf k l.before l.after → IsSameOf k l.fn.old l.fn.new;
 }
 
 abbrev pub decreases-walk : goal.decreases-walk

@@ -25,7 +25,7 @@ after_tick-requires-clause-grown c =
     let turn = turn_of t k.origin waits c.args.now k.state in
     let made = c.in_ok-waits.ensures.turn in
     let items = c.in_ok-deltas.ensures ∙ ap meanings (c.as_slice.ensures ∙ made.ops) in
-    c.in_ok-state.ensures.state ∙ (left_is k.state turn c.in_ok-waits.turn made ∙ (state_joined t k.origin waits c.args.now k.state ∙ ap (fold join k.state) (sym items)))
+    c.in_ok-state.ensures ∙ (left_is k.state turn c.in_ok-waits.turn made ∙ (state_joined t k.origin waits c.args.now k.state ∙ ap (fold join k.state) (sym items)))
 
 pub returns : goal.returns
 returns c =

@@ -11,7 +11,7 @@ pub invariant_of-knowledge : goal.invariant_of-knowledge
 invariant_of-knowledge c =
     let own = c.self.inside.origin in
     let deltas = c.args.deltas.items in
-    let knows = subst (λ (k : KnowledgeValue). KnowsItself own (fold join k.state deltas)) c.self.view_is (knows-grown own (arc_value c.self.inside.state) deltas c.self.invariant.sound.knows) in
-    let before = c.self.invariant.sound.order in
+    let knows = subst (λ (k : KnowledgeValue). KnowsItself own (fold join k.state deltas)) c.self.view_is (knows-grown own (arc_value c.self.inside.state) deltas c.self.invariant.knows) in
+    let before = c.self.invariant.order in
     let after : c.self.inside.moments.last ≤ c.args.now = subst (λ (k : KnowledgeValue). k.moments.last ≤ c.args.now) (sym c.self.view_is) c.requires.order in
-    record { sound = record { knows = subst (KnowsItself own) (sym c.requires.grown) knows; order = omega arith }; shows = c.requires.shows }
+    record { knows = subst (KnowsItself own) (sym c.requires.grown) knows; order = omega arith }

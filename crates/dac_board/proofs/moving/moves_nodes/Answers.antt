@@ -4,7 +4,7 @@ use Rattle.dac_origins.specs.laws.Dots.{origins_total, exact_origins}
 use Rattle.dac_wishes.specs.DrainsValue.{DrainsValue}
 use Rattle.dac_wishes.specs.StoredDrains.{drains_by_origin}
 use Rattle.dac_board.proofs.Walks.{same_standing}
-use Rattle.dac_board.proofs.moving.moves_all.Goals as goal
+use Rattle.dac_board.proofs.moving.moves_nodes.Goals as goal
 
 holds : (b : Bool) → not b ≡ false → b ≡ true
 holds true e = refl
