@@ -1,2 +1,1 @@
-mod Counting
 mod LeadingGroup

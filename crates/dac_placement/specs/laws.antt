@@ -1,5 +1,6 @@
 pub mod Tests
 pub mod Loads
+pub mod Counting
 pub mod Standing
 pub mod Least
 pub mod FirstChoice

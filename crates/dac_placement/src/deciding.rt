@@ -86,8 +86,8 @@ fn comes_before(config: &Config, state: &State, app: AppId, node: NodeId, late: 
     }
 }
 
-/// The verdict, where the application stands so and this is the first choice for it.
-fn verdict_by(config: &Config, app: AppId, standing: Standing, first: Option<NodeId>) -> Verdict
+/// The verdict, where the application stands so and this is the first choice for it. It takes no memory.
+pub fn verdict_by(config: &Config, app: AppId, standing: Standing, first: Option<NodeId>) -> Verdict
     requires { app.0 < app_count config.now }
     ensures { result ≡ verdict_by config.now app standing first }
 {

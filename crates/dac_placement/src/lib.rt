@@ -21,7 +21,7 @@ mod standing;
 mod verdicts;
 
 pub use dac_state::State;
-pub use deciding::{is_earlier, verdict};
+pub use deciding::{is_earlier, verdict, verdict_by};
 pub use eligibility::{eligible, is_allowed, is_drained, is_permitted, is_started};
 pub use ranking::{Rank, lesser};
 pub use running::{holder, is_up, load, runner, runs_at};

@@ -1,3 +1,4 @@
+mod Digits
 mod EachOther
 mod Playing
 mod ScriptRuns

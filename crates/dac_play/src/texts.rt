@@ -1,7 +1,8 @@
 //! The lines that the program prints, each ended by a line feed.
 
-ghost use Rattle.std.specs.Prelude.{◌≡◌, ◌++◌, IfOk, OnOk};
+ghost use Rattle.std.specs.Prelude.{◌≡◌, ◌≤◌, ◌*◌, ◌++◌, length, drop, IfOk, OnOk};
 ghost use Rattle.std.specs.Fmt.{decimal};
+ghost use Rattle.hex.specs.Hex.{encode_lower};
 ghost use Rattle.dac_play.specs.Texts.{booted_text, crashed_text, held_text, gave_up_text, issued_text, shipped_text, shared_text, heard_text, no_message_text, no_operation_text, refused_text, same_text, hex_text, input_fault_text, script_fault_text, config_fault_text, failure_text};
 
 use dac_base::NoMemory;
@@ -169,15 +170,38 @@ pub fn same_line(same: bool) -> &'static str
     if same { "same\n" } else { "differ\n" }
 }
 
+/// The two digits of each byte, one byte after another.
+const DIGITS: &[u8; 512] = b"\
+    000102030405060708090a0b0c0d0e0f101112131415161718191a1b1c1d1e1f\
+    202122232425262728292a2b2c2d2e2f303132333435363738393a3b3c3d3e3f\
+    404142434445464748494a4b4c4d4e4f505152535455565758595a5b5c5d5e5f\
+    606162636465666768696a6b6c6d6e6f707172737475767778797a7b7c7d7e7f\
+    808182838485868788898a8b8c8d8e8f909192939495969798999a9b9c9d9e9f\
+    a0a1a2a3a4a5a6a7a8a9aaabacadaeafb0b1b2b3b4b5b6b7b8b9babbbcbdbebf\
+    c0c1c2c3c4c5c6c7c8c9cacbcccdcecfd0d1d2d3d4d5d6d7d8d9dadbdcdddedf\
+    e0e1e2e3e4e5e6e7e8e9eaebecedeeeff0f1f2f3f4f5f6f7f8f9fafbfcfdfeff";
+
+/// Writes the two digits of each byte, from the front on. What is behind them stays.
+fn write_digits(line: &mut [u8], bytes: &[u8])
+    requires { 2 * length bytes.now ≤ length line.old }
+    ensures { line.new ≡ encode_lower bytes.now ++ drop (2 * length bytes.now) line.old }
+{
+    for at in 0..bytes.len() {
+        let place = 2 * bytes[at] as usize;
+        let high = DIGITS[place];
+        let low = DIGITS[place + 1];
+        // (the later place first, so that both are seen to be there at once)
+        line[2 * at + 1] = low;
+        line[2 * at] = high;
+    }
+}
+
 /// The bytes of a state or of a message: each as two digits, of which the letters are small.
 pub fn hex_line(alloc: Global, bytes: &[u8]) -> Result<Vec<u8>, NoMemory>
     ensures { IfOk result (λ line. line.items ≡ hex_text bytes.now) }
 {
-    let mut line = vec![in alloc; 0u8; 2 * bytes.len()]?;
-    if hex::encode_to_slice(bytes, &mut line).is_err() {
-        unreachable!();
-    }
-    line.push(b'\n')?;
+    let mut line = vec![in alloc; b'\n'; 2 * bytes.len() + 1]?;
+    write_digits(line.as_mut_slice(), bytes);
     Ok(line)
 }
 

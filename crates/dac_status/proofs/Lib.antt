@@ -1,4 +1,5 @@
 mod Places
+mod Running
 mod Passing
 mod Staying
 mod Lines

@@ -1,7 +1,7 @@
 -- Places that are filled one after another.
 use Rattle.std.proofs.Common.{◌≡◌, ℕ, ◌+◌, ◌-◌, ◌<◌, List, [], ◌∷◌, ◌++◌, length, map, set, replicate, suc, get_or, sym, subst, ap, ap₂, ◌∙◌, arith, append_assoc}
 use Rattle.std.specs.List.{range_with_len}
-use Rattle.std.proofs.Math.Seq.{set-append_seam}
+use Rattle.std.proofs.Math.Seq.{get_or-append_seam, set-append_seam}
 use Rattle.std.proofs.Math.ListN.{get_or-append}
 use Rattle.std.proofs.lemmas.List.{get_or-map, length-map, map-append}
 use Rattle.std.proofs.lemmas.List.FromFn.{get_or-map-range_with_len, length-map-range_with_len, map-range_with_len_more}
@@ -64,3 +64,47 @@ module _ {X T : Type 0} (places : ℕ) (blank : T) (make : ℕ → X) (f : X →
   placed_at count n lt =
       get_or-append (first count) (replicate (places - length (first count)) blank) blank n (subst (λ m. n < m) (sym (length-first count)) lt)
       ∙ listed_at blank make f count n lt
+
+  -- the same, whatever is read past the places
+  pub placed_any : (d : T) (count n : ℕ) → n < count → get_or (placed places blank (first count)) n d ≡ f (make n)
+  unfolding placed
+  placed_any d count n lt =
+      get_or-append (first count) (replicate (places - length (first count)) blank) d n (subst (λ m. n < m) (sym (length-first count)) lt)
+      ∙ listed_at d make f count n lt
+
+-- Places that hold f of all below n, and g of those from there on, up to n + k.
+module _ {X T : Type 0} (places : ℕ) (blank : T) (make : ℕ → X) (f g : X → T) where
+  abbrev front : ℕ → List T
+  front n = map f (map make (range_with_len 0 n))
+
+  abbrev back : ℕ → ℕ → List T
+  back n k = map g (map make (range_with_len n k)) ++ replicate (places - (n + k)) blank
+
+  abbrev pub staged : ℕ → ℕ → List T
+  staged n k = front n ++ back n k
+
+  pub staged_none : (count : ℕ) → placed places blank (map g (map make (range_with_len 0 count))) ≡ staged 0 count
+  unfolding placed
+  staged_none count = ap (λ c. map g (map make (range_with_len 0 count)) ++ replicate (places - c) blank) (length_listed make g count ∙ omega arith)
+
+  pub staged_all : (count : ℕ) → staged count 0 ≡ placed places blank (front count)
+  unfolding placed
+  staged_all count = ap (λ c. front count ++ replicate (places - c) blank) (omega arith ∙ sym (length_listed make f count))
+
+  -- the next one still is one of g
+  pub staged_at : (n k : ℕ) (d : T) → get_or (staged n (suc k)) n d ≡ g (make n)
+  staged_at n k d =
+      ap (λ i. get_or (staged n (suc k)) i d) (sym (length_listed make f n))
+      ∙ get_or-append_seam (front n) (g (make n)) (map g (map make (range_with_len (n + 1) k)) ++ replicate (places - (n + suc k)) blank) d
+
+  -- it becomes one of f
+  pub staged_more : (n k : ℕ) (xs : List T) → xs ≡ staged n (suc k) → set xs n (f (make n)) ≡ staged (n + 1) k
+  staged_more n k xs is =
+      let rest = map g (map make (range_with_len (n + 1) k)) in
+      let v = f (make n) in
+      let left : places - (n + suc k) ≡ places - (n + 1 + k) = omega arith in
+      ap (λ l. set l n v) is
+      ∙ ap (λ i. set (staged n (suc k)) i v) (sym (length_listed make f n))
+      ∙ set-append_seam (front n) (g (make n)) (rest ++ replicate (places - (n + suc k)) blank) v
+      ∙ sym (append_assoc (front n) (v ∷ []) (rest ++ replicate (places - (n + suc k)) blank))
+      ∙ ap₂ (λ l c. l ++ (rest ++ replicate c blank)) (sym (listed_more make f n)) left

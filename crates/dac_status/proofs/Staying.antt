@@ -27,7 +27,7 @@ use Rattle.dac_status.specs.Summaries.{lives_of, live_in, mark_at, mark_of, mark
 use Rattle.dac_status.proofs.Places.{node_numbered, placed_at}
 
 -- what a mark says by three tests: permitted, drained and started
-abbrev marked : Bool → Bool → Bool → Mark
+abbrev pub marked : Bool → Bool → Bool → Mark
 marked permitted drained started = cond (not permitted) mark.Barred (cond drained mark.Drained (cond (not started) mark.Idle mark.Ok))
 
 -- what a standing at a live holder is by the same tests
@@ -51,11 +51,11 @@ module _ (table : Table) (s : StateValue) (app : AppId) where
       ∙ (λ i. is_ok (marked (permitted i) (drained i) (started i)))
 
   -- the mark at the place of a node
-  mark_placed : (marks : List Mark) (n : ℕ) → marks ≡ marks_of table s app → n < node_count table → get_or marks n mark.Down ≡ mark_of table s app (node_numbered n)
+  pub mark_placed : (marks : List Mark) (n : ℕ) → marks ≡ marks_of table s app → n < node_count table → get_or marks n mark.Down ≡ mark_of table s app (node_numbered n)
   mark_placed marks n are lt = ap (λ ms. get_or ms n mark.Down) are ∙ placed_at MAX_NODES mark.Down node_numbered (mark_of table s app) (node_count table) n lt
 
   -- the life at the place of a node
-  life_placed : (lives : List (Option Life)) (n : ℕ) → lives ≡ lives_of table s → n < node_count table → live_in (get_or lives n None) ≡ live_at s.lives (node_numbered n)
+  pub life_placed : (lives : List (Option Life)) (n : ℕ) → lives ≡ lives_of table s → n < node_count table → live_in (get_or lives n None) ≡ live_at s.lives (node_numbered n)
   life_placed lives n are lt = ap (λ ls. live_in (get_or ls n None)) are ∙ ap live_in (placed_at MAX_NODES None node_numbered (map.get s.lives) (node_count table) n lt)
 
   -- the holder is live at the incarnation that claimed the application, and nothing keeps it from there

@@ -1,7 +1,17 @@
--- Which nodes may keep an application, by their marks.
-use Rattle.std.specs.Prelude.{Bool, true, false}
+-- Which nodes may keep an application, by their marks, and where the applications run.
+use Rattle.std.specs.Prelude.{Bool, true, false, List, map as list_map, Option, None}
+use Rattle.std.specs.FinMap as map
+use Rattle.dac_base.specs.declared.limits.TheConstants.{MAX_APPS}
+use Rattle.dac_base.specs.declared.AppId.{AppId}
+use Rattle.dac_base.specs.declared.NodeId.{NodeId}
+use Rattle.dac_config.specs.Table.{Table}
+use Rattle.dac_meaning.specs.StateValue.{StateValue}
+use Rattle.dac_placement.specs.declared.verdicts.Verdict.TheVariants.{Nobody}
+use Rattle.dac_placement.specs.Placement.{apps_of, runner_of}
 use Rattle.dac_status.specs.declared.marks.Mark.{Mark}
 use Rattle.dac_status.specs.declared.marks.Mark.TheVariants.{Down, Barred, Drained, Idle, Ok}
+use Rattle.dac_status.specs.declared.summary.AppSummary.{AppSummary}
+use Rattle.dac_status.specs.Summaries.{marks_of, no_app, placed}
 
 -- nothing keeps the application from a node of this mark
 abbrev pub is_ok : Mark → Bool
@@ -10,3 +20,15 @@ is_ok Barred = false
 is_ok Drained = false
 is_ok Idle = false
 is_ok Ok = true
+
+-- the node at which each application runs, if it runs at any, by the applications' numbers
+abbrev pub runners_of : Table → StateValue → List (Option NodeId)
+runners_of table s = placed MAX_APPS None (list_map (runner_of table s) (apps_of table))
+
+-- an application without its verdict
+abbrev pub app_begun : Table → StateValue → AppId → AppSummary
+app_begun table s app = record { claim = map.get s.claims app; verdict = Nobody; marks = marks_of table s app }
+
+-- the applications without their verdicts, by their numbers
+abbrev pub apps_begun : Table → StateValue → List AppSummary
+apps_begun table s = placed MAX_APPS no_app (list_map (app_begun table s) (apps_of table))

@@ -1,41 +1,166 @@
-//! Whether an application stays where it is, by the marks of the nodes.
-ghost use Rattle.std.specs.Prelude.{◌≡◌, ◌<◌, ◌&&◌, false, Some, IfSome};
+//! Where an application runs, whether it stays there, and who is its first choice, by the marks of the nodes.
+ghost use Rattle.std.specs.Prelude.{◌≡◌, ◌<◌, ◌==◌, ◌&&◌, false, not, Some, IfSome};
+ghost use Rattle.std.specs.Option.{is_some, option_map_or};
 ghost use Rattle.std.specs.FinMap as map;
 ghost use Rattle.dac_base.specs.declared.AppId.{AppId as App};
+ghost use Rattle.dac_base.specs.declared.NodeId.{NodeId as Node};
 ghost use Rattle.dac_config.specs.Table.{app_count, group_of};
 ghost use Rattle.dac_meaning.specs.StateValue.{StateValue};
 ghost use Rattle.dac_placement.specs.declared.standing.Standing.TheVariants.{Upheld};
-ghost use Rattle.dac_placement.specs.Placement.{EachEligible, IsEarlier, is_less, standing_of, verdict_of};
-ghost use Rattle.dac_status.specs.Kept.{is_ok};
-ghost use Rattle.dac_status.specs.Summaries.{lives_of, live_in, marks_of};
+ghost use Rattle.dac_placement.specs.Placement.{EachEligible, IsEarlier, first_choice, is_less, load_of, rank_of, runner_of, standing_of, verdict_of};
+ghost use Rattle.dac_status.specs.Kept.{is_ok, runners_of};
+ghost use Rattle.dac_status.specs.Summaries.{lives_of, live_in, mark_of, marks_of};
 
 use crate::marks::Mark;
-use dac_base::{AppId, MAX_NODES, NodeId};
+use dac_base::{AppId, MAX_APPS, MAX_NODES, NodeId};
 use dac_chains::{Claim, Life};
 use dac_config::Config;
 use dac_lattice::Flag;
-use dac_placement::{Verdict, verdict};
+use dac_origins::Origin;
+use dac_placement::{Rank, Verdict, lesser, runner, standing_of, verdict_by};
 use dac_state::State;
 
-/// What is to become of an application that has this greatest claim, where these are the lives of the nodes and their
-/// marks for it. That it stays at its holder is seen by these alone.
-pub(crate) fn verdict_by(
+/// What is to become of an application that has this greatest claim, where these are the lives of the nodes, their marks
+/// for it, and the nodes at which the applications run. That it stays at its holder is seen by lives and marks alone.
+pub(crate) fn verdict_seen(
     config: &Config,
     state: &State,
     app: AppId,
     claim: Option<Claim>,
     lives: &[Option<Life>; MAX_NODES],
     marks: &[Mark; MAX_NODES],
+    runners: &[Option<NodeId>; MAX_APPS],
 ) -> Verdict
     requires app { app.0 < app_count config.now }
     requires claim { claim ≡ map.get state.now.claims app }
     requires lives { lives.now ≡ lives_of config.now state.now }
     requires marks { marks.now ≡ marks_of config.now state.now app }
+    requires runners { runners.now ≡ runners_of config.now state.now }
     ensures { result ≡ verdict_of config.now state.now app }
 {
     match upheld_at(config, claim, lives, marks) {
         Some(holder) if !has_earlier(config, app, holder, marks) => Verdict::Kept(holder),
-        _ => verdict(config, state, app),
+        _ => {
+            let standing = standing_of(config, state, app);
+            let first = first_by(config, app, marks, runners);
+            verdict_by(config, app, standing, first)
+        }
+    }
+}
+
+/// The node at which an application of this greatest claim runs, if it runs at any, where these are the lives of the
+/// nodes and their marks for it. Only a state that no operation made has a claim of a node that isn't there.
+pub(crate) fn runner_by(
+    config: &Config,
+    state: &State,
+    app: AppId,
+    claim: Option<Claim>,
+    lives: &[Option<Life>; MAX_NODES],
+    marks: &[Mark; MAX_NODES],
+) -> Option<NodeId>
+    requires app { app.0 < app_count config.now }
+    requires claim { claim ≡ map.get state.now.claims app }
+    requires lives { lives.now ≡ lives_of config.now state.now }
+    requires marks { marks.now ≡ marks_of config.now state.now app }
+    ensures { result ≡ runner_of config.now state.now app }
+{
+    let holder = claim?.origin;
+    if holder.node.0 >= config.nodes() {
+        return runner(config, state, app);
+    }
+    let place = holder.node.0 as usize;
+    let group = config.group_of(app, holder.node);
+    if runs_by(holder, lives[place], marks[place], group) {
+        Some(holder.node)
+    } else {
+        None
+    }
+}
+
+/// Whether an application runs at its holder, where the holder's node has this life, mark and group.
+fn runs_by(holder: Origin, life: Option<Life>, mark: Mark, group: Option<u16>) -> bool
+    ensures { result
+        ≡ (option_map_or (λ inc. inc == holder.inc) (live_in life) false
+        && (is_some group && is_ok mark)) }
+{
+    match live_in(life) {
+        Some(inc) => inc == holder.inc && (group.is_some() && is_ok(mark)),
+        None => false,
+    }
+}
+
+/// The first choice for an application, where these are the marks of the nodes for it, and the nodes at which the
+/// applications run.
+fn first_by(
+    config: &Config,
+    app: AppId,
+    marks: &[Mark; MAX_NODES],
+    runners: &[Option<NodeId>; MAX_APPS],
+) -> Option<NodeId>
+    requires { app.0 < app_count config.now }
+    ensures { (s : StateValue) → marks.now ≡ marks_of config.now s app
+        → runners.now ≡ runners_of config.now s → result ≡ first_choice config.now s app }
+{
+    let mut first = None;
+    for number in 0..config.nodes() {
+        let rank = rank_by(config, app, NodeId(number), marks[number as usize], runners);
+        first = lesser(first, rank);
+    }
+    let first = first?;
+    Some(first.node)
+}
+
+/// The rank of a node of this mark, if it may run the application, where these are the nodes at which the applications
+/// run.
+fn rank_by(
+    config: &Config,
+    app: AppId,
+    node: NodeId,
+    mark: Mark,
+    runners: &[Option<NodeId>; MAX_APPS],
+) -> Option<Rank>
+    requires { app.0 < app_count config.now }
+    ensures { (s : StateValue) → mark ≡ mark_of config.now s app node
+        → runners.now ≡ runners_of config.now s → result ≡ rank_of config.now s app node }
+{
+    if !is_ok(mark) {
+        return None;
+    }
+    let group = config.group_of(app, node)?;
+    let load = load_by(config, app, node, runners);
+    Some(Rank { group, load, node })
+}
+
+/// How many other applications run at a node, where these are the nodes at which the applications run.
+fn load_by(config: &Config, app: AppId, node: NodeId, runners: &[Option<NodeId>; MAX_APPS]) -> u32
+    ensures { (s : StateValue) → runners.now ≡ runners_of config.now s
+        → result ≡ load_of config.now s app node }
+{
+    let mut load = 0;
+    for number in 0..config.apps() {
+        if counts(app, node, AppId(number), runners[number as usize]) {
+            load += 1;
+        }
+    }
+    load
+}
+
+/// Whether the other application isn't this one, and runs at the node, where it runs there if it runs at any.
+fn counts(app: AppId, node: NodeId, other: AppId, runner: Option<NodeId>) -> bool
+    ensures { result
+        ≡ (not (other.0 == app.0)
+        && option_map_or (λ (at : Node). at.0 == node.0) runner false) }
+{
+    other.0 != app.0 && is_at(runner, node)
+}
+
+/// Whether an application that runs there, if it runs at any node, runs at this one.
+fn is_at(runner: Option<NodeId>, node: NodeId) -> bool
+    ensures { result ≡ option_map_or (λ (at : Node). at.0 == node.0) runner false }
+{
+    match runner {
+        Some(at) => at.0 == node.0,
+        None => false,
     }
 }
 

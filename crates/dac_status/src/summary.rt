@@ -2,10 +2,11 @@
 
 ghost use Rattle.std.specs.Prelude.{◌≡◌, ◌+◌, ◌<◌};
 ghost use Rattle.dac_config.specs.Table.{app_count};
-ghost use Rattle.dac_status.specs.Summaries.{mark_at, live_in, drains, marks_of, lives_of, drains_live, drained_of, no_app, app_summary, app_summaries, summary_of};
+ghost use Rattle.dac_status.specs.Summaries.{mark_at, live_in, drains, marks_of, lives_of, drains_live, drained_of, no_app, app_summaries, summary_of};
+ghost use Rattle.dac_status.specs.Kept.{app_begun, apps_begun, runners_of};
 ghost use Rattle.dac_status.specs.Walks.{IsBefore, first_key};
 
-use crate::kept::{live_in, verdict_by};
+use crate::kept::{live_in, runner_by, verdict_seen};
 use crate::marks::Mark;
 use crate::walk::Walk;
 use dac_base::{AppId, MAX_APPS, MAX_NODES, NodeId};
@@ -141,9 +142,9 @@ fn marks_of(
     marks
 }
 
-/// Where an application stands, where these are the lives of the nodes, and whether they are drained. The walk goes on to
-/// the next application.
-fn app_summary(
+/// The greatest claim of an application and the marks of the nodes, without its verdict, where these are the lives of the
+/// nodes, and whether they are drained. The walk goes on to the next application.
+fn app_begun(
     config: &Config,
     walk: &mut Walk<'_>,
     app: AppId,
@@ -154,17 +155,14 @@ fn app_summary(
     requires lives { lives.now ≡ lives_of config.now walk.old.state }
     requires drained { drained.now ≡ drained_of config.now walk.old.state }
     requires before { IsBefore (first_key app.0 0) walk.old }
-    ensures value { result ≡ app_summary config.now walk.old.state app }
+    ensures value { result ≡ app_begun config.now walk.old.state app }
     ensures state { walk.new.state ≡ walk.old.state }
     ensures before { IsBefore (first_key (app.0 + 1) 0) walk.new }
 {
     let marks = marks_of(config, walk, app, lives, drained);
-    let state = walk.state();
-    let claim = state.claims().greatest(app);
-    let verdict = verdict_by(config, state, app, claim, lives, &marks);
     AppSummary {
-        claim,
-        verdict,
+        claim: walk.state().claims().greatest(app),
+        verdict: Verdict::Nobody,
         marks,
     }
 }
@@ -180,8 +178,57 @@ fn no_app() -> AppSummary
     }
 }
 
-/// Where each application of the configuration stands, by its number, where these are the lives of the nodes, and
+/// Each application of the configuration without its verdict, by its number, where these are the lives of the nodes, and
 /// whether they are drained.
+fn apps_begun(
+    config: &Config,
+    state: &State,
+    lives: &[Option<Life>; MAX_NODES],
+    drained: &[bool; MAX_NODES],
+) -> [AppSummary; MAX_APPS]
+    requires lives { lives.now ≡ lives_of config.now state.now }
+    requires drained { drained.now ≡ drained_of config.now state.now }
+    ensures { result ≡ apps_begun config.now state.now }
+{
+    let blank = no_app();
+    let mut apps = [blank; MAX_APPS];
+    let mut walk = Walk::of(state);
+    for number in 0..config.apps() {
+        apps[number as usize] = app_begun(config, &mut walk, AppId(number), lives, drained);
+    }
+    apps
+}
+
+/// The node at which each application runs, by the applications' numbers, where these are the lives of the nodes, and the
+/// applications without their verdicts.
+fn runners_of(
+    config: &Config,
+    state: &State,
+    lives: &[Option<Life>; MAX_NODES],
+    apps: &[AppSummary; MAX_APPS],
+) -> [Option<NodeId>; MAX_APPS]
+    requires lives { lives.now ≡ lives_of config.now state.now }
+    requires apps { apps.now ≡ apps_begun config.now state.now }
+    ensures { result ≡ runners_of config.now state.now }
+{
+    let mut runners = [None; MAX_APPS];
+    for number in 0..config.apps() {
+        let place = number as usize;
+        let begun = &apps[place];
+        runners[place] = runner_by(
+            config,
+            state,
+            AppId(number),
+            begun.claim,
+            lives,
+            &begun.marks,
+        );
+    }
+    runners
+}
+
+/// Where each application of the configuration stands, by its number, where these are the lives of the nodes, and
+/// whether they are drained. Where all run is seen first, and then what is to become of each.
 fn apps_of(
     config: &Config,
     state: &State,
@@ -192,11 +239,22 @@ fn apps_of(
     requires drained { drained.now ≡ drained_of config.now state.now }
     ensures { result ≡ app_summaries config.now state.now }
 {
-    let blank = no_app();
-    let mut apps = [blank; MAX_APPS];
-    let mut walk = Walk::of(state);
+    let mut apps = apps_begun(config, state, lives, drained);
+    let runners = runners_of(config, state, lives, &apps);
     for number in 0..config.apps() {
-        apps[number as usize] = app_summary(config, &mut walk, AppId(number), lives, drained);
+        let place = number as usize;
+        let app = AppId(number);
+        let begun = &apps[place];
+        let verdict = verdict_seen(
+            config,
+            state,
+            app,
+            begun.claim,
+            lives,
+            &begun.marks,
+            &runners,
+        );
+        apps[place].verdict = verdict;
     }
     apps
 }

@@ -3,7 +3,7 @@ use Rattle.std.proofs.lemmas.Bool.{and_from}
 use Rattle.dac_config.specs.Table.{app_count}
 use Rattle.dac_placement.specs.Placement.{load_of, IsLoad}
 use Rattle.dac_placement.specs.laws.Loads.{load_is}
-use Rattle.dac_placement.proofs.Counting.{load_below, load_counts, load_passes, first_fails, second_fails}
+use Rattle.dac_placement.specs.laws.Counting.{load_below, load_counts, load_passes, first_fails, second_fails}
 use Rattle.dac_placement.proofs.running.load.Goals as goal
 use Rattle.dac_placement.proofs.running.load.Goals.{then-ne+then-runs, else-ne, else-ne-via-then-ne+else-runs, else-ne-via-else-ne}
 

@@ -1,5 +1,5 @@
 use Rattle.std.proofs.Common.{◌≡◌, ◌≤◌}
-use Rattle.dac_placement.proofs.Counting.{load_below}
+use Rattle.dac_placement.specs.laws.Counting.{load_below}
 use Rattle.dac_placement.proofs.running.load.Given as goal
 
 abbrev pub invariant-loop-number : goal.invariant-loop-number

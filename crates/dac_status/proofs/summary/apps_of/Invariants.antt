@@ -1,13 +1,9 @@
-use Rattle.std.proofs.Common.{◌≡◌, map}
-use Rattle.std.specs.List.{range_with_len}
-use Rattle.dac_status.specs.Summaries.{placed, no_app, app_summary}
-use Rattle.dac_status.specs.Walks.{IsBefore, first_key}
-use Rattle.dac_status.proofs.Places.{app_numbered}
+use Rattle.std.proofs.Common.{◌≡◌, ◌-◌}
+use Rattle.dac_config.specs.Table.{app_count}
+use Rattle.dac_status.specs.Kept.{app_begun}
+use Rattle.dac_status.specs.Summaries.{no_app, app_summary}
+use Rattle.dac_status.proofs.Places.{app_numbered, staged}
 use Rattle.dac_status.proofs.summary.apps_of.Given as goal
 
 abbrev pub invariant-loop-number : goal.invariant-loop-number
-invariant-loop-number l = record {
-  apps : l.apps ≡ placed 64 no_app (map (app_summary l.config l.state) (map app_numbered (range_with_len 0 l.number)));
-  state : l.walk.state ≡ l.state;
-  before : IsBefore (first_key l.number 0) l.walk;
-}
+invariant-loop-number l = l.apps ≡ staged 64 no_app app_numbered (app_summary l.config l.state) (app_begun l.config l.state) l.number (app_count l.config - l.number)

@@ -1,5 +1,5 @@
 use Rattle.dac_status.proofs.Staying.{stays}
-use Rattle.dac_status.proofs.kept.verdict_by.Goals as goal
+use Rattle.dac_status.proofs.kept.verdict_seen.Goals as goal
 
 pub returns-in-Some : goal.returns-in-Some
 returns-in-Some c =
