@@ -213,7 +213,7 @@ fn one_list<T: Drop>(
     Ok(all)
 }
 
-/// Who sits where. The callers come last, and the shippers before them, because of several faults the last one is told.
+/// Who sits where. The callers come last, and the shippers before them, because of several causes the last one is told.
 fn hire_all<'a, L: SiteName, H: Watch>(
     post: &'a Post<'a, L>,
     watch: &'a H,
