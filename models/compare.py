@@ -1,11 +1,12 @@
 #!/usr/bin/env python3
 """Runs the program and the models on the same random inputs, and prints the first difference whole.
 
-Usage: python3 compare.py PROGRAM [--seed S] [--count N] [--scripts M] [--live L] [--racing R] [--packets P] [--jobs J]
+Usage: python3 compare.py PROGRAM [--seed S] [--count N] [--scripts M] [--live L] [--racing R] [--recorded D] [--packets P] [--jobs J]
 
-PROGRAM may be a command of several words in one argument, as of a loader with its arguments. The word `check`, `sim` or `live`
+PROGRAM may be a command of several words in one argument, as of a loader with its arguments. The word `check`, `sim`, `live` or `record`
 is added to it. A live run that hasn't ended after some minutes is a difference too. Packets are fed to `sim`, 500 by a script.
 What racing live scripts print hangs on the order of the threads. It is checked by what has to hold of each run: see racing.py.
+Such scripts and those with one outcome are recorded too: see recorded.py.
 The inputs that ./fuzz found are played too, all of them: see found.py.
 The last line counts, and says whether PROGRAM is the proved program. Of a program elsewhere, as a copy, it says that it isn't.
 """
@@ -27,6 +28,7 @@ import found
 import live
 import programs
 import racing
+import recorded
 import random_live
 import random_racing
 import random_scripts
@@ -83,11 +85,18 @@ def by_what_holds(source: bytes, said: Answer) -> str | None:
     return None if broken is None else f"what doesn't hold: {broken}"
 
 
+def by_recording(judge: recorded.Judge) -> Judge:
+    """Judges by what has to hold of each recorded run, and its comments by this."""
+    return lambda source, said: recorded.fault_of_record(judge, source, *said)
+
+
 KINDS = {
     "check": Kind("check", random_texts.random_text, by_model(check.check)),
     "sim": Kind("sim", random_scripts.random_script, by_model(sim.simulate)),
     "live": Kind("live", random_live.random_live, by_model(live.run_live)),
     "racing": Kind("live", random_racing.random_racing, by_what_holds),
+    "recorded": Kind("record", random_live.random_live, by_recording(recorded.by_outcome)),
+    "recorded races": Kind("record", random_racing.random_racing, by_recording(recorded.by_races)),
     "packets": Kind("sim", random_scripts.random_packets, by_model(sim.simulate)),
     **{
         f"found {command}": Kind(word, partial(found.source, command), by_model(found.MODELS[command]))
@@ -98,7 +107,7 @@ KINDS = {
 
 def run_program(program: list[str], word: str, source: bytes) -> Answer:
     """What the program prints for an input, and its exit status."""
-    most = MOST_SECONDS if word == "live" else None
+    most = MOST_SECONDS if word in ("live", "record") else None
     try:
         done = subprocess.run([*program, word], input=source, stdout=subprocess.PIPE, check=False, timeout=most)
     except subprocess.TimeoutExpired:
@@ -150,6 +159,7 @@ def arguments() -> argparse.Namespace:
     parser.add_argument("--scripts", type=int, default=2_000, help="how many scripts for `sim`")
     parser.add_argument("--live", type=int, default=500, help="how many scripts for `live`")
     parser.add_argument("--racing", type=int, default=300, help="how many scripts for `live` whose answers hang on the threads")
+    parser.add_argument("--recorded", type=int, default=200, help="how many scripts of either kind for `record`")
     parser.add_argument("--packets", type=int, default=20_000, help="how many packets for `feed`, at least")
     parser.add_argument("--jobs", type=int, default=2)
     parser.add_argument("program", type=shlex.split, help="the program, or a command of several words")
@@ -161,12 +171,13 @@ def main() -> int:
     words = arguments()
     feeds = -(-words.packets // random_scripts.PACKETS)
     counts = {"check": words.count, "sim": words.scripts, "live": words.live, "racing": words.racing, "packets": feeds}
+    counts.update({"recorded": words.recorded, "recorded races": words.recorded})
     kept = {f"found {command}": len(found.kept(command)) for command in found.WORDS}
     differences = compare_all(words.program, words.seed, {**counts, **kept}, words.jobs)
     if differences:
         show(differences[0])
     state = "proved" if programs.is_proved(words.program) else "not proved"
-    lives = f"{words.live} live scripts, {words.racing} racing live scripts"
+    lives = f"{words.live} live scripts, {words.racing} racing live scripts, {2 * words.recorded} recorded runs"
     made = f"{words.count} texts, {words.scripts} scripts, {lives}, {feeds * random_scripts.PACKETS} packets"
     print(f"{made}, {sum(kept.values())} found inputs, {len(differences)} differences; the program is {state}")
     return 1 if differences else 0

@@ -1,3 +1,4 @@
+pub mod Causes
 pub use Rattle.dac_workers.specs.Compared
 pub use Rattle.dac_workers.specs.Journals
 pub use Rattle.dac_workers.specs.Paged

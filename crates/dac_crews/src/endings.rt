@@ -60,7 +60,7 @@ pub(crate) fn back_of<L: SiteName, H: Watch, W: Drop>(
     })
 }
 
-/// Ends a site whose tasks are lost, or that stands for no node.
+/// Ends a site whose tasks are lost.
 fn shut<L: SiteName, R: Wait>(rt: &R, alloc: Global, site: Site<L>)
     requires { L.seats ≡ L.parts }
 {
@@ -99,7 +99,7 @@ fn close<L: SiteName, R: Wait>(
     Ok(())
 }
 
-/// Ends the site of a node, or one that stands for none, when the run has left it.
+/// Ends the site of a node when the run has left it.
 pub(crate) fn end_site<L: SiteName, W: Drop, H: Watch, R: Wait>(
     rt: &R,
     shared: &Shared<'_, H>,
@@ -118,11 +118,7 @@ pub(crate) fn end_site<L: SiteName, W: Drop, H: Watch, R: Wait>(
                 mut outcome,
             },
         ) => {
-            if node.0 >= shared.nodes {
-                shut(rt, shared.alloc, site);
-            } else {
-                close(rt, node, site, seats, last, &mut outcome)?;
-            }
+            close(rt, node, site, seats, last, &mut outcome)?;
             Ok((rest, outcome))
         }
         Err(fault) => {

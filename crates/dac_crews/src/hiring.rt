@@ -213,7 +213,7 @@ fn one_list<T: Drop>(
     Ok(all)
 }
 
-/// Who sits where. The callers come last, and the shippers before them, because of several faults the last one is told.
+/// Who sits where. The callers come last, and the shippers before them, because of several causes the last one is told.
 fn hire_all<'a, L: SiteName, H: Watch>(
     post: &'a Post<'a, L>,
     watch: &'a H,
@@ -228,8 +228,7 @@ fn hire_all<'a, L: SiteName, H: Watch>(
     Ok(tasks)
 }
 
-/// All tasks of a site, with the last ends that are left: the sites are opened from the last node on. A site that stands for no node
-/// has none.
+/// All tasks of a site, with the last ends that are left: the sites are opened from the last node on.
 pub(crate) fn hire<'a, L: SiteName, H: Watch>(
     shared: &Shared<'a, H>,
     post: &'a Post<'a, L>,
@@ -237,9 +236,6 @@ pub(crate) fn hire<'a, L: SiteName, H: Watch>(
     readers: &mut Vec<PageReader<L>>,
     all: &mut Vec<LinkEnds>,
 ) -> Result<Vec<Task<'a, L, H>>, RunFault> {
-    if post.node.0 >= shared.nodes {
-        return Ok(Vec::new(shared.alloc));
-    }
     match all.pop() {
         Some(ends) => hire_all(post, shared.watch, seats, readers, ends),
         None => Err(RunFault::NoPage { node: post.node }),

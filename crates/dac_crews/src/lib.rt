@@ -11,6 +11,7 @@ pub use hiring::{CALLERS, ROOM};
 pub use phases::{Ask, Line, Outcome, Phase, Seen};
 pub use sites::{MAX_SITES, run_sites};
 
+mod causes;
 mod endings;
 mod hiring;
 mod phases;

@@ -2,7 +2,7 @@
 //!
 //! The last site is opened first and ended last. Each name has three functions of its own. `at_first` makes a blank and picks a name,
 //! `with_first` opens the site and ends it, and `run_at_first` runs what is left while the site is open: the sites of lesser names, or
-//! all workers. Sites past the nodes stand for none, and nobody works there.
+//! all workers. A run of fewer nodes begins at the site of its last one.
 
 ghost use Rattle.std.specs.Prelude.{◌≡◌};
 ghost use Rattle.dac_workers.specs.Sites.{IsBlankOf};
@@ -27,21 +27,16 @@ use std::thread::Threads;
 /// How many nodes a run may have.
 pub const MAX_SITES: u8 = 4;
 
-/// A blank for this node, or one that stands for none.
+/// A blank for this node.
 fn blank_of<H: Watch, R: Wait>(
     rt: &R,
     shared: &Shared<'_, H>,
     node: NodeId,
 ) -> Result<SiteBlank, RunFault> {
-    let blank = if node.0 < shared.nodes {
-        let others = u16::from(shared.nodes) - 1;
-        let seats = u16::from(CALLERS) + 2 * others;
-        let readers = u16::from(CALLERS) + 1;
-        blank_site(rt, shared.alloc, shared.config, node, 0, seats, readers)
-    } else {
-        blank_site(rt, shared.alloc, shared.config, NodeId(0), 0, 1, 0)
-    };
-    match blank {
+    let others = u16::from(shared.nodes).saturating_sub(1);
+    let seats = u16::from(CALLERS) + 2 * others;
+    let readers = u16::from(CALLERS) + 1;
+    match blank_site(rt, shared.alloc, shared.config, node, 0, seats, readers) {
         Ok(blank) => Ok(blank),
         Err(fault) => Err(RunFault::Open(fault)),
     }
@@ -318,6 +313,11 @@ pub fn run_sites<G: Gate, R: Threads + Wait + Sync>(
         nodes,
     };
     let none: Vec<Nobody> = Vec::new(alloc);
-    let (_none, outcome) = at_fourth(rt, &shared, ends, none)?;
+    let (_none, outcome) = match nodes {
+        4 => at_fourth(rt, &shared, ends, none)?,
+        3 => at_third(rt, &shared, ends, none)?,
+        2 => at_second(rt, &shared, ends, none)?,
+        _ => at_first(rt, &shared, ends, none)?,
+    };
     Ok(outcome)
 }

@@ -1,5 +1,8 @@
 //! What the threads of a site do: its callers, its shippers and its link workers.
 
+ghost use Rattle.dac_crews.specs.Causes.{is_cause};
+
+use crate::causes::is_cause;
 use crate::phases::{Ask, Line};
 use crate::posts::Post;
 use dac_base::NodeId;
@@ -199,6 +202,12 @@ impl<L: SiteName, H: Watch> Task<'_, L, H> {
 impl<L: SiteName + Send + Sync, H: Watch + Sync> Worker for Task<'_, L, H> {
     type Fault = RunFault;
 
+    ghost is_cause = { is_cause };
+
+    fn is_cause(fault: &RunFault) -> bool {
+        is_cause(fault)
+    }
+
     fn works_in(&self, phase: usize) -> bool {
         match self {
             Task::Call(caller) => caller.has_lines(phase),
@@ -226,6 +235,12 @@ pub(crate) struct Nobody;
 
 impl Worker for Nobody {
     type Fault = RunFault;
+
+    ghost is_cause = { is_cause };
+
+    fn is_cause(fault: &RunFault) -> bool {
+        is_cause(fault)
+    }
 
     fn works_in(&self, _phase: usize) -> bool {
         false

@@ -1,4 +1,4 @@
--- How `distac live` ends, from what was read, run and printed.
+-- How `distac live` and `distac record` end, from what was read, run and printed.
 use Rattle.std.proofs.Common.{◌≡◌, ℕ, List, Option, Some, None, sym, subst}
 use Rattle.std.specs.Prelude.{IfSome}
 use Rattle.std.specs.Io.KnownBytes.{Appends}
@@ -14,7 +14,8 @@ use Rattle.dac_live_play.specs.declared.ending.LiveEnding.{LiveEnding}
 use Rattle.dac_live_play.specs.declared.ending.LiveEnding.TheVariants as ending
 use Rattle.dac_live_play.specs.Endings.{fault_text, IsRefusal, IsGivenUp, IsLeftAt}
 use Rattle.dac_live_play.specs.Runs.{IsFaultOf}
-use Rattle.dac_live_play.specs.Lives.{IsPlayed, IsLived, EndsLive}
+use Rattle.dac_live_play.specs.Lives.{IsPlayed, EndsLive}
+use Rattle.dac_live_play.specs.Records.{IsKept, IsUnkept, EndsRecord}
 
 -- the script that the input says was run, and its text was printed
 pub lived : (had old new : Option (List ℕ)) (table : Table) (script : List LiveLine) (text : List ℕ) → IfSome had (λ bytes. SaysLiveScript bytes table script) → IsPlayed table script text → Appends old new text
@@ -59,3 +60,32 @@ given_up_left old new source table why ending.Done left given_up = left
 given_up_left old new source table why (ending.Refused found) left given_up = absurd given_up
 given_up_left old new source table why (ending.Faulted found) left given_up = left
 given_up_left old new source table why ending.Stopped left given_up = tt
+
+-- ---- the same of `distac record`
+
+pub recorded : (had old new : Option (List ℕ)) (table : Table) (script : List LiveLine) (text : List ℕ) → IfSome had (λ bytes. SaysLiveScript bytes table script) → IsKept table script text → Appends old new text
+    → IfSome had (λ bytes. EndsRecord bytes ending.Done old new)
+recorded None old new table script text says kept printed = tt
+recorded (Some bytes) old new table script text says kept printed = record { table = table; script = script; says = says; text = text; kept = kept; printed = printed }
+
+pub refused_records : (had old new : Option (List ℕ)) (why : Failure) (how : LiveEnding) → IfSome had (λ bytes. IsLiveFailureOf bytes why) → IsRefusal why how old new → IfSome had (λ bytes. EndsRecord bytes how old new)
+refused_records None old new why how fails refusal = tt
+refused_records (Some bytes) old new why ending.Done fails refusal = absurd refusal
+refused_records (Some bytes) old new why (ending.Refused found) fails refusal =
+    (subst (IsLiveFailureOf bytes) (sym refusal.0) fails, subst (λ (f : Failure). Appends old new (failure_text f)) (sym refusal.0) refusal.1)
+refused_records (Some bytes) old new why (ending.Faulted found) fails refusal = absurd refusal
+refused_records (Some bytes) old new why ending.Stopped fails refusal = tt
+
+pub given_up_records : (had old new : Option (List ℕ)) (table : Table) (script : List LiveLine) (why : PlayFault) (how : LiveEnding) → IfSome had (λ bytes. SaysLiveScript bytes table script) → IsUnkept table script why → IsGivenUp table why how old new
+    → IfSome had (λ bytes. EndsRecord bytes how old new)
+given_up_records None old new table script why how says fault_is given_up = tt
+given_up_records (Some bytes) old new table script why ending.Done says fault_is given_up = absurd given_up
+given_up_records (Some bytes) old new table script why (ending.Refused found) says fault_is given_up = absurd given_up
+given_up_records (Some bytes) old new table script why (ending.Faulted found) says fault_is given_up = record {
+  table = table;
+  script = script;
+  says = says;
+  fault_is = subst (IsUnkept table script) (sym given_up.0) fault_is;
+  printed = subst (λ (f : PlayFault). Appends old new (fault_text table f)) (sym given_up.0) given_up.1;
+}
+given_up_records (Some bytes) old new table script why ending.Stopped says fault_is given_up = tt

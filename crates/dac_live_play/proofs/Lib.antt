@@ -4,3 +4,4 @@ mod Lines
 mod Owed
 mod Placing
 mod Reports
+mod Sayings

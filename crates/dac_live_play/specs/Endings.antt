@@ -29,6 +29,8 @@ weave_fault_text table node place =
 abbrev pub fault_text : Table → PlayFault → List ℕ
 fault_text table (fault.Run why) = run_fault_text why
 fault_text table (fault.Unwoven node place) = weave_fault_text table node place
+fault_text table fault.TooLong = codes "record fault 1 TooLong\n"
+fault_text table fault.Unspelled = codes "record fault 2 Unspelled\n"
 fault_text table fault.NoMemory = codes "out of memory\n"
 
 -- the exit status of an ending

@@ -21,3 +21,11 @@ play_fault_of (run.NoPage node) = fault.Run (run.NoPage node)
 abbrev pub unwoven_fault_of : WeaveFault → PlayFault
 unwoven_fault_of (weave.Unwoven node place) = fault.Unwoven node place
 unwoven_fault_of weave.NoMemory = fault.NoMemory
+
+-- no input of `distac sim` says a run, or memory was refused
+abbrev pub IsRecordFault : PlayFault → Type 0
+IsRecordFault (fault.Run why) = ⊥
+IsRecordFault (fault.Unwoven node place) = ⊥
+IsRecordFault fault.TooLong = Unit {0}
+IsRecordFault fault.Unspelled = Unit {0}
+IsRecordFault fault.NoMemory = Unit {0}

@@ -2,6 +2,7 @@
 use Rattle.std.specs.Prelude.{◌≡◌, ℕ, List, Option}
 use Rattle.std.specs.Io.KnownBytes.{Appends}
 use Rattle.dac_config.specs.Table.{Table}
+use Rattle.dac_events.specs.declared.WorldEvent.{WorldEvent}
 use Rattle.dac_live_script.specs.declared.line.LiveLine.{LiveLine}
 use Rattle.dac_live_script.specs.LiveInputs.{SaysLiveScript, IsLiveFailureOf}
 use Rattle.dac_play.specs.Texts.{failure_text}
@@ -18,6 +19,15 @@ pub record IsPlayed (table : Table) (script : List LiveLine) (text : List ℕ) :
   pub report : LiveReport
   pub reported : IsReportOf table script report
   pub woven : IsWoven table report
+  pub text_is : text ≡ live_text table script report
+
+-- This text is that of a run of the script, whose journals are woven into these events. So they are one run of the
+-- world, with all that every run leaves.
+pub record IsRunOf (table : Table) (script : List LiveLine) (text : List ℕ) (events : List WorldEvent) : Type 0 where
+  pub report : LiveReport
+  pub reported : IsReportOf table script report
+  pub woven : IsWoven table report
+  pub events_are : events ≡ woven.events
   pub text_is : text ≡ live_text table script report
 
 -- what is printed is that of a run of the script that the input says

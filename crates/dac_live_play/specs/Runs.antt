@@ -12,7 +12,6 @@ use Rattle.dac_live.specs.Phase.{Phase}
 use Rattle.dac_weave.specs.Converging.{IsConverged}
 use Rattle.dac_weave.specs.Recording.{IsRecorded}
 use Rattle.dac_weave.specs.Woven.{Gives, IsUnwoven}
-use Rattle.dac_live.specs.RunFault.{RunFault}
 use Rattle.dac_live.specs.RunFault.TheVariants as run
 use Rattle.dac_live_play.specs.declared.fault.PlayFault.{PlayFault}
 use Rattle.dac_live_play.specs.declared.fault.PlayFault.TheVariants as fault
@@ -54,8 +53,10 @@ pub record IsUnwovenAt (table : Table) (script : List LiveLine) (node : NodeId) 
   pub none : (events : List WorldEvent) → IsRecorded table report.closed events → ⊥
 
 -- Why a script isn't run to its end. More than four nodes are always the fault, and no fewer are, unless memory was
--- refused. Want of memory is no fault of a run.
+-- refused. Want of memory is no fault of a run. That a run has no script is none either.
 abbrev pub IsFaultOf : Table → List LiveLine → PlayFault → Type 0
 IsFaultOf table script (fault.Run why) = (why ≢ run.NoMemory) × (why ≡ run.TooManyNodes ↔ 4 < node_count table)
 IsFaultOf table script (fault.Unwoven node place) = IsUnwovenAt table script node place
+IsFaultOf table script fault.TooLong = ⊥
+IsFaultOf table script fault.Unspelled = ⊥
 IsFaultOf table script fault.NoMemory = Unit {0}

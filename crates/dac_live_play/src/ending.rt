@@ -72,6 +72,14 @@ fn fault_line(alloc: Global, config: &Config, fault: PlayFault) -> Result<Vec<u8
     match fault {
         PlayFault::Run(why) => run_fault_line(alloc, why),
         PlayFault::Unwoven { node, place } => weave_fault_line(alloc, config, node, place),
+        PlayFault::TooLong => {
+            let line = Vec::from_slice(alloc, b"record fault 1 TooLong\n")?;
+            Ok(line)
+        }
+        PlayFault::Unspelled => {
+            let line = Vec::from_slice(alloc, b"record fault 2 Unspelled\n")?;
+            Ok(line)
+        }
         PlayFault::NoMemory => {
             let line = Vec::from_slice(alloc, OUT_OF_MEMORY.as_bytes())?;
             Ok(line)

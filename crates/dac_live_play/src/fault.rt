@@ -18,6 +18,10 @@ pub enum PlayFault {
         /// The place, from 1. At place 0 the journal is no whole history.
         place: u64,
     },
+    /// The run as an input of `distac sim` has more bytes than an input may have.
+    TooLong,
+    /// No input of `distac sim` says the run.
+    Unspelled,
     /// Memory was refused.
     NoMemory,
 }

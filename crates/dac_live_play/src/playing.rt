@@ -4,13 +4,16 @@ ghost use Rattle.std.specs.Prelude.{All, IfOk, IfErr};
 ghost use Rattle.dac_config.specs.Table.{node_count};
 ghost use Rattle.dac_live_script.specs.LiveLines.{HasActors};
 ghost use Rattle.dac_live_play.specs.Runs.{IsFaultOf};
-ghost use Rattle.dac_live_play.specs.Lives.{IsPlayed};
+ghost use Rattle.dac_live_play.specs.Lives.{IsRunOf, IsPlayed};
+ghost use Rattle.dac_live_play.specs.Records.{IsKept, IsUnkept};
 
 use crate::fault::PlayFault;
 use crate::phases::{parts_of, phases_of};
 use crate::printing::live_lines;
+use crate::recording::record_lines;
 use dac_base::NodeId;
 use dac_config::Config;
+use dac_events::WorldEvent;
 use dac_live::{Gate, run_live};
 use dac_live_script::LiveLine;
 use dac_weave::weave;
@@ -27,6 +30,27 @@ impl Gate for Open {
     fn after(&self, _from: NodeId, _to: NodeId, _k: u64) {}
 }
 
+/// Runs a script at sites in threads, and weaves their journals into one run of the world. It gives what is printed of the run, and
+/// the run.
+fn run_script<T: Threads + Wait + Sync>(
+    rt: &T,
+    alloc: Global,
+    config: &Config,
+    script: &[LiveLine],
+) -> Result<(Vec<u8>, Vec<WorldEvent>), PlayFault>
+    requires { All (HasActors (node_count config.now)) script.now }
+    ensures ok { IfOk result
+        (λ both. IsRunOf config.now script.now both.0.items both.1.items) }
+    ensures fault { IfErr result (IsFaultOf config.now script.now) }
+{
+    let parts = parts_of(alloc, script)?;
+    let phases = phases_of(alloc, &parts)?;
+    let report = run_live(rt, alloc, config, &phases, &Open)?;
+    let events = weave(alloc, config, report.closed.as_slice())?;
+    let text = live_lines(alloc, config, &parts, &phases, &report)?;
+    Ok((text, events))
+}
+
 /// Runs a script at sites in threads, weaves their journals, and gives what is printed of it.
 ///
 /// [`PlayFault::NoMemory`] is answered wherever memory is refused before another fault is met.
@@ -40,10 +64,23 @@ pub fn play_live<T: Threads + Wait + Sync>(
     ensures ok { IfOk result (λ text. IsPlayed config.now script.now text.items) }
     ensures fault { IfErr result (IsFaultOf config.now script.now) }
 {
-    let parts = parts_of(alloc, script)?;
-    let phases = phases_of(alloc, &parts)?;
-    let report = run_live(rt, alloc, config, &phases, &Open)?;
-    weave(alloc, config, report.closed.as_slice())?;
-    let text = live_lines(alloc, config, &parts, &phases, &report)?;
+    let (text, _events) = run_script(rt, alloc, config, script)?;
+    Ok(text)
+}
+
+/// Runs a script at sites in threads, weaves their journals, and gives the run as an input of `distac sim`. Its faults are those of
+/// [`play_live`] and of [`record_lines`].
+pub fn record_live<T: Threads + Wait + Sync>(
+    rt: &T,
+    alloc: Global,
+    config: &Config,
+    script: &[LiveLine],
+) -> Result<Vec<u8>, PlayFault>
+    requires { All (HasActors (node_count config.now)) script.now }
+    ensures ok { IfOk result (λ text. IsKept config.now script.now text.items) }
+    ensures fault { IfErr result (IsUnkept config.now script.now) }
+{
+    let (printed, events) = run_script(rt, alloc, config, script)?;
+    let text = record_lines(alloc, config, &printed, &events)?;
     Ok(text)
 }

@@ -3,7 +3,7 @@ use Rattle.std.specs.Prelude.{List, [], ◌∷◌, Option, Some, None, option_ma
 use Rattle.std.specs.Str.{bytes_eq}
 use Rattle.clap.specs.Words.{App, Text, new_app, with_subcommand, subcommand_of}
 use Rattle.dac_program.specs.declared.command_line.Request.{Request}
-use Rattle.dac_program.specs.declared.command_line.Request.TheVariants.{Check, Sim, Live}
+use Rattle.dac_program.specs.declared.command_line.Request.TheVariants.{Check, Sim, Live, Record}
 
 -- one of the subcommands has to be there
 abbrev pub required : App → App
@@ -23,7 +23,7 @@ threadless = with_subcommand (with_subcommand bare (new_app (codes "check")).top
 
 -- the program, with all its subcommands
 abbrev pub distac : App
-distac = with_subcommand threadless (new_app (codes "live")).top
+distac = with_subcommand (with_subcommand threadless (new_app (codes "live")).top) (new_app (codes "record")).top
 
 -- the words that ask for a configuration to be checked
 abbrev pub check_words : Text → List Text
@@ -37,6 +37,10 @@ sim_words name = name ∷ codes "sim" ∷ []
 abbrev pub live_words : Text → List Text
 live_words name = name ∷ codes "live" ∷ []
 
+-- the words that ask for the run to be kept as a script
+abbrev pub record_words : Text → List Text
+record_words name = name ∷ codes "record" ∷ []
+
 -- the subcommand that the words name
 abbrev pub subcommand_in : List Text → Option Text
 subcommand_in words = option_map (λ p. p.0) (subcommand_of distac words)
@@ -48,4 +52,5 @@ request_in (Some name) =
     if bytes_eq name (codes "check") then Some Check
     else (if bytes_eq name (codes "sim") then Some Sim
     else (if bytes_eq name (codes "live") then Some Live
-    else None))
+    else (if bytes_eq name (codes "record") then Some Record
+    else None)))

@@ -2,7 +2,7 @@
 
 ghost use Rattle.std.specs.Prelude.{◌≡◌, map, option_map, Some, IfOk, MatchResult};
 ghost use Rattle.clap.specs.Words.{Text, app_of, kind_of};
-ghost use Rattle.dac_program.specs.CommandLine.{bare, threadless, distac, check_words, sim_words, live_words, subcommand_in, request_in};
+ghost use Rattle.dac_program.specs.CommandLine.{bare, threadless, distac, check_words, sim_words, live_words, record_words, subcommand_in, request_in};
 
 use clap::error::ErrorKind;
 use clap::{Command, Error};
@@ -17,6 +17,8 @@ pub enum Request {
     Sim,
     /// A script is to be run in threads.
     Live,
+    /// The same, and the run is to be kept as a script.
+    Record,
 }
 
 /// What `distac --version` prints behind the name: the version that CHANGELOG.md has, and that of the bytes that are written.
@@ -27,7 +29,7 @@ const AFTER_HELP: &str =
     r"Lines of a script of `sim` begin with one of these verbs (`distac sim --help` says more):
   boot crash down permit start stop drain takeover tick
   ship hear hand share page state same bytes feed
-Those of `live` are a caller's, or `feed` or `phase` (`distac live --help` says more).
+Those of `live` and `record` are a caller's, or `feed` or `phase` (`distac live --help` says more).
 
 Exit status:
   0  Done, also where lines of a script were refused
@@ -148,6 +150,33 @@ fn bare<'a>(alloc: Global) -> Command<'a>
         .version(VERSION)
 }
 
+/// What stands at the end of the help of `distac record`.
+const AFTER_RECORD: &str =
+    r"The input is that of `live`, and the script is run as there (`distac live --help` says more). What is printed is an input
+of `sim` that says the run: the configuration, a line `--`, what `live` prints of this run as comments, the events of a
+run of one world that gives all that the nodes did, and a line `page` for each node. So `sim` plays what the threads did,
+as often as you like, with the same answers and the same pages.
+
+The events of a node stand in the order in which they happened there. Those of different nodes stand in an order in which
+each message is shipped before it is heard. A name that the configuration hasn't is `unknown`. Reads and feeds are no events.
+If no input of `sim` can say the run, that is printed as `record fault 1 TooLong` (above 2,097,152 bytes) or
+`record fault 2 Unspelled` (a node has a name with a space).
+
+Exit status:
+  0  The run is printed, also where some of its lines were refused
+  1  The input or the run has a fault, which is printed; or memory ran out, or a write failed
+  2  The command line can't be read
+
+Example:
+  ./distac record < examples/live-failover.distac > kept.distac
+  ./distac sim < kept.distac
+  ./distac-view timeline kept.distac
+
+Documents:
+  docs/OPERATORS.md   How to find a race and keep it
+  docs/FORMATS.md     What is printed, and what to look at first for each fault
+  examples/README.md  Scripts to try";
+
 /// The command with the subcommands that start no threads.
 fn threadless<'a>(alloc: Global) -> Result<Command<'a>, AllocError>
     ensures { IfOk result (λ command. app_of command ≡ threadless) }
@@ -172,8 +201,12 @@ fn command<'a>(alloc: Global) -> Result<Command<'a>, AllocError>
             "Runs a script in threads: standard input is a configuration, a line `--`, and the script",
         )
         .after_help(AFTER_LIVE);
+    let record = Command::new(alloc, "record")
+        .about("Runs a script in threads as `live` does, and prints the run as a script of `sim`")
+        .after_help(AFTER_RECORD);
     let distac = threadless(alloc)?;
-    distac.subcommand(live)
+    let distac = distac.subcommand(live)?;
+    distac.subcommand(record)
 }
 
 fn request_of(name: Option<&str>) -> Option<Request>
@@ -188,6 +221,9 @@ fn request_of(name: Option<&str>) -> Option<Request>
     }
     if name == "live" {
         return Some(Request::Live);
+    }
+    if name == "record" {
+        return Some(Request::Record);
     }
     None
 }
@@ -204,6 +240,9 @@ pub fn read_request<'a>(alloc: Global, words: &'a [&'a str]) -> Result<Option<Re
         (λ error. kind_of error ≡ ErrorKind.OutOfMemory) }
     ensures live { (name : Text) → map (λ word. word.now) words.entry.now ≡ live_words name
         → MatchResult result (λ request. request ≡ Some Request.Live)
+        (λ error. kind_of error ≡ ErrorKind.OutOfMemory) }
+    ensures recorded { (name : Text) → map (λ word. word.now) words.entry.now ≡ record_words name
+        → MatchResult result (λ request. request ≡ Some Request.Record)
         (λ error. kind_of error ≡ ErrorKind.OutOfMemory) }
 {
     let command = command(alloc)?;

@@ -4,17 +4,18 @@ ghost use Rattle.std.specs.Prelude.{◌≡◌, ◌≤◌, map};
 ghost use Rattle.clap.specs.Words.{Text, kind_of};
 ghost use Rattle.dac_live_play.specs.Endings.{EndsLiveWith};
 ghost use Rattle.dac_live_play.specs.Lives.{EndsLive};
+ghost use Rattle.dac_live_play.specs.Records.{EndsRecord};
 ghost use Rattle.dac_live_play.specs.dac_play.Checks.{EndsCheck};
 ghost use Rattle.dac_live_play.specs.dac_play.Endings.{EndsWith};
 ghost use Rattle.dac_live_play.specs.dac_play.Simulations.{EndsSim};
 ghost use Rattle.dac_live_play.specs.dac_script.Input.{IsReadWithinBound};
-ghost use Rattle.dac_program.specs.CommandLine.{check_words, sim_words, live_words};
+ghost use Rattle.dac_program.specs.CommandLine.{check_words, sim_words, live_words, record_words};
 
 use crate::command_line::{Request, read_request};
 use clap::Error;
 use clap::error::ErrorKind;
 use dac_live_play::dac_play::{OUT_OF_MEMORY, check, simulate};
-use dac_live_play::live;
+use dac_live_play::{live, record_reader};
 use std::alloc::Global;
 use std::io::ErrorKind as IoErrorKind;
 use std::io::{Eprint, Print, Read, Write};
@@ -40,8 +41,8 @@ fn refuse<T: Print + Eprint, W: Write>(rt: &T, error: &Error, output: &mut W) ->
 }
 
 /// Runs the program on the words of a command line, the program's name first, and answers its status. Of `distac check`,
-/// `distac sim` and `distac live` it is 0 where all was done. It is 1 where an input or a run has a fault, memory was
-/// refused or a write failed. They write to the output alone, and only `distac live` starts threads.
+/// `distac sim`, `distac live` and `distac record` it is 0 where all was done. It is 1 where an input or a run has a fault, memory
+/// was refused or a write failed. They write to the output alone, and only `distac live` and `distac record` start threads.
 ///
 /// Other words are for `clap`, and the clauses say of them only that the status is at most 2. Help goes to the standard
 /// output with status 0. The text about words that are no command line goes to the standard error with status 2. Where
@@ -70,6 +71,11 @@ pub fn run<'a, T: Print + Eprint + Threads + Wait + Sync, R: Read, W: Write>(
         → EndsLiveWith
         (λ bytes ending. EndsLive bytes ending (W.contents output.old) (W.contents output.new))
         (R.remaining input.old) result }
+    // What `distac record` prints is such a run as a script of `distac sim`, or the line of the failure or the fault.
+    ensures recorded { (name : Text) → map (λ word. word.now) words.entry.now ≡ record_words name
+        → EndsLiveWith
+        (λ bytes ending. EndsRecord bytes ending (W.contents output.old) (W.contents output.new))
+        (R.remaining input.old) result }
     // However it ends, no more was read than the bound and one byte.
     ensures bound { IsReadWithinBound (R.remaining input.old) (R.remaining input.new) }
 {
@@ -77,6 +83,7 @@ pub fn run<'a, T: Print + Eprint + Threads + Wait + Sync, R: Read, W: Write>(
         Ok(Some(Request::Check)) => check(alloc, input, output).status(),
         Ok(Some(Request::Sim)) => simulate(alloc, input, output).status(),
         Ok(Some(Request::Live)) => live(rt, alloc, input, output).status(),
+        Ok(Some(Request::Record)) => record_reader(rt, alloc, input, output).status(),
         Ok(None) => 2,
         Err(error) => refuse(rt, &error, output),
     }

@@ -15,6 +15,12 @@ pub enum Either<W, V> {
 impl<W: Worker, V: Worker<Fault = W::Fault>> Worker for Either<W, V> {
     type Fault = W::Fault;
 
+    ghost is_cause = { W.is_cause };
+
+    fn is_cause(fault: &W::Fault) -> bool {
+        W::is_cause(fault)
+    }
+
     fn works_in(&self, phase: usize) -> bool {
         match self {
             Either::One(one) => one.works_in(phase),

@@ -1,6 +1,8 @@
 //! A phase of all workers, and the round behind it.
 
+ghost use Rattle.std.specs.Prelude.{◌≡◌, true, false, None, IfSome};
 ghost use Rattle.std.specs.Thread.{IsSend};
+ghost use Rattle.dac_run.specs.declared.worker.Stop.TheVariants.{Fault};
 
 use crate::worker::{Side, Stop, Turn, Worker};
 use dac_base::NodeId;
@@ -58,7 +60,20 @@ fn ended<W: Worker, R: Threads + Wait>(rt: &R, started: Started<W>) -> Result<W,
     }
 }
 
-/// Waits for all workers, in order. Of several faults the last one is told.
+/// What is told of a worker's fault, where this was told before it. A consequence is told only where nothing was.
+fn louder<W: Worker>(told: Option<Stop<W::Fault>>, fault: W::Fault) -> Stop<W::Fault>
+    ensures cause { W.is_cause fault ≡ true → result ≡ Fault fault }
+    ensures kept { W.is_cause fault ≡ false → IfSome told (λ before. result ≡ before) }
+    ensures alone { told ≡ None → result ≡ Fault fault }
+{
+    match told {
+        Some(before) if !W::is_cause(&fault) => before,
+        _ => Stop::Fault(fault),
+    }
+}
+
+/// Waits for all workers, in order. Of several faults the last cause is told, and the first fault if none is a cause. So it doesn't
+/// hang on the order of the workers whether a cause is told.
 fn join_all<W: Worker, R: Threads + Wait>(
     rt: &R,
     alloc: Global,
@@ -72,7 +87,7 @@ fn join_all<W: Worker, R: Threads + Wait>(
                 Ok(()) => {}
                 Err(_) => stop = Some(Stop::NoMemory),
             },
-            Err(fault) => stop = Some(Stop::Fault(fault)),
+            Err(fault) => stop = Some(louder::<W>(stop, fault)),
         }
     }
     match stop {

@@ -1,5 +1,7 @@
 //! What a worker is to a run.
 
+ghost use Rattle.std.specs.Prelude.{◌≡◌, Bool};
+
 use dac_base::{NoMemory, NodeId};
 use std::alloc::AllocFailed;
 use std::sync::Wait;
@@ -51,6 +53,13 @@ impl<T: Drop, F> From<AllocFailed<T>> for Stop<F> {
 pub trait Worker: Sized + Drop + Send {
     /// Why it stops.
     type Fault: Drop + Send;
+
+    /// Which faults are causes.
+    ghost is_cause: { Self.Fault → Bool };
+
+    /// Whether a fault is a cause: it is why others have theirs, and no consequence of another's. Of several faults a cause is told.
+    fn is_cause(fault: &Self::Fault) -> bool
+        ensures { result ≡ is_cause fault.now };
 
     /// Whether it has work in the phase of this number, from 0.
     fn works_in(&self, phase: usize) -> bool;

@@ -2,7 +2,7 @@
 //!
 //! `distac check` reads a configuration and prints its canonical text. `distac sim` reads a configuration and a script,
 //! plays the script in a world of controllers, and prints what comes of each line. `distac live` runs a script at
-//! controllers in threads. This crate is the process alone: `run` of `dac_program` is the whole program over a reader and
+//! controllers in threads, and `distac record` prints such a run as a script of `distac sim`. This crate is the process alone: `run` of `dac_program` is the whole program over a reader and
 //! a writer, and `main` calls it.
 #![tactic(auto)]
 

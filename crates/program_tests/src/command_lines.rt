@@ -12,7 +12,7 @@ const REFUSED: &[(&[&str], bool, &str)] = &[
     (
         &["distac"],
         true,
-        "error: 'distac' requires a subcommand but one was not provided\n  [subcommands: check, sim, live, help]\n\nUsage: distac <COMMAND>\n\nFor more information, try '--help'.\n",
+        "error: 'distac' requires a subcommand but one was not provided\n  [subcommands: check, sim, live, record, help]\n\nUsage: distac <COMMAND>\n\nFor more information, try '--help'.\n",
     ),
     (
         &["distac", "check", "x"],
@@ -147,6 +147,42 @@ Documents:
 ",
     ),
     (
+        &["distac", "record", "--help"],
+        false,
+        r"Runs a script in threads as `live` does, and prints the run as a script of `sim`
+
+Usage: distac record
+
+Options:
+  -h, --help  Print help
+
+The input is that of `live`, and the script is run as there (`distac live --help` says more). What is printed is an input
+of `sim` that says the run: the configuration, a line `--`, what `live` prints of this run as comments, the events of a
+run of one world that gives all that the nodes did, and a line `page` for each node. So `sim` plays what the threads did,
+as often as you like, with the same answers and the same pages.
+
+The events of a node stand in the order in which they happened there. Those of different nodes stand in an order in which
+each message is shipped before it is heard. A name that the configuration hasn't is `unknown`. Reads and feeds are no events.
+If no input of `sim` can say the run, that is printed as `record fault 1 TooLong` (above 2,097,152 bytes) or
+`record fault 2 Unspelled` (a node has a name with a space).
+
+Exit status:
+  0  The run is printed, also where some of its lines were refused
+  1  The input or the run has a fault, which is printed; or memory ran out, or a write failed
+  2  The command line can't be read
+
+Example:
+  ./distac record < examples/live-failover.distac > kept.distac
+  ./distac sim < kept.distac
+  ./distac-view timeline kept.distac
+
+Documents:
+  docs/OPERATORS.md   How to find a race and keep it
+  docs/FORMATS.md     What is printed, and what to look at first for each fault
+  examples/README.md  Scripts to try
+",
+    ),
+    (
         &["distac", "--help"],
         false,
         r"A replicated controller for distributed applications of Erlang/OTP
@@ -154,10 +190,11 @@ Documents:
 Usage: distac <COMMAND>
 
 Commands:
-  check  Checks a configuration: standard input is its text, and its canonical text is printed
-  sim    Plays a script: standard input is a configuration, a line `--`, and the script
-  live   Runs a script in threads: standard input is a configuration, a line `--`, and the script
-  help   Print this message or the help of the given subcommand(s)
+  check   Checks a configuration: standard input is its text, and its canonical text is printed
+  sim     Plays a script: standard input is a configuration, a line `--`, and the script
+  live    Runs a script in threads: standard input is a configuration, a line `--`, and the script
+  record  Runs a script in threads as `live` does, and prints the run as a script of `sim`
+  help    Print this message or the help of the given subcommand(s)
 
 Options:
   -h, --help     Print help
@@ -166,7 +203,7 @@ Options:
 Lines of a script of `sim` begin with one of these verbs (`distac sim --help` says more):
   boot crash down permit start stop drain takeover tick
   ship hear hand share page state same bytes feed
-Those of `live` are a caller's, or `feed` or `phase` (`distac live --help` says more).
+Those of `live` and `record` are a caller's, or `feed` or `phase` (`distac live --help` says more).
 
 Exit status:
   0  Done, also where lines of a script were refused
@@ -312,4 +349,5 @@ fn asks_for_what_there_is(rt: HostRuntime) {
     assert!(rt; asks_for(rt.alloc(), &["distac", "check"], Request::Check));
     assert!(rt; asks_for(rt.alloc(), &["distac", "sim"], Request::Sim));
     assert!(rt; asks_for(rt.alloc(), &["distac", "live"], Request::Live));
+    assert!(rt; asks_for(rt.alloc(), &["distac", "record"], Request::Record));
 }

@@ -17,6 +17,8 @@ mod placements;
 #[cfg(test)]
 mod readers;
 #[cfg(test)]
+mod records;
+#[cfg(test)]
 mod running;
 #[cfg(test)]
 mod scripts;

@@ -3,6 +3,7 @@ use crate::configs::CASES;
 use crate::faults::{CONFIG_FAULTS, INPUT_FAULTS, SCRIPT_FAULTS};
 use crate::lives::{LIVES, PHASES, PHASES_PRINTED};
 use crate::placements::PLACEMENTS;
+use crate::records::{PHASES_LAST, RECORDS};
 use crate::scripts::{EXAMPLE, SCRIPTS};
 use crate::wires::WIRES;
 use dac_program::run;
@@ -82,6 +83,39 @@ fn lives<T: Print + Eprint + Threads + Wait + Sync>(
 ) -> bool {
     match input_of(alloc, config, script) {
         Ok(text) => prints(rt, alloc, "live", text.as_bytes(), status, printed),
+        Err(_) => false,
+    }
+}
+
+/// Whether `distac record` prints this for a configuration and a script, and answers this status.
+fn records<T: Print + Eprint + Threads + Wait + Sync>(
+    rt: &T,
+    alloc: Global,
+    config: &str,
+    script: &str,
+    status: u8,
+    printed: &str,
+) -> bool {
+    match input_of(alloc, config, script) {
+        Ok(text) => prints(rt, alloc, "record", text.as_bytes(), status, printed),
+        Err(_) => false,
+    }
+}
+
+/// Whether what `distac record` prints for a configuration and a script is taken by `distac sim`, and this is printed last.
+fn plays_again<T: Print + Eprint + Threads + Wait + Sync>(
+    rt: &T,
+    alloc: Global,
+    config: &str,
+    script: &str,
+    last: &str,
+) -> bool {
+    match input_of(alloc, config, script) {
+        Ok(text) => {
+            let (recorded, kept) = ran(rt, alloc, "record", text.as_bytes());
+            let (played, output) = ran(rt, alloc, "sim", &kept);
+            recorded == 0 && played == 0 && output.as_slice().ends_with(last.as_bytes())
+        }
         Err(_) => false,
     }
 }
@@ -221,6 +255,23 @@ fn runs_scripts_in_threads(rt: HostRuntime) {
             lives(&rt, rt.alloc(), config, script, *status, printed),
             "{script}"
         );
+    }
+}
+
+#[test]
+fn records_runs(rt: HostRuntime) {
+    for (config, script, status, printed) in RECORDS {
+        assert!(rt;
+            records(&rt, rt.alloc(), config, script, *status, printed),
+            "{script}"
+        );
+    }
+}
+
+#[test]
+fn plays_recorded_runs(rt: HostRuntime) {
+    for _time in 0..20 {
+        assert!(rt; plays_again(&rt, rt.alloc(), EXAMPLE, PHASES, PHASES_LAST));
     }
 }
 

@@ -1,4 +1,4 @@
-//! Tests of runs: workers of two links at once, hearings that a gate counts, five nodes, and what a run reports. Of links by
+//! Tests of runs: workers of two links at once, hearings that a gate counts, five nodes, a full journal, and what a run reports. Of links by
 //! themselves: ends that are gone, letters that are no messages, and room. And of pages that are stale behind a receipt.
 #![tactic(auto)]
 
@@ -8,6 +8,8 @@ mod counted;
 mod ends;
 #[cfg(test)]
 mod fresh;
+#[cfg(test)]
+mod full;
 #[cfg(test)]
 mod last_round;
 #[cfg(test)]

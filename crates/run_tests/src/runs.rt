@@ -107,11 +107,11 @@ fn ask(event: Event) -> Ask {
     Ask::Do(event)
 }
 
-fn boot(now: u64) -> Ask {
+pub(crate) fn boot(now: u64) -> Ask {
     ask(Event::Boot { now })
 }
 
-fn tick(now: u64) -> Ask {
+pub(crate) fn tick(now: u64) -> Ask {
     ask(Event::Tick { now })
 }
 

@@ -5,7 +5,7 @@ use Rattle.clap.specs.declared.parser.matches.ArgMatches.{ArgMatches}
 use Rattle.clap.specs.declared.parser.matches.ArgMatches.TheViews.{out-ArgMatches, out-SubCommand}
 use Rattle.std.specs.Box.{box_value}
 use Rattle.clap.proofs.OnLiterals.{clap_on_literals}
-use Rattle.dac_program.specs.CommandLine.{distac, check_words, sim_words, live_words, subcommand_in, request_in}
+use Rattle.dac_program.specs.CommandLine.{distac, check_words, sim_words, live_words, record_words, subcommand_in, request_in}
 use Rattle.dac_program.proofs.command_line.read_request.Goals as goal
 
 is_taken : (name : Text) → takes distac (sim_words name) ≡ true
@@ -32,6 +32,14 @@ is_live : (name : Text) → subcommand_in (live_words name) ≡ Some (codes "liv
 unfolding clap_on_literals
 is_live name = refl
 
+record_taken : (name : Text) → takes distac (record_words name) ≡ true
+unfolding clap_on_literals
+record_taken name = refl
+
+is_record : (name : Text) → subcommand_in (record_words name) ≡ Some (codes "record")
+unfolding clap_on_literals
+is_record name = refl
+
 is_plain : is_simple distac ≡ true
 is_plain = refl
 
@@ -50,6 +58,11 @@ returns-in_err-matches-clause-live c = λ name same.
     let p = err_from_is_err_and c.from_residual-in_err-matches.result c.from_residual-in_err-matches.ensures.1 in
     rw (p.1, p.2) (c.in_err-matches.ensures.passes (ap₂ takes c.in_ok-command.ensures same ∙ live_taken name))
 
+pub returns-in_err-matches-clause-recorded : goal.returns-in_err-matches-clause-recorded
+returns-in_err-matches-clause-recorded c = λ name same.
+    let p = err_from_is_err_and c.from_residual-in_err-matches.result c.from_residual-in_err-matches.ensures.1 in
+    rw (p.1, p.2) (c.in_err-matches.ensures.passes (ap₂ takes c.in_ok-command.ensures same ∙ record_taken name))
+
 -- the name is that of the rows
 named : (m : ArgMatches) → subcommand_name_of m ≡ option_map (λ p. p.0) (subcommand_rows_of m)
 named m =
@@ -65,4 +78,5 @@ returns c =
       check = λ name same. request_is ∙ ap request_in (ap subcommand_in same ∙ is_check name);
       sim = λ name same. request_is ∙ ap request_in (ap subcommand_in same ∙ is_sim name);
       live = λ name same. request_is ∙ ap request_in (ap subcommand_in same ∙ is_live name);
+      recorded = λ name same. request_is ∙ ap request_in (ap subcommand_in same ∙ is_record name);
     }

@@ -1,7 +1,6 @@
-use Rattle.std.proofs.Common.{◌≡◌, map, ap, subst, ◌∙◌}
+use Rattle.std.proofs.Common.{map, refl, ap, subst, ◌∙◌}
 use Rattle.std.proofs.lemmas.Result.{err_from_is_err_and}
 use Rattle.dac_config.specs.Table.{node_count}
-use Rattle.dac_live.specs.Pairs.{LinksHold}
 use Rattle.dac_weave.specs.Converging.{IsConverged}
 use Rattle.dac_weave.specs.Faults.{IsTrueFault, IsRefusal}
 use Rattle.dac_weave.specs.Recording.{IsRecorded}
@@ -11,23 +10,23 @@ use Rattle.dac_live_play.specs.Runs.{IsReport, IsReportOf}
 use Rattle.dac_live_play.specs.Texts.{run_text}
 use Rattle.dac_live_play.proofs.Owed.{phases_owe}
 use Rattle.dac_live_play.proofs.Reports.{no_error, asks_script, weave_fails}
-use Rattle.dac_live_play.proofs.playing.play_live.Goals as goal
+use Rattle.dac_live_play.proofs.playing.run_script.Goals as goal
 
 pub run_live-requires-after_bounds : goal.run_live-requires-after_bounds
 run_live-requires-after_bounds g c κs within =
     phases_owe (node_count c.args.config.now) c.args.script.now c.deref-2.result.now c.requires
     (asks_script c.args.script.now c.deref-2.result.now c.in_ok-phases.phases.items c.deref.result.now c.in_ok-parts.parts.items c.deref-2.ensures.value c.in_ok-phases.ensures c.deref.ensures.value c.in_ok-parts.ensures)
 
-pub returns-in_err-weave-clause-fault : goal.returns-in_err-weave-clause-fault
-returns-in_err-weave-clause-fault g c =
+pub returns-in_err-events-clause-fault : goal.returns-in_err-events-clause-fault
+returns-in_err-events-clause-fault g c =
     let asks : AsksAs c.deref-2.result.now (parts_of c.args.script.now) = asks_script c.args.script.now c.deref-2.result.now c.in_ok-phases.phases.items c.deref.result.now c.in_ok-parts.parts.items c.deref-2.ensures.value c.in_ok-phases.ensures c.deref.ensures.value c.in_ok-parts.ensures in
     let run = c.in_ok-report.ensures in
     let is : IsReport c.args.config.now c.deref-2.result.now c.in_ok-report.report = record { nodes = run.nodes; histories = run.histories; seats = run.seats; links = run.links; pages = run.pages; callers = run.callers; lines = run.lines } in
     let reported : IsReportOf c.args.config.now c.args.script.now c.in_ok-report.report = record { phases = c.deref-2.result.now; asks = asks; few = λ many. no_error _ _ (run.many many); is = is } in
-    let p = err_from_is_err_and c.from_residual-in_err-weave.result c.from_residual-in_err-weave.ensures.1 in
-    rw p.1 (weave_fails c.args.config.now c.args.script.now c.in_ok-report.report c.in_err-weave.field-0.0 p.0 reported
-    (subst (λ js. IsTrueFault c.args.config.now js c.in_err-weave.field-0.0) c.as_slice.ensures c.in_err-weave.ensures.unwoven)
-    (subst (λ js. IsRefusal c.args.config.now js c.in_err-weave.field-0.0) c.as_slice.ensures c.in_err-weave.ensures.complete)
+    let p = err_from_is_err_and c.from_residual-in_err-events.result c.from_residual-in_err-events.ensures.1 in
+    rw p.1 (weave_fails c.args.config.now c.args.script.now c.in_ok-report.report c.in_err-events.field-0.0 p.0 reported
+    (subst (λ js. IsTrueFault c.args.config.now js c.in_err-events.field-0.0) c.as_slice.ensures c.in_err-events.ensures.unwoven)
+    (subst (λ js. IsRefusal c.args.config.now js c.in_err-events.field-0.0) c.as_slice.ensures c.in_err-events.ensures.complete)
     p.2)
 
 pub returns-clause-ok : goal.returns-clause-ok
@@ -36,15 +35,16 @@ returns-clause-ok g c =
     let run = c.in_ok-report.ensures in
     let is : IsReport c.args.config.now c.deref-2.result.now c.in_ok-report.report = record { nodes = run.nodes; histories = run.histories; seats = run.seats; links = run.links; pages = run.pages; callers = run.callers; lines = run.lines } in
     let reported : IsReportOf c.args.config.now c.args.script.now c.in_ok-report.report = record { phases = c.deref-2.result.now; asks = asks; few = λ many. no_error _ _ (run.many many); is = is } in
-    let events = c.in_ok-weave.field-0.items in
+    let events = c.in_ok-events.events.items in
     record {
       report = c.in_ok-report.report;
       reported = reported;
       woven = record {
         events = events;
-        gives = subst (λ js. Gives c.args.config.now js events) c.as_slice.ensures c.in_ok-weave.ensures.woven;
-        recorded = subst (λ js. IsRecorded c.args.config.now js events) c.as_slice.ensures c.in_ok-weave.ensures.recorded;
-        converges = subst (λ js. IsConverged c.args.config.now js events) c.as_slice.ensures c.in_ok-weave.ensures.converges;
+        gives = subst (λ js. Gives c.args.config.now js events) c.as_slice.ensures c.in_ok-events.ensures.woven;
+        recorded = subst (λ js. IsRecorded c.args.config.now js events) c.as_slice.ensures c.in_ok-events.ensures.recorded;
+        converges = subst (λ js. IsConverged c.args.config.now js events) c.as_slice.ensures c.in_ok-events.ensures.converges;
       };
+      events_are = refl;
       text_is = c.in_ok-text.ensures ∙ ap (λ parts. run_text c.args.config.now (map (λ part. part.now) parts) c.in_ok-report.report) c.deref-3.ensures.value ∙ ap (λ parts. run_text c.args.config.now parts c.in_ok-report.report) c.in_ok-parts.ensures;
     }

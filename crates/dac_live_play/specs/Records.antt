@@ -1,0 +1,55 @@
+-- What `distac record` prints of an input.
+use Rattle.std.specs.Prelude.{◌⊎◌, ℕ, List, Option}
+use Rattle.std.specs.Io.KnownBytes.{Appends}
+use Rattle.dac_config.specs.Table.{Table}
+use Rattle.dac_events.specs.declared.WorldEvent.{WorldEvent}
+use Rattle.dac_live_script.specs.declared.line.LiveLine.{LiveLine}
+use Rattle.dac_live_script.specs.LiveInputs.{SaysLiveScript, IsLiveFailureOf}
+use Rattle.dac_play.specs.Texts.{failure_text}
+use Rattle.dac_script.specs.Inputs.{SaysScript}
+use Rattle.dac_live_play.specs.declared.ending.LiveEnding.{LiveEnding}
+use Rattle.dac_live_play.specs.declared.ending.LiveEnding.TheVariants as ending
+use Rattle.dac_live_play.specs.Lives.{IsRunOf}
+use Rattle.dac_live_play.specs.Recordings.{IsRecordText, run_lines}
+use Rattle.dac_live_play.specs.Endings.{fault_text}
+use Rattle.dac_live_play.specs.Runs.{IsFaultOf}
+use Rattle.dac_live_play.specs.Faults.{IsRecordFault}
+use Rattle.dac_live_play.specs.declared.fault.PlayFault.{PlayFault}
+
+-- This text is an input of `distac sim` that says a run of the script: its configuration, its events, and then the page of
+-- each node. As comments it has what `distac live` prints of that run.
+pub record IsKept (table : Table) (script : List LiveLine) (text : List ℕ) : Type 0 where
+  pub printed : List ℕ
+  pub events : List WorldEvent
+  pub ran : IsRunOf table script printed events
+  pub says : SaysScript text table (run_lines table events)
+  pub text_is : IsRecordText table printed events text
+
+-- what is printed is that of a run of the script that the input says
+pub record IsRecorded (bytes : List ℕ) (old new : Option (List ℕ)) : Type 0 where
+  pub table : Table
+  pub script : List LiveLine
+  pub says : SaysLiveScript bytes table script
+  pub text : List ℕ
+  pub kept : IsKept table script text
+  pub printed : Appends old new text
+
+-- why no run of the script is kept: it wasn't run to its end, or no input of `distac sim` says what was run
+abbrev pub IsUnkept : Table → List LiveLine → PlayFault → Type 0
+IsUnkept table script why = IsFaultOf table script why ⊎ IsRecordFault why
+
+-- no run of the script that the input says is kept, and the line of this fault is all that is printed
+pub record IsGivenUpOn (bytes : List ℕ) (why : PlayFault) (old new : Option (List ℕ)) : Type 0 where
+  pub table : Table
+  pub script : List LiveLine
+  pub says : SaysLiveScript bytes table script
+  pub fault_is : IsUnkept table script why
+  pub printed : Appends old new (fault_text table why)
+
+-- How `distac record` ends, where these are the bytes of its input. Where it stopped because memory was refused or the
+-- output took no more, nothing is said.
+abbrev pub EndsRecord : List ℕ → LiveEnding → Option (List ℕ) → Option (List ℕ) → Type 0
+EndsRecord bytes ending.Done old new = IsRecorded bytes old new
+EndsRecord bytes (ending.Refused why) old new = IsLiveFailureOf bytes why × Appends old new (failure_text why)
+EndsRecord bytes (ending.Faulted why) old new = IsGivenUpOn bytes why old new
+EndsRecord bytes ending.Stopped old new = Unit {0}

@@ -1,0 +1,333 @@
+//! A run of the world as a script of `distac sim`.
+
+ghost use Rattle.std.specs.Prelude.{◌≡◌, ◌++◌, ◌==◌, map, IfOk, IfErr, OnOk};
+ghost use Rattle.std.specs.List.{flat_map};
+ghost use Rattle.dac_live_play.specs.Recordings.{node_word, app_word, flag_text, at_text, about_text, numbered_text, app_about_text, given_text, event_line, event_text, page_lines, remark, run_lines, IsRecordText};
+ghost use Rattle.dac_config.specs.Canonical.{canonical_text};
+ghost use Rattle.dac_script.specs.Inputs.{SaysScript};
+ghost use Rattle.dac_script.specs.Script.{lines_of};
+ghost use Rattle.dac_live_play.specs.Faults.{IsRecordFault};
+
+use crate::fault::PlayFault;
+use crate::saying::is_said;
+use dac_base::{AppId, NoMemory, NodeId};
+use dac_config::{Config, put_printed_name};
+use dac_events::{Command, What, WorldEvent};
+use dac_script::MAX_INPUT;
+use std::alloc::Global;
+
+/// A name that neither a node nor an application has, unless more have such names than there may be of both.
+fn strange_name(alloc: Global, config: &Config) -> Result<Vec<u8>, NoMemory> {
+    let mut name = Vec::from_slice(alloc, b"unknown")?;
+    for _time in 0..MOST_TRIES {
+        if config.node_named(&name).is_none() && config.app_named(&name).is_none() {
+            return Ok(name);
+        }
+        name.push(b'_')?;
+    }
+    Ok(name)
+}
+
+/// More names than a configuration has.
+const MOST_TRIES: u32 = 200;
+
+/// Puts behind a text the word for a node. One that the configuration hasn't is called by the strange name.
+fn put_node_word(
+    text: &mut Vec<u8>,
+    config: &Config,
+    strange: &[u8],
+    node: NodeId,
+) -> Result<(), NoMemory>
+    ensures { OnOk result
+        (text.new.items ≡ text.old.items ++ node_word config.now strange.now node) }
+{
+    if node.0 < config.nodes() {
+        return put_printed_name(text, config.node_name(node));
+    }
+    text.extend_from_slice(strange)?;
+    Ok(())
+}
+
+/// The same of an application.
+fn put_app_word(
+    text: &mut Vec<u8>,
+    config: &Config,
+    strange: &[u8],
+    app: AppId,
+) -> Result<(), NoMemory>
+    ensures { OnOk result
+        (text.new.items ≡ text.old.items ++ app_word config.now strange.now app) }
+{
+    if app.0 < config.apps() {
+        return put_printed_name(text, config.app_name(app));
+    }
+    text.extend_from_slice(strange)?;
+    Ok(())
+}
+
+/// Puts a verb behind a text, and the node where it happens.
+fn put_at(
+    text: &mut Vec<u8>,
+    config: &Config,
+    strange: &[u8],
+    verb: &str,
+    node: NodeId,
+) -> Result<(), NoMemory>
+    ensures { OnOk result
+        (text.new.items ≡ text.old.items ++ at_text config.now strange.now verb.now node) }
+{
+    text.extend_from_slice(verb.as_bytes())?;
+    text.push(b' ')?;
+    put_node_word(text, config, strange, node)
+}
+
+/// And the node that it is about.
+fn put_about(
+    text: &mut Vec<u8>,
+    config: &Config,
+    strange: &[u8],
+    verb: &str,
+    node: NodeId,
+    about: NodeId,
+) -> Result<(), NoMemory>
+    ensures { OnOk result (text.new.items
+        ≡ text.old.items ++ about_text config.now strange.now verb.now node about) }
+{
+    put_at(text, config, strange, verb, node)?;
+    text.push(b' ')?;
+    put_node_word(text, config, strange, about)
+}
+
+/// A verb, the node where it happens, and a number.
+fn put_numbered(
+    alloc: Global,
+    text: &mut Vec<u8>,
+    config: &Config,
+    strange: &[u8],
+    verb: &str,
+    node: NodeId,
+    number: u64,
+) -> Result<(), NoMemory>
+    ensures { OnOk result (text.new.items
+        ≡ text.old.items ++ numbered_text config.now strange.now verb.now node number) }
+{
+    put_at(text, config, strange, verb, node)?;
+    let word = format!(in alloc; " {number}")?;
+    text.extend_from_slice(word.as_bytes())?;
+    Ok(())
+}
+
+/// A verb, the node where it happens, the application, and the node that it is about.
+fn put_app_about(
+    text: &mut Vec<u8>,
+    config: &Config,
+    strange: &[u8],
+    verb: &str,
+    node: NodeId,
+    app: AppId,
+    about: NodeId,
+) -> Result<(), NoMemory>
+    ensures { OnOk result (text.new.items
+        ≡ text.old.items ++ app_about_text config.now strange.now verb.now node app about) }
+{
+    put_at(text, config, strange, verb, node)?;
+    text.push(b' ')?;
+    put_app_word(text, config, strange, app)?;
+    text.push(b' ')?;
+    put_node_word(text, config, strange, about)
+}
+
+/// What stands behind a line that says yes or no.
+fn flag_text(value: bool) -> &'static str
+    ensures { result.now ≡ flag_text value }
+{
+    if value { " true" } else { " false" }
+}
+
+/// Puts behind a text the line for a command, without the line feed.
+fn put_given(
+    text: &mut Vec<u8>,
+    config: &Config,
+    strange: &[u8],
+    node: NodeId,
+    given: Command,
+) -> Result<(), NoMemory>
+    ensures { OnOk result (text.new.items
+        ≡ text.old.items ++ given_text config.now strange.now node given) }
+{
+    match given {
+        Command::Down { node: about } => put_about(text, config, strange, "down", node, about),
+        Command::Permit {
+            app,
+            node: about,
+            value,
+        } => {
+            put_app_about(text, config, strange, "permit", node, app, about)?;
+            text.extend_from_slice(flag_text(value).as_bytes())?;
+            Ok(())
+        }
+        Command::Start { app, node: about } => {
+            put_app_about(text, config, strange, "start", node, app, about)
+        }
+        Command::Stop { app, node: about } => {
+            put_app_about(text, config, strange, "stop", node, app, about)
+        }
+        Command::Drain { node: about, value } => {
+            put_about(text, config, strange, "drain", node, about)?;
+            text.extend_from_slice(flag_text(value).as_bytes())?;
+            Ok(())
+        }
+        Command::Takeover { app } => {
+            put_at(text, config, strange, "takeover", node)?;
+            text.push(b' ')?;
+            put_app_word(text, config, strange, app)
+        }
+    }
+}
+
+/// Puts behind a text the line for an event, without the line feed.
+fn put_line(
+    alloc: Global,
+    text: &mut Vec<u8>,
+    config: &Config,
+    strange: &[u8],
+    event: WorldEvent,
+) -> Result<(), NoMemory>
+    ensures { OnOk result
+        (text.new.items ≡ text.old.items ++ event_line config.now strange.now event) }
+{
+    let node = event.node;
+    match event.what {
+        What::Boot { now } => put_numbered(alloc, text, config, strange, "boot", node, now),
+        What::Crash => put_at(text, config, strange, "crash", node),
+        What::Command(given) => put_given(text, config, strange, node, given),
+        What::Tick { now } => put_numbered(alloc, text, config, strange, "tick", node, now),
+        What::Ship { to } => put_about(text, config, strange, "ship", node, to),
+        What::Deliver(message) => {
+            put_numbered(alloc, text, config, strange, "hear", node, message)
+        }
+        What::Hand(operation) => {
+            put_numbered(alloc, text, config, strange, "hand", node, operation)
+        }
+    }
+}
+
+/// Puts behind a text the lines for these events.
+fn put_events(
+    alloc: Global,
+    text: &mut Vec<u8>,
+    config: &Config,
+    strange: &[u8],
+    events: &[WorldEvent],
+) -> Result<(), NoMemory>
+    ensures { OnOk result (text.new.items
+        ≡ text.old.items ++ flat_map (event_text config.now strange.now) events.now) }
+{
+    for event in events {
+        put_line(alloc, text, config, strange, *event)?;
+        text.push(b'\n')?;
+    }
+    Ok(())
+}
+
+/// And a line for the page of each node.
+fn put_page_lines(text: &mut Vec<u8>, config: &Config, strange: &[u8]) -> Result<(), NoMemory>
+    ensures { OnOk result
+        (text.new.items ≡ text.old.items ++ page_lines config.now strange.now) }
+{
+    for number in 0..config.nodes() {
+        put_at(text, config, strange, "page", NodeId(number))?;
+        text.push(b'\n')?;
+    }
+    Ok(())
+}
+
+/// Whether the byte ends a line.
+fn is_feed(byte: &u8) -> bool
+    ensures { result ≡ (byte.now == 10) }
+{
+    *byte == b'\n'
+}
+
+/// The lines of a text.
+fn lines_of(alloc: Global, text: &[u8]) -> Result<Vec<&[u8]>, NoMemory>
+    ensures { IfOk result (λ lines. map (λ line. line.now) lines.items ≡ lines_of text.now) }
+{
+    let lines = text.split(is_feed).collect(alloc)?;
+    Ok(lines)
+}
+
+/// Puts behind a text a line as a comment. An empty one is left out.
+fn put_remark(text: &mut Vec<u8>, line: &[u8]) -> Result<(), NoMemory>
+    ensures { OnOk result (text.new.items ≡ text.old.items ++ remark line.now) }
+{
+    match line {
+        [] => Ok(()),
+        [_, ..] => {
+            text.extend_from_slice(b"% ")?;
+            text.extend_from_slice(line)?;
+            text.push(b'\n')?;
+            Ok(())
+        }
+    }
+}
+
+/// Puts behind a text these lines as comments.
+fn put_remarks(text: &mut Vec<u8>, lines: &[&[u8]]) -> Result<(), NoMemory>
+    ensures { OnOk result (text.new.items
+        ≡ text.old.items ++ flat_map remark (map (λ line. line.now) lines.now)) }
+{
+    for line in lines {
+        put_remark(text, line)?;
+    }
+    Ok(())
+}
+
+/// The script behind the canonical text of the configuration.
+fn spelled(
+    alloc: Global,
+    config: &Config,
+    canonical: &[u8],
+    printed: &[u8],
+    events: &[WorldEvent],
+) -> Result<Vec<u8>, NoMemory>
+    requires { canonical.now ≡ canonical_text config.now }
+    ensures { IfOk result (λ text. IsRecordText config.now printed.now events.now text.items) }
+{
+    let strange = strange_name(alloc, config)?;
+    let lines = lines_of(alloc, printed)?;
+    let mut text = Vec::from_slice(alloc, canonical)?;
+    text.extend_from_slice(b"--\n")?;
+    put_remarks(&mut text, &lines)?;
+    put_events(alloc, &mut text, config, &strange, events)?;
+    put_page_lines(&mut text, config, &strange)?;
+    Ok(text)
+}
+
+/// A run as an input of `distac sim`: the configuration, what was printed of the run as comments, its events, and the page of each
+/// node. What it gives is read again first, and says just that.
+///
+/// [`PlayFault::TooLong`] comes where the input has more bytes than one may have, and [`PlayFault::Unspelled`] where it doesn't say
+/// the run: no line of a script has a name with a space.
+pub fn record_lines(
+    alloc: Global,
+    config: &Config,
+    printed: &[u8],
+    events: &[WorldEvent],
+) -> Result<Vec<u8>, PlayFault>
+    ensures text { IfOk result
+        (λ text. IsRecordText config.now printed.now events.now text.items) }
+    ensures says { IfOk result
+        (λ text. SaysScript text.items config.now (run_lines config.now events.now)) }
+    ensures fault { IfErr result IsRecordFault }
+{
+    let canonical = config.canonical_text()?;
+    let text = spelled(alloc, config, &canonical, printed, events)?;
+    if text.len() > MAX_INPUT {
+        return Err(PlayFault::TooLong);
+    }
+    if !is_said(alloc, config, &canonical, &text, events)? {
+        return Err(PlayFault::Unspelled);
+    }
+    Ok(text)
+}
