@@ -2,4 +2,5 @@ pub mod DotFilters
 pub mod Rows
 pub mod Spans
 pub mod Sharing
+pub mod Walking
 pub mod laws

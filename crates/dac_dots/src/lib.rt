@@ -13,7 +13,7 @@ pub use context::Context;
 pub use dac_origins::{Dot, MapKey, NoMemory, Origin, keys};
 pub use filter::DotFilter;
 pub use filtered::FilteredContext;
-pub use row::Further;
+pub use row::{Further, FurtherIter};
 pub use shared::SharedContext;
 
 mod context;

@@ -3,6 +3,7 @@ ghost use Rattle.std.specs.Prelude.{◌≡◌, ◌↔◌, ◌+◌, ◌^◌, ◌<
 ghost use Rattle.std.specs.List.{slice_get};
 ghost use Rattle.std.specs.Ordering.{nat_cmp};
 ghost use Rattle.dac_dots.specs.DotFilters.{may_have};
+ghost use Rattle.dac_dots.specs.Walking.{left_of};
 ghost use Rattle.dac_dots.specs.Rows.{has_counter, HasBoth, HasMore, HasSome, IsLastOf, IsOne, IsPlaceOf, HasAlso, IsWithinRow, origins, rises_on, row_has};
 ghost use Rattle.dac_origins.specs.declared.dot.Dot.{Dot};
 ghost use Rattle.dac_origins.specs.Dots.{dot_cmp, origin_cmp};
@@ -71,6 +72,18 @@ impl<'a> Further<'a> {
         self.counters.further_at(place as u128)
     }
 
+    /// The counters in rising order, one by one. It takes no memory, and each step goes through the gaps before its counter.
+    pub fn iter(&self) -> FurtherIter<'a>
+        ensures { left_of result ≡ self.now }
+    {
+        FurtherIter {
+            further: Further {
+                counters: self.counters,
+            },
+            place: 0,
+        }
+    }
+
     /// How many counters there are.
     pub fn len(&self) -> u128
         ensures { result ≡ length self.now }
@@ -83,6 +96,33 @@ impl<'a> Further<'a> {
         ensures { IsTrue result ↔ (self.now ≡ []) }
     {
         self.len() == 0
+    }
+}
+
+/// An iterator over the further counters of an origin, in rising order.
+#[derive(Debug, Drop)]
+pub struct FurtherIter<'a> {
+    further: Further<'a>,
+    place: u128,
+}
+
+impl<'a> Iterator for FurtherIter<'a> {
+    type Item = u64;
+
+    ghost use Rattle.std.specs.Iterator.{YieldsFirst, item_count};
+    ghost use Rattle.dac_dots.specs.Walking.{left_of};
+
+    ghost next_gives = { YieldsFirst left_of };
+
+    ghost remaining = { item_count left_of };
+
+    fn next(&mut self) -> Option<u64> {
+        if self.place >= self.further.len() {
+            return None;
+        }
+        let counter = self.further.counters.further_at(self.place)?;
+        self.place += 1;
+        Some(counter)
     }
 }
 

@@ -49,7 +49,37 @@ impl MapKey for usize {
     ghost exact = { exact_unsigned };
 }
 
+impl MapKey for i8 {
+    ghost use Rattle.std.proofs.lemmas.Map.Lookups.{exact_signed};
+
+    ghost exact = { exact_signed };
+}
+
+impl MapKey for i16 {
+    ghost use Rattle.std.proofs.lemmas.Map.Lookups.{exact_signed};
+
+    ghost exact = { exact_signed };
+}
+
+impl MapKey for i32 {
+    ghost use Rattle.std.proofs.lemmas.Map.Lookups.{exact_signed};
+
+    ghost exact = { exact_signed };
+}
+
 impl MapKey for i64 {
+    ghost use Rattle.std.proofs.lemmas.Map.Lookups.{exact_signed};
+
+    ghost exact = { exact_signed };
+}
+
+impl MapKey for i128 {
+    ghost use Rattle.std.proofs.lemmas.Map.Lookups.{exact_signed};
+
+    ghost exact = { exact_signed };
+}
+
+impl MapKey for isize {
     ghost use Rattle.std.proofs.lemmas.Map.Lookups.{exact_signed};
 
     ghost exact = { exact_signed };

@@ -29,11 +29,22 @@ fn are_at_their_places(further: &Further<'_>, counters: &[u64]) -> bool {
     further.get(counters.len()).is_none()
 }
 
+/// Whether a walk passes these counters, and then ends.
+fn are_walked_as(further: &Further<'_>, counters: &[u64]) -> bool {
+    let mut walk = further.iter();
+    for counter in counters {
+        if walk.next() != Some(*counter) {
+            return false;
+        }
+    }
+    walk.next().is_none()
+}
+
 /// Whether these are the further counters of a row.
 fn are_listed_as(alloc: Global, further: &Further<'_>, counters: &[u64]) -> Result<bool, NoMemory> {
     let has_length = further.len() == counters.len() as u128;
     let says_empty = further.is_empty() == counters.is_empty();
-    let has_each = are_at_their_places(further, counters);
+    let has_each = are_at_their_places(further, counters) && are_walked_as(further, counters);
     Ok(has_length && says_empty && has_each && further.list(alloc)?.as_slice() == counters)
 }
 

@@ -1,6 +1,6 @@
 //! `dac_dots` and `dac_lattice`.
 use dac_config::{NoMemory, NodeId};
-use dac_dots::{Context, Dot, Origin};
+use dac_dots::{Context, Dot, MapKey, Origin};
 use dac_lattice::{Bottom, Flag, Lattice, MapOf, Max, Pair};
 use std::alloc::Global;
 
@@ -53,6 +53,7 @@ fn is_row_read(alloc: Global) -> Result<bool, NoMemory> {
             origin == ORIGIN
                 && upto == 3
                 && further.get(0) == Some(5u64)
+                && further.iter().count() == 1
                 && further.list(alloc)?.as_slice() == [5u64].as_slice()
         }
         None => false,
@@ -77,12 +78,29 @@ fn is_pair_above(alloc: Global) -> Result<bool, NoMemory> {
     is_above_bottom(alloc, &pair_of(alloc)?)
 }
 
-/// Whether maps go by keys of each kind.
-fn are_keyed(alloc: Global) -> Result<bool, NoMemory> {
-    let by_pairs: MapOf<(i64, bool), Max<u64>> = MapOf::one(alloc, (3i64, true), Max::new(1u64))?;
-    let by_places: MapOf<usize, Max<u64>> = MapOf::one(alloc, 3usize, Max::new(1u64))?;
-    let by_sums: MapOf<u128, Max<u64>> = MapOf::one(alloc, 3u128, Max::new(1u64))?;
-    Ok(by_pairs.equal(&by_pairs) && by_places.equal(&by_places) && by_sums.equal(&by_sums))
+/// Whether a map with this key keeps what is put there.
+fn is_keyed<K: MapKey>(alloc: Global, key: K) -> Result<bool, NoMemory> {
+    let map: MapOf<K, Max<u64>> = MapOf::one(alloc, key, Max::new(1u64))?;
+    Ok(map.equal(&map))
+}
+
+/// Whether maps go by unsigned numbers of each width.
+fn are_keyed_by_unsigned(alloc: Global) -> Result<bool, NoMemory> {
+    let is_short = is_keyed(alloc, 3u8)? && is_keyed(alloc, 3u16)? && is_keyed(alloc, 3u32)?;
+    let is_long = is_keyed(alloc, 3u64)? && is_keyed(alloc, 3u128)? && is_keyed(alloc, 3usize)?;
+    Ok(is_short && is_long)
+}
+
+/// Whether maps go by signed numbers of each width.
+fn are_keyed_by_signed(alloc: Global) -> Result<bool, NoMemory> {
+    let is_short = is_keyed(alloc, -3i8)? && is_keyed(alloc, -3i16)? && is_keyed(alloc, -3i32)?;
+    let is_long = is_keyed(alloc, -3i64)? && is_keyed(alloc, -3i128)? && is_keyed(alloc, -3isize)?;
+    Ok(is_short && is_long)
+}
+
+/// Whether maps go by truth values and by pairs of keys.
+fn are_keyed_by_others(alloc: Global) -> Result<bool, NoMemory> {
+    Ok(is_keyed(alloc, true)? && is_keyed(alloc, (3i64, true))?)
 }
 
 #[test]
@@ -94,6 +112,8 @@ fn contexts(rt: HostRuntime) {
 #[test]
 fn lattices(rt: HostRuntime) {
     assert!(rt; matches!(is_pair_above(rt.alloc()), Ok(true)));
-    assert!(rt; matches!(are_keyed(rt.alloc()), Ok(true)));
+    assert!(rt; matches!(are_keyed_by_unsigned(rt.alloc()), Ok(true)));
+    assert!(rt; matches!(are_keyed_by_signed(rt.alloc()), Ok(true)));
+    assert!(rt; matches!(are_keyed_by_others(rt.alloc()), Ok(true)));
     assert!(rt; Flag::Up.leq(&Flag::Down));
 }
