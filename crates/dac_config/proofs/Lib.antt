@@ -4,4 +4,5 @@ pub mod Numbers
 pub mod Gaining
 pub mod Writes
 pub mod Again
+mod Alike
 mod Places

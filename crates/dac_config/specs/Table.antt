@@ -1,5 +1,5 @@
 -- What a configuration says: nodes and applications by their numbers, and the wait of a starting node.
-use Rattle.std.specs.Prelude.{ℕ, Bool, true, false, List, [], length, position, option_map, Option, unwrap_or, slice_get, ◌==◌}
+use Rattle.std.specs.Prelude.{◌≡◌, ℕ, Bool, true, false, List, [], length, position, option_map, Option, unwrap_or, slice_get, ◌==◌}
 use Rattle.std.specs.Option.{option_and_then}
 use Rattle.std.specs.List.{list_any}
 use Rattle.std.specs.Str.{bytes_eq}
@@ -61,6 +61,10 @@ group_among groups node = position (λ group. list_any (λ other. other == node)
 abbrev pub group_of : Table → AppId → NodeId → Option ℕ
 group_of table app node = option_and_then (λ row. group_among row.groups node.0) (slice_get table.apps app.0)
 
+-- the groups of an application's list
+abbrev pub groups_of : Table → AppId → List (List ℕ)
+groups_of table app = unwrap_or (option_map (λ row. row.groups) (slice_get table.apps app.0)) []
+
 -- how long a failover of an application waits, in milliseconds
 abbrev pub timeout_of : Table → AppId → ℕ
 timeout_of table app = unwrap_or (option_map (λ row. row.timeout) (slice_get table.apps app.0)) 0
@@ -76,3 +80,8 @@ is_mandatory table node = unwrap_or (option_map (λ row. row.mandatory) (slice_g
 -- whether a starting node waits for this one as optional
 abbrev pub is_optional : Table → NodeId → Bool
 is_optional table node = unwrap_or (option_map (λ row. row.optional) (slice_get table.nodes node.0)) false
+
+-- two configurations list the same nodes for an application, in the same groups, and permit it alike where no one has said
+pub record HaveOneList (t u : Table) (app : AppId) : Type 0 where
+  pub groups : groups_of t app ≡ groups_of u app
+  pub permission : default_permission t app ≡ default_permission u app

@@ -2,6 +2,7 @@
 ghost use Rattle.std.specs.Prelude.{◌≡◌, ◌<◌, ◌≤◌, Some, slice_get, length, All, IfOk};
 ghost use Rattle.dac_config.specs.Table.{node_count, app_count};
 
+mod alike;
 mod number;
 mod text;
 

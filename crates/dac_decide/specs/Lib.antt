@@ -1,4 +1,5 @@
 pub mod FailoverWait
+pub mod Quiet
 pub mod StartGate
 pub mod InWords
 pub mod laws

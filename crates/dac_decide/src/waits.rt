@@ -1,10 +1,14 @@
 //! The waits of failovers.
 ghost use Rattle.std.specs.Prelude.{◌≡◌, ◌↔◌, ◌<◌, ◌∷◌, [], List, length, IsTrue, IfOk};
 ghost use Rattle.dac_config.specs.Table.{app_count};
+ghost use Rattle.dac_placement.specs.StateValue.{StateValue};
+ghost use Rattle.dac_board.specs.Boards.{Shows};
+ghost use Rattle.dac_decide.specs.Quiet.{AreQuiet};
 ghost use Rattle.dac_decide.specs.FailoverWait.{Note, waits_of, IsDue, is_due, is_due_with, is_due_by, noted_at};
 ghost use Rattle.dac_decide.specs.FailoverWait.{lost_in, noted_next, since_of, is_held_at, is_over_at, is_wait_over};
 
 use dac_base::{AppId, NoMemory, NodeId};
+use dac_board::Board;
 use dac_chains::Claim;
 use dac_config::Config;
 use dac_placement::{State, Verdict, holder, is_up, verdict};
@@ -93,6 +97,24 @@ impl Waits {
             let lost = lost_claim(state, AppId(place as u16));
             self.noted[place] = noted_next(self.noted[place], lost, now);
         }
+    }
+
+    /// Whether no claim is noted and none is lost, by a board of the state that a note would be of. Then a note changes
+    /// nothing. It takes no memory.
+    pub fn are_quiet(&self, config: &Config, board: &Board) -> bool
+        ensures cases { (s : StateValue) → Shows config.now board.now s
+            → IsTrue result ↔ AreQuiet config.now self.now s }
+        ensures stays { (notes : List Note) (note : Note) → self.now ≡ waits_of config.now notes
+            → Shows config.now board.now note.state → IsTrue result
+            → self.now ≡ waits_of config.now (note ∷ notes) }
+    {
+        for number in 0..config.apps() {
+            let app = AppId(number);
+            if self.noted_of(app).is_some() || board.is_lost(app) {
+                return false;
+            }
+        }
+        true
     }
 
     /// Whether an application's verdict is to be carried out at this moment, in milliseconds. After OTP's kernel manual,

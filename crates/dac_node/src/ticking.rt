@@ -1,12 +1,12 @@
 //! What an accepted tick does.
 
-ghost use Rattle.std.specs.Prelude.{◌≡◌, ◌≤◌, ◌∷◌, [], List, IfOk, IfSome, false, fold, unwrap_or};
+ghost use Rattle.std.specs.Prelude.{◌≡◌, ◌≤◌, ◌∷◌, [], ℕ, List, IsTrue, IfOk, IfSome, false, fold, unwrap_or};
 ghost use Rattle.std.specs.Arc.{arc_value};
 ghost use Rattle.std.specs.Option.{option_copied};
 ghost use Rattle.dac_meaning.specs.StateValue.{join};
 ghost use Rattle.dac_messages.specs.declared.event.Event.TheVariants.{Tick};
 ghost use Rattle.dac_decide.specs.FailoverWait.{Note, waits_of};
-ghost use Rattle.dac_model_node.specs.dac_ticks.KeptBoards.{IsBoardOf};
+ghost use Rattle.dac_model_node.specs.dac_ticks.Boards.{Shows};
 ghost use Rattle.dac_model_node.specs.dac_ticks.Ticks.{turn_of};
 ghost use Rattle.dac_model_node.specs.dac_ticks.TurnSoFar.{IsMade};
 ghost use Rattle.dac_model_node.specs.EventRefusals.{refusal_to_tick, too_few_left};
@@ -20,10 +20,10 @@ use crate::knowledge::Knowledge;
 use crate::running::Running;
 use dac_base::NoMemory;
 use dac_config::Config;
-use dac_decide::{Moments, Opening, Waits, gate};
+use dac_decide::{Board, Moments, Opening, Waits, gate};
 use dac_lattice::Lattice;
 use dac_messages::Reply;
-use dac_model_node::dac_ticks::{KeptBoard, Turn, turn_of};
+use dac_model_node::dac_ticks::{Turn, board_under, turn_of};
 use dac_state::{Op, State};
 use std::alloc::Global;
 use std::sync::Arc;
@@ -56,10 +56,11 @@ fn open_tick(config: &Config, last: u64, running: &Running, now: u64) -> Result<
     ensures { IfOk result (Effect config.now last running.now (Tick now)) }
 {
     let known = &running.knowledge;
-    let (waits, turn) = known.note_and_turn(config, running.board(), now)?;
+    let board = board_under(running.board(), config);
+    let noted = known.note(config, board, now)?;
+    let turn = known.turn(config, board, &noted, now)?;
     let Turn { ops, passed, left } = turn;
     let deltas = deltas_of(known.alloc, ops.as_slice())?;
-    let noted = Arc::new(known.alloc, waits)?;
     let state = known.left_by(left)?;
     let next = known.after_tick(now, true, noted, state, deltas)?;
     let reply = Reply::Ticked { ops, passed };
@@ -94,35 +95,65 @@ impl Running {
 }
 
 impl Knowledge {
-    /// What is noted by a tick at this moment, and what the applications come to by it.
-    fn note_and_turn(
+    /// The waits after a note at this moment. They are shared where the board tells that the note changes nothing.
+    fn note(
         &self,
         config: &Config,
-        board: Option<&KeptBoard>,
+        board: Option<&Board>,
         now: u64,
-    ) -> Result<(Waits, Turn), NoMemory>
-        requires room { too_few_left config.now self.now.state self.now.origin ≡ false }
-        requires shows { IfSome (option_copied board)
-            (λ kept. IsBoardOf kept self.now.state) }
-        ensures noted { IfOk result (λ both. (notes : List Note)
+    ) -> Result<Arc<Waits, Global>, NoMemory>
+        requires { IfSome (option_copied board) (λ b. Shows config.now b self.now.state) }
+        ensures { IfOk result (λ noted. (notes : List Note)
             → self.now.waits ≡ waits_of config.now notes
-            → both.0
+            → arc_value noted
             ≡ waits_of config.now (record { state = self.now.state; moment = now } ∷ notes)) }
-        ensures turn { IfOk result (λ both. IsMade self.now.state
-            (turn_of config.now self.now.origin both.0 now self.now.state) both.1) }
     {
+        if self.are_quiet(config, board) {
+            let waits = Arc::try_clone(&self.waits)?;
+            return Ok(waits);
+        }
         let mut waits = self.waits.copy()?;
         waits.note(config, &self.state, now);
-        let turn = turn_of(
+        let waits = Arc::new(self.alloc, waits)?;
+        Ok(waits)
+    }
+
+    /// Whether the board tells that a note changes nothing.
+    fn are_quiet(&self, config: &Config, board: Option<&Board>) -> bool
+        requires { IfSome (option_copied board) (λ b. Shows config.now b self.now.state) }
+        ensures { IsTrue result → (notes : List Note) (moment : ℕ)
+            → self.now.waits ≡ waits_of config.now notes
+            → self.now.waits
+            ≡ waits_of config.now (record { state = self.now.state; moment = moment } ∷ notes) }
+    {
+        match board {
+            Some(board) => self.waits.are_quiet(config, board),
+            None => false,
+        }
+    }
+
+    /// The claims of a tick at this moment, after so much was noted.
+    fn turn(
+        &self,
+        config: &Config,
+        board: Option<&Board>,
+        waits: &Waits,
+        now: u64,
+    ) -> Result<Turn, NoMemory>
+        requires room { too_few_left config.now self.now.state self.now.origin ≡ false }
+        requires shows { IfSome (option_copied board) (λ b. Shows config.now b self.now.state) }
+        ensures { IfOk result (IsMade self.now.state
+            (turn_of config.now self.now.origin waits.now now self.now.state)) }
+    {
+        turn_of(
             self.alloc,
             config,
             self.origin,
             &self.state,
             board,
-            &waits,
+            waits,
             now,
-        )?;
-        Ok((waits, turn))
+        )
     }
 
     /// What goes on after a tick at this moment that finds the start gate shut.

@@ -7,3 +7,4 @@ pub mod Issued
 pub mod KeptBoards
 pub mod TakesEffect
 pub mod laws
+pub use Rattle.dac_board.specs.Boards

@@ -1,12 +1,11 @@
 //! A board that is kept from tick to tick.
-ghost use Rattle.std.specs.Prelude.{◌≡◌, ◌<◌, ◌↔◌, IsTrue, IsSome, IfOk, IfSome, true};
+ghost use Rattle.std.specs.Prelude.{◌≡◌, ◌↔◌, IsTrue, IsSome, IfOk, IfSome, true};
 ghost use Rattle.std.specs.Option.{option_copied};
-ghost use Rattle.dac_config.specs.Table.{app_count};
 ghost use Rattle.dac_meaning.specs.StateValue.{StateValue as Value};
 ghost use Rattle.dac_board.specs.Boards.{Shows};
-ghost use Rattle.dac_ticks.specs.KeptBoards.{IsBoardOf, AreAlike, AreAlikeFor, GoesFor};
+ghost use Rattle.dac_ticks.specs.KeptBoards.{IsBoardOf, AreAlike, GoesFor};
 
-use dac_base::{AppId, NoMemory, NodeId};
+use dac_base::{AppId, NoMemory};
 use dac_board::Board;
 use dac_config::Config;
 use dac_placement::State;
@@ -81,7 +80,7 @@ impl KeptBoard {
 }
 
 /// Whether boards are the same under two configurations: they have as many nodes and as many applications, and for
-/// each application the same groups and the same permission by default.
+/// each application one list and one default permission.
 fn are_alike(one: &Config, other: &Config) -> bool
     ensures alike { IsTrue result ↔ AreAlike one.now other.now }
     ensures goes { IsTrue result → GoesFor one.now other.now }
@@ -93,25 +92,7 @@ fn are_alike(one: &Config, other: &Config) -> bool
         return false;
     }
     for number in 0..one.apps() {
-        if !are_alike_for(one, other, AppId(number)) {
-            return false;
-        }
-    }
-    true
-}
-
-/// Whether two configurations say the same of an application: its groups, and its permission by default.
-fn are_alike_for(one: &Config, other: &Config, app: AppId) -> bool
-    requires one { app.0 < app_count one.now }
-    requires other { app.0 < app_count other.now }
-    ensures { IsTrue result ↔ AreAlikeFor one.now other.now app }
-{
-    if one.default_permission(app) != other.default_permission(app) {
-        return false;
-    }
-    for number in 0..one.nodes() {
-        let node = NodeId(number);
-        if one.group_of(app, node) != other.group_of(app, node) {
+        if !one.lists_alike(other, AppId(number)) {
             return false;
         }
     }

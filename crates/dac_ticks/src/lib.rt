@@ -12,7 +12,7 @@
 #![tactic(auto)]
 
 pub use kept::KeptBoard;
-pub use turning::{Turn, turn_of};
+pub use turning::{Turn, board_under, turn_of};
 
 mod kept;
 pub mod laws;

@@ -67,10 +67,10 @@ pub(crate) enum Found {
 /// The applications are taken in the order of the configuration file. One whose verdict names the controller's own
 /// node, and is due, is claimed for this node. The claim has its next term and the incarnation's next counter. Each
 /// application is looked at in the state that the claims before it leave. A failover and a takeover name the node
-/// that held the application, a start and a move none. An application whose terms are used up is passed. A board that is
-/// kept gives the verdicts until something is claimed. (After OTP's
-/// Design Principles, chapter Distributed Applications: applications are started, restarted and moved as nodes come
-/// and go. That a controller looks after them at its ticks, and how it claims them, is this project's own.)
+/// that held the application, a start and a move none. An application whose terms are used up is passed. A board of the
+/// state gives the verdicts until something is claimed. (After OTP's Design Principles, chapter Distributed Applications:
+/// applications are started, restarted and moved as nodes come and go. That a controller looks after them at its ticks,
+/// and how it claims them, is this project's own.)
 ///
 /// [`NoMemory`] is the only error.
 pub fn turn_of(
@@ -78,20 +78,19 @@ pub fn turn_of(
     config: &Config,
     own: Origin,
     state: &State,
-    kept: Option<&KeptBoard>,
+    first: Option<&Board>,
     waits: &Waits,
     now: u64,
 ) -> Result<Turn, NoMemory>
     requires knows { KnowsItself own state.now }
     // a counter for each application
     requires room { greatest_counter own state.now.known + app_count config.now ≤ MAX_COUNTER }
-    requires shows { IfSome (option_copied kept) (λ k. IsBoardOf k state.now) }
+    requires shows { IfSome (option_copied first) (λ b. Shows config.now b state.now) }
     ensures value { IfOk result
         (IsMade state.now (turn_of config.now own waits.now now state.now)) }
     ensures words { IfOk result (λ turn. (notes : List Note) → waits.now ≡ waits_of config.now notes
         → IsTurn config.now own notes now state.now (apps_of config.now) turn.ops turn.passed) }
 {
-    let first = board_under(kept, config);
     let mut progress = TurnSoFar {
         ops: Vec::new(alloc),
         passed: Vec::new(alloc),
@@ -152,8 +151,8 @@ impl TurnSoFar {
     }
 }
 
-/// The board that is kept, where it goes by this configuration.
-fn board_under<'a>(kept: Option<&'a KeptBoard>, config: &Config) -> Option<&'a Board>
+/// The board that is kept, if it goes by this configuration. It takes no memory.
+pub fn board_under<'a>(kept: Option<&'a KeptBoard>, config: &Config) -> Option<&'a Board>
     ensures { (s : Value) → IfSome (option_copied kept.entry) (λ k. IsBoardOf k s)
         → IfSome (option_copied result) (λ b. Shows config.now b s) }
 {

@@ -63,4 +63,4 @@ found_of-requires-clause-shows c =
     let t = c.args.config.now in
     let s = c.args.state.now in
     subst (λ (x : StateValue). IfSome (option_copied c.board-board.result) (λ b. Shows t b x)) (sym c.state-state.ensures)
-    (c.board-board.ensures t s (c.board_under-first.ensures s c.requires.shows))
+    (c.board-board.ensures t s c.requires.shows)
