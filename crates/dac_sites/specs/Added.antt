@@ -1,5 +1,5 @@
 -- What a call did, by its answer.
-use Rattle.std.specs.Prelude.{◌≡◌, ◌≢◌, ℕ, ◌+◌, List, [], ◌∷◌, ◌++◌, length, Result, Err}
+use Rattle.std.specs.Prelude.{◌≡◌, ◌≢◌, ⊤, ℕ, ◌+◌, List, [], ◌∷◌, ◌++◌, length, Result, Err}
 use Rattle.dac_messages.specs.declared.event.Event.{Event}
 use Rattle.dac_messages.specs.declared.reply.Reply.{Reply}
 use Rattle.dac_events.specs.declared.refusal.Refusal.{Refusal}
@@ -28,3 +28,15 @@ abbrev pub CallRefused : LiveFault → List Call → List Call → Event → Typ
 CallRefused JournalFull old new event = new ≡ old
 CallRefused (Refused place why) old new event = CallAdded old new place event (Err why) × (why ≢ WantOfMemory)
 CallRefused NoMemory old new event = new ≡ old
+
+-- this holds if the fault is a refusal of the node, which is a record
+abbrev pub WhereRecorded : LiveFault → Type 0 → Type 0
+WhereRecorded JournalFull P = ⊤
+WhereRecorded (Refused place why) P = P
+WhereRecorded NoMemory P = ⊤
+
+-- this holds if the fault is no record
+abbrev pub UnlessRecorded : LiveFault → Type 0 → Type 0
+UnlessRecorded JournalFull P = P
+UnlessRecorded (Refused place why) P = ⊤
+UnlessRecorded NoMemory P = P

@@ -3,9 +3,10 @@
 //! [`add_record`] is what a call of a site runs under its lock. [`same_calls`] is what [`Site::close`](crate::Site::close)
 //! compares each seat by.
 
-ghost use Rattle.std.specs.Prelude.{◌≡◌, ◌≢◌, ◌↔◌, ◌⊎◌, ◌+◌, ◌++◌, ◌∷◌, [], length, IfOk, IfErr, OnErr, Err, MatchOption};
+ghost use Rattle.std.specs.Prelude.{◌≡◌, ◌≢◌, ◌↔◌, ◌⊎◌, ◌+◌, ◌++◌, ◌∷◌, [], length, Ok, IfOk, IfErr, OnErr, Err, MatchOption};
 ghost use Rattle.dac_journal.specs.declared.limits.TheConstants.{MAX_RECORDS};
 ghost use Rattle.dac_journal.specs.Journals.{AreHistory, call_of, calls_of, record_of, DifferAt};
+ghost use Rattle.dac_sites.specs.Added.{Added, AddedRefused, WhereRecorded, UnlessRecorded};
 ghost use Rattle.dac_sites.specs.Paged.{page_after};
 
 use crate::desk::{Desk, next_page};
@@ -13,17 +14,54 @@ use crate::faults::LiveFault;
 use crate::same::is_record;
 use dac_events::Refusal;
 use dac_journal::{Answer, Call, Record};
-use dac_messages::Event;
+use dac_messages::{Event, Reply};
 use std::sync::Wait;
 
-/// Asks the node of a journal for this seat, adds the record, and publishes the page after it. It gives what the seat keeps
-/// of it, the place from 1 among that, and the node's answer.
+/// The record of an event that the node of a lent journal accepted. It is a receipt without a site's name.
+#[derive(Drop)]
+pub struct Recorded {
+    /// The place of the record, from 1.
+    pub place: u64,
+    /// The node's reply.
+    pub reply: Reply,
+}
+
+/// Asks the node of a lent journal for this seat, adds the record, and publishes the page after it.
 ///
-/// `JournalFull` comes exactly where the journal has [`MAX_RECORDS`](dac_journal::MAX_RECORDS) records. A refusal of the node
-/// is no error here: it is a record too. `NoMemory` comes after the one and before the other. At both nothing changes.
-/// Readers take the number of records, the incarnation, and the summary of the state that it leaves, or of the one that
-/// knows nothing where the node is off.
+/// `JournalFull` comes exactly if the journal has [`MAX_RECORDS`](dac_journal::MAX_RECORDS) records. `Refused` is a refusal of the
+/// node, which is a record too. `NoMemory` comes after the one and before the other. At `JournalFull` and `NoMemory` nothing
+/// changes. Readers take the number of records, the incarnation, and the summary of the state that the record leaves, or of
+/// the least state if the node is off.
 pub fn add_record<R: Wait>(
+    rt: &R,
+    desk: &mut Desk,
+    seat: u16,
+    event: Event,
+) -> Result<Recorded, LiveFault>
+    ensures beginning { desk.new.journal.beginning ≡ desk.old.journal.beginning }
+    ensures ok { IfOk result (λ r. Added desk.old.journal.records desk.new.journal.records seat
+        event r.place (Ok r.reply)) }
+    ensures err { IfErr result (λ fault. AddedRefused fault desk.old.journal.records
+        desk.new.journal.records seat event) }
+    ensures history { IfOk result
+        (λ _. AreHistory desk.new.journal.beginning desk.new.journal.records) }
+    ensures refused { IfErr result (λ fault. WhereRecorded fault
+        (AreHistory desk.new.journal.beginning desk.new.journal.records)) }
+    ensures full { (length desk.old.journal.records ≡ MAX_RECORDS)
+        ↔ (result ≡ Err LiveFault.JournalFull) }
+    ensures page { desk.new.page ≡ page_after desk.new.journal.beginning desk.new.journal.records }
+    ensures unchanged { IfErr result (λ fault. UnlessRecorded fault (desk.new ≡ desk.old)) }
+{
+    let (call, answer) = record_call(rt, desk, seat, event)?;
+    let place = call.place;
+    match answer {
+        Ok(reply) => Ok(Recorded { place, reply }),
+        Err(why) => Err(LiveFault::Refused { place, why }),
+    }
+}
+
+/// [`add_record`] for a site, whose seat keeps the call. A refusal of the node is no error here.
+pub(crate) fn record_call<R: Wait>(
     rt: &R,
     desk: &mut Desk,
     seat: u16,

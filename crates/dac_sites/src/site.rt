@@ -13,7 +13,7 @@ ghost use Rattle.dac_sites.specs.Sites.{IsBlankOf};
 use crate::blank::{SiteBlank, SiteName};
 use crate::desk::Desk;
 use crate::faults::{CloseFault, LiveFault};
-use crate::laws::{add_record, same_calls};
+use crate::laws::{record_call, same_calls};
 use crate::reader::PageReader;
 use crate::receipt::Receipt;
 use crate::seat::Seat;
@@ -73,7 +73,7 @@ impl<L: SiteName> Locked<L> {
             calls,
             share,
         } = seat;
-        let Ok((call, answer)) = add_record(rt, desk, *number, event) else {
+        let Ok((call, answer)) = record_call(rt, desk, *number, event) else {
             return Err(LiveFault::NoMemory);
         };
         let place = call.place;
@@ -230,7 +230,7 @@ impl<L: SiteName> Site<L> {
     /// a refusal of the node, since that needs room for its record. At both the seat stays as it was.
     ///
     /// The lock hides the journal, so the clauses speak of some history of the node from where the site began. One of each
-    /// length exists, so they leave open when `JournalFull` comes. Under the lock the call runs
+    /// length exists, so they leave open when `JournalFull` comes. Under the lock the call does
     /// [`add_record`](crate::laws::add_record), whose clause `full` says that it comes exactly of a full journal.
     pub fn call<R: Wait>(
         &self,

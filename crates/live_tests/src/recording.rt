@@ -3,8 +3,8 @@ use dac_base::NodeId;
 use dac_config::read_config;
 use dac_events::Refusal;
 use dac_messages::{Event, Reply};
-use dac_sites::blank_site;
 use dac_sites::laws::add_record;
+use dac_sites::{LiveFault, blank_site};
 use std::alloc::Global;
 use std::sync::Wait;
 use std::test::Fail;
@@ -17,15 +17,20 @@ fn are_recorded<R: Wait>(rt: &R, alloc: Global) -> Option<bool> {
     let first = add_record(rt, &mut desk, 2, Event::Boot { now: 0 });
     let second = add_record(rt, &mut desk, 1, Event::Boot { now: 1 });
     let (journal, page) = desk.end(rt);
-    let (boot, booted) = first.ok()?;
-    let (again, refused) = second.ok()?;
+    let boot = first.ok()?;
+    let is_refused = matches!(
+        second,
+        Err(LiveFault::Refused {
+            place: 2,
+            why: Refusal::AlreadyOn
+        })
+    );
     let records = journal.records();
     let both = records.len() == 2;
     Some(
         boot.place == 1
-            && matches!(booted, Ok(Reply::Booted(_)))
-            && again.place == 2
-            && matches!(refused, Err(Refusal::AlreadyOn))
+            && matches!(boot.reply, Reply::Booted(_))
+            && is_refused
             && both
             && records[0].seat == 2
             && records[1].seat == 1

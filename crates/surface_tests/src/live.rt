@@ -4,7 +4,7 @@ ghost use Rattle.dac_live.specs.Sites.{IsBlankOf};
 use crate::texts::TWO;
 use dac_config::{Config, NodeId, read_config};
 use dac_core::{Event, WorldEvent};
-use dac_live::laws::{add_record, same_calls};
+use dac_live::laws::{Recorded, add_record, same_calls};
 use dac_live::links::{Gone, Letter, LinkReceiver, LinkSender, hear_link, link, ship_link};
 use dac_live::{
     Ask, CloseFault, Closed, Desk, Gate, Line, LineAnswer, LiveFault, LiveReport, OpenFault, Page,
@@ -102,9 +102,10 @@ fn is_recorded<R: Wait>(rt: &R, alloc: Global) -> Option<bool> {
     let config = read_config(alloc, TWO).ok()?;
     let blank: Result<SiteBlank, OpenFault> = blank_site(rt, alloc, &config, NodeId(0), 0, 2, 0);
     let mut desk: Desk = blank.ok()?.into_desk();
-    let added = add_record(rt, &mut desk, 1, Event::Boot { now: 0 }).is_ok();
+    let added: Result<Recorded, LiveFault> =
+        add_record(rt, &mut desk, 1, Event::Boot { now: 0 });
     let (journal, _page) = desk.end(rt);
-    Some(added && same_calls(journal.records(), 2, &[]).is_none())
+    Some(added.is_ok() && same_calls(journal.records(), 2, &[]).is_none())
 }
 
 /// Whether a letter comes out of a link as it was put in.
