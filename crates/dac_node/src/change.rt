@@ -16,6 +16,7 @@ use dac_events::Command;
 use dac_lattice::Lattice;
 use dac_messages::{Body, Event, Message, Reply};
 use dac_origins::Origin;
+use dac_peers::Peers;
 use dac_state::{Op, State};
 use std::alloc::Global;
 use std::marker::Model;
@@ -29,6 +30,8 @@ pub(crate) enum After {
     Boots(Box<Running, Global>),
     /// What ran before, with these changes.
     GoesOn(Advance),
+    /// What ran before, with this kept of peers, and no delta below this number. All else stays where it is.
+    Keeps(Peers, u64),
 }
 
 /// What runs after an event that is no crash, and the reply to it.
@@ -206,9 +209,9 @@ impl Change {
             (λ change. (t : Table) → Effect t last running.now (Event.Ship to) change) }
     {
         let message = running.message_to(to)?;
-        let next = running.shipped_to(to)?;
+        let peers = running.peers_shipped_to(to)?;
         let alloc = running.knowledge.alloc;
-        let change = Change::new(alloc, last, After::GoesOn(next), Reply::Shipped(message))?;
+        let change = Change::new(alloc, last, After::Keeps(peers, 0), Reply::Shipped(message))?;
         Ok(change)
     }
 
@@ -221,10 +224,9 @@ impl Change {
     ) -> Result<Self, NoMemory>
         ensures { IfOk result (Effect config.now last running.now (Event.Hear message.now)) }
     {
-        let next = running.after_message(config, message)?;
-        let fresh = next.has_news();
+        let (after, fresh) = running.after_message(config, message)?;
         let alloc = running.knowledge.alloc;
-        let change = Change::new(alloc, last, After::GoesOn(next), Reply::Heard(fresh))?;
+        let change = Change::new(alloc, last, after, Reply::Heard(fresh))?;
         Ok(change)
     }
 
