@@ -44,23 +44,12 @@ pub going_effect : (t : Table) (number : ℕ) (r : RunningValue) (e : Event) (ne
 going_effect t number r e next reply change is quiet after same =
     quiet_effect t number r e change quiet (ap (λ (c : ChangeValue). c.last) is) (ap (λ (c : ChangeValue). c.after) is ∙ after) (ap (λ (c : ChangeValue). c.reply) is ∙ same)
 
--- an event that notes nothing and brings nothing, and after which this is kept of peers
-pub keeping_effect : (t : Table) (number : ℕ) (r : RunningValue) (e : Event) (peers : PeersValue) (trim : ℕ) (reply : Reply) (change : ChangeValue) → change ≡ record { last = number; after = Keeps peers trim; reply = reply } → (deed_of t r [] e).notes ≡ false
-    → GoesOn (from_base r (keeping r peers trim)) ≡ after_from_base r (after_by r [] (deed_of t r [] e)) → reply ≡ (deed_of t r [] e).reply → Effect t number r e change
-keeping_effect t number r e peers trim reply change is quiet after same = record {
+-- the same, where what runs is what the deed asks for up to the base
+pub kept_effect : (t : Table) (number : ℕ) (r : RunningValue) (e : Event) (after : After) (reply : Reply) (change : ChangeValue) → change ≡ record { last = number; after = after; reply = reply } → (deed_of t r [] e).notes ≡ false
+    → after_from_base r after ≡ after_from_base r (after_by r [] (deed_of t r [] e)) → reply ≡ (deed_of t r [] e).reply → Effect t number r e change
+kept_effect t number r e after reply change is quiet so same = record {
   noted = [];
   noting = λ h. absurd (true≢false (sym h ∙ quiet));
-  last = ap (λ (c : ChangeValue). c.last) is;
-  after = ap (λ (c : ChangeValue). after_from_base r c.after) is ∙ after;
-  reply = ap (λ (c : ChangeValue). c.reply) is ∙ same;
-}
-
--- a message that comes, after which what ran goes on so
-pub heard_effect : (t : Table) (number : ℕ) (r : RunningValue) (m : Message) (after : After) (reply : Reply) (change : ChangeValue) → change ≡ record { last = number; after = after; reply = reply }
-    → after_from_base r after ≡ GoesOn (from_base r (next_by r [] (hears_message t r m))) → reply ≡ (hears_message t r m).reply → Effect t number r (Hear m) change
-heard_effect t number r m after reply change is so same = record {
-  noted = [];
-  noting = λ h. absurd (true≢false (sym h));
   last = ap (λ (c : ChangeValue). c.last) is;
   after = ap (λ (c : ChangeValue). after_from_base r c.after) is ∙ so;
   reply = ap (λ (c : ChangeValue). c.reply) is ∙ same;
@@ -142,10 +131,17 @@ ships_own t r noted (Ship to) = refl
 ships_own t r noted (Hear m) = tt
 ships_own t r noted (HearOp o) = tt
 
+-- numbers are left for what comes, if they are up to the base
+fits_from_base : (r : RunningValue) (after : After) → FitsIn (Some r) (after_from_base r after) → FitsIn (Some r) after
+fits_from_base r Off h = tt
+fits_from_base r (Boots b) h = tt
+fits_from_base r (GoesOn next) h = h
+fits_from_base r (Keeps peers trim) h = tt
+
 -- numbers are left for what comes
 pub effect_fits : (t : Table) (last : ℕ) (r : RunningValue) (e : Event) (change : ChangeValue) → refusal_by t last (Some r) e ≡ None → r.kept.count ≤ MAX_COUNTER → Effect t last r e change → Fits (record { last = last; running = Some r }) change
 effect_fits t last r e change none countable f = record {
-  numbers = from_fits change.after (subst (FitsIn (Some r)) (sym f.after) (to_fits (after_by r f.noted (deed_of t r f.noted e)) (by (deed_of t r f.noted e).goes_off)));
+  numbers = fits_from_base r change.after (subst (FitsIn (Some r)) (sym f.after) (to_fits (after_by r f.noted (deed_of t r f.noted e)) (by (deed_of t r f.noted e).goes_off)));
   ships = subst (ShipsOwnIn (Some r)) (sym f.reply) (ships_own t r f.noted e);
 }
   where
@@ -154,12 +150,6 @@ effect_fits t last r e change none countable f = record {
     to_fits (Boots b) h = tt
     to_fits (GoesOn next) h = h
     to_fits (Keeps peers trim) h = omega (arith, countable)
-
-    from_fits : (after : After) → FitsIn (Some r) (after_from_base r after) → FitsIn (Some r) after
-    from_fits Off h = tt
-    from_fits (Boots b) h = tt
-    from_fits (GoesOn next) h = h
-    from_fits (Keeps peers trim) h = tt
 
     by : (b : Bool) → FitsIn (Some r) (cond b Off (GoesOn (next_by r f.noted (deed_of t r f.noted e))))
     by true = tt
@@ -170,8 +160,8 @@ heard_op_fits : (r : RunningValue) (o : Operation) → refusal_to_hear_op r o �
 heard_op_fits r o none countable = room_to_hear r (meaning_of (o ∷ [])) countable (none_is ((overflows r (meaning_of (o ∷ [])), DotsUsedUp) ∷ []) none).0
 
 pub hear_op_fits : (last : ℕ) (r : RunningValue) (o : Operation) (fresh : Bool) (change : ChangeValue) → refusal_to_hear_op r o ≡ None → r.kept.count ≤ MAX_COUNTER →
-    change.after ≡ GoesOn (hearing (knowledge_of r) (meaning_of (o ∷ [])) r.peers) → change.reply ≡ Heard fresh → Fits (record { last = last; running = Some r }) change
+    after_from_base r change.after ≡ GoesOn (from_base r (hearing (knowledge_of r) (meaning_of (o ∷ [])) r.peers)) → change.reply ≡ Heard fresh → Fits (record { last = last; running = Some r }) change
 hear_op_fits last r o fresh change none countable after reply = record {
-  numbers = subst (FitsIn (Some r)) (sym after) (heard_op_fits r o none countable);
+  numbers = fits_from_base r change.after (subst (FitsIn (Some r)) (sym after) (heard_op_fits r o none countable));
   ships = subst (ShipsOwnIn (Some r)) (sym reply) tt;
 }

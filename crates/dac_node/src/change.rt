@@ -71,6 +71,7 @@ impl Model for Change {
 impl Change {
     ghost use Rattle.dac_node.specs.Changes.{BootsBy, Effect};
     ghost use Rattle.dac_node.specs.Knowing.{hearing, knowledge_of};
+    ghost use Rattle.dac_node.specs.After.{after_from_base, from_base};
 
     /// The reply to the event, lent. A crash lends none, and its reply is [`Reply::Crashed`].
     pub fn reply(&self) -> Option<&Reply>
@@ -234,15 +235,15 @@ impl Change {
     pub(crate) fn hear_op(last: u64, running: &Running, operation: &Op) -> Result<Self, NoMemory>
         ensures effect { IfOk result (λ change. (t : Table)
             → Effect t last running.now (Event.HearOp operation.now) change) }
-        ensures after { IfOk result (λ change. change.after
-            ≡ After.GoesOn (hearing (knowledge_of running.now) (meaning_of (operation.now ∷ []))
-            running.now.peers)) }
+        ensures after { IfOk result (λ change. after_from_base running.now change.after
+            ≡ After.GoesOn (from_base running.now (hearing (knowledge_of running.now)
+            (meaning_of (operation.now ∷ [])) running.now.peers))) }
         ensures reply { IfOk result (λ change. change.reply
             ≡ Reply.Heard (not (is_below (meaning_of (operation.now ∷ [])) running.now.state))) }
     {
-        let (next, fresh) = running.after_operation(operation)?;
+        let (after, fresh) = running.after_operation(operation)?;
         let alloc = running.knowledge.alloc;
-        let change = Change::new(alloc, last, After::GoesOn(next), Reply::Heard(fresh))?;
+        let change = Change::new(alloc, last, after, Reply::Heard(fresh))?;
         Ok(change)
     }
 }

@@ -137,25 +137,6 @@ impl Knowledge {
         })
     }
 
-    /// The same, where this is kept of peers.
-    pub(crate) fn with_peers(&self, peers: Peers) -> Result<Self, NoMemory>
-        ensures { IfOk result (λ knowledge. knowledge ≡ joining self.now [] peers) }
-    {
-        let waits = Arc::try_clone(&self.waits)?;
-        let state = Arc::try_clone(&self.state)?;
-        let still = self.still.copy()?;
-        Ok(Knowledge {
-            alloc: self.alloc,
-            origin: self.origin,
-            moments: self.moments,
-            is_open: self.is_open,
-            waits,
-            state,
-            peers,
-            still,
-        })
-    }
-
     /// The same, where a state is joined and this is kept of peers.
     pub(crate) fn join_state(&self, other: &State, peers: Peers) -> Result<Self, NoMemory>
         ensures { IfOk result (λ knowledge. knowledge ≡ joining self.now (other.now ∷ []) peers) }
@@ -173,18 +154,6 @@ impl Knowledge {
             state,
             peers,
             still,
-        })
-    }
-
-    /// What goes on where nothing new comes, and this is kept of peers.
-    pub(crate) fn go_on_with(&self, peers: Peers) -> Result<Advance, NoMemory>
-        ensures { IfOk result (λ next. next ≡ adding self.now [] peers) }
-    {
-        let knowledge = self.with_peers(peers)?;
-        Ok(Advance {
-            knowledge,
-            deltas: Vec::new(self.alloc),
-            trim: 0,
         })
     }
 

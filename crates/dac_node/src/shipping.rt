@@ -9,7 +9,6 @@ ghost use Rattle.dac_messages.specs.Bodies.{content_of};
 ghost use Rattle.dac_node.specs.Knowing.{hearing, knowledge_of};
 ghost use Rattle.dac_node.specs.After.{after_from_base, from_base, next_by};
 
-use crate::advance::Advance;
 use crate::change::After;
 use crate::knowledge::covers;
 use crate::running::Running;
@@ -135,10 +134,11 @@ impl Running {
         Ok((After::GoesOn(next), true))
     }
 
-    /// What goes on after one operation is heard that comes by itself, and whether it is new.
-    pub(crate) fn after_operation(&self, operation: &Op) -> Result<(Advance, bool), NoMemory>
-        ensures next { IfOk result (λ both. both.0
-            ≡ hearing (knowledge_of self.now) (meaning_of (operation.now ∷ [])) self.now.peers) }
+    /// What runs after one operation is heard that comes by itself, and whether it is new.
+    pub(crate) fn after_operation(&self, operation: &Op) -> Result<(After, bool), NoMemory>
+        ensures after { IfOk result (λ both. after_from_base self.now both.0
+            ≡ After.GoesOn (from_base self.now (hearing (knowledge_of self.now)
+            (meaning_of (operation.now ∷ [])) self.now.peers))) }
         ensures fresh { IfOk result
             (λ both. both.1 ≡ not (is_below (meaning_of (operation.now ∷ [])) self.now.state)) }
     {
@@ -146,11 +146,10 @@ impl Running {
         let peers = known.peers.copy()?;
         // This test takes no memory, and few of the operations that come are new.
         if covers(&known.state, operation) {
-            let next = known.go_on_with(peers)?;
-            return Ok((next, false));
+            return Ok((After::Keeps(peers, 0), false));
         }
         let delta = State::delta_of(known.alloc, operation)?;
         let next = known.add_delta(delta, peers)?;
-        Ok((next, true))
+        Ok((After::GoesOn(next), true))
     }
 }
