@@ -1,4 +1,5 @@
 pub mod ByItself
+pub mod Passing
 pub mod Ready
 pub use Rattle.dac_events.specs.Refusals
 pub use Rattle.dac_settle.specs.dac_model_world.Converges

@@ -65,6 +65,8 @@ impl World {
     ghost use Rattle.dac_settle.specs.WorldRounds.{Settles};
     ghost use Rattle.dac_settle.specs.dac_model_world.AtNode.{HearsIn, HappensAt};
     ghost use Rattle.dac_settle.specs.dac_model_world.WorldChanges.{Goes};
+    ghost use Rattle.dac_core.specs.Ready.{IsPreparedAt};
+    ghost use Rattle.dac_core.specs.Passing.{Passes};
 
     /// All controllers of the configuration, off and never booted. [`NoMemory`] is the only error.
     pub fn new(alloc: Global, config: &Config) -> Result<Self, NoMemory>
@@ -125,7 +127,26 @@ impl World {
         if event.node.0 as usize >= self.nodes.len() {
             return Err(WorldFault::NoSuchNode);
         }
-        self.happen_at(config, event.node, event.what)
+        match self.prepare_at(config, event.node, event.what) {
+            Ok(change) => self.go_on(event.node, change),
+            Err(fault) => Err(fault),
+        }
+    }
+
+    /// One event of the world, as [`World::step`] of it, where nothing but the fault is wanted of the answer. What it ships
+    /// is moved, and not copied.
+    pub fn pass(&mut self, config: &Config, event: &WorldEvent) -> Result<(), WorldFault>
+        ensures passes { Passes config.now self.old event.now result self.new }
+        ensures unchanged { OnErr result (self.new ≡ self.old) }
+        ensures count { length self.new.nodes ≡ length self.old.nodes }
+    {
+        if event.node.0 as usize >= self.nodes.len() {
+            return Err(WorldFault::NoSuchNode);
+        }
+        match self.prepare_at(config, event.node, event.what) {
+            Ok(change) => self.pass_on(event.node, change),
+            Err(fault) => Err(fault),
+        }
     }
 
     /// The controller of a node.
@@ -150,13 +171,19 @@ impl World {
         self.messages.as_slice()
     }
 
-    /// What happens at a node.
-    fn happen_at(&mut self, config: &Config, node: NodeId, what: What) -> Result<Reply, WorldFault>
+    /// What an event does at a node, where it is accepted. Nothing changes yet.
+    fn prepare_at(
+        &mut self,
+        config: &Config,
+        node: NodeId,
+        what: What,
+    ) -> Result<Change, WorldFault>
         requires { node.0 < length self.old.nodes }
-        ensures happens { HappensAt config.now self.old node
-            (event_of self.old.operations self.old.messages what) result self.new }
-        ensures unchanged { OnErr result (self.new ≡ self.old) }
-        ensures count { length self.new.nodes ≡ length self.old.nodes }
+        ensures prepared { IfOk result (IsPreparedAt config.now self.old.nodes node
+            (event_of self.old.operations self.old.messages what)) }
+        ensures fault { IfErr result (λ fault. HappensAt config.now self.old node
+            (event_of self.old.operations self.old.messages what) (Err fault) self.old) }
+        ensures unchanged { self.new ≡ self.old }
     {
         match what {
             What::Deliver(number) => self.deliver(config, node, number),
@@ -171,11 +198,13 @@ impl World {
         config: &Config,
         node: NodeId,
         event: &Event,
-    ) -> Result<Reply, WorldFault>
+    ) -> Result<Change, WorldFault>
         requires { node.0 < length self.old.nodes }
-        ensures happens { HappensAt config.now self.old node (Ok event.now) result self.new }
-        ensures unchanged { OnErr result (self.new ≡ self.old) }
-        ensures count { length self.new.nodes ≡ length self.old.nodes }
+        ensures prepared { IfOk result
+            (IsPreparedAt config.now self.old.nodes node (Ok event.now)) }
+        ensures fault { IfErr result
+            (λ fault. HappensAt config.now self.old node (Ok event.now) (Err fault) self.old) }
+        ensures unchanged { self.new ≡ self.old }
     {
         self.warm(node, event);
         self.happen(config, node, event)
@@ -190,25 +219,26 @@ impl World {
     }
 
     /// An event at a node.
-    fn happen(&mut self, config: &Config, node: NodeId, event: &Event) -> Result<Reply, WorldFault>
-        requires { node.0 < length self.old.nodes }
-        ensures happens { HappensAt config.now self.old node (Ok event.now) result self.new }
-        ensures unchanged { OnErr result (self.new ≡ self.old) }
-        ensures count { length self.new.nodes ≡ length self.old.nodes }
+    fn happen(&self, config: &Config, node: NodeId, event: &Event) -> Result<Change, WorldFault>
+        requires { node.0 < length self.now.nodes }
+        ensures prepared { IfOk result
+            (IsPreparedAt config.now self.now.nodes node (Ok event.now)) }
+        ensures fault { IfErr result
+            (λ fault. HappensAt config.now self.now node (Ok event.now) (Err fault) self.now) }
     {
         match self.nodes[node.0 as usize].prepare(config, node, event) {
-            Ok(change) => self.go_on(node, change),
+            Ok(change) => Ok(change),
             Err(why) => Err(WorldFault::Refused(why)),
         }
     }
 
     /// The message of this number comes to a node.
-    fn deliver(&mut self, config: &Config, node: NodeId, number: u64) -> Result<Reply, WorldFault>
-        requires { node.0 < length self.old.nodes }
-        ensures happens { HappensAt config.now self.old node
-            (heard_by (counted self.old.messages number)) result self.new }
-        ensures unchanged { OnErr result (self.new ≡ self.old) }
-        ensures count { length self.new.nodes ≡ length self.old.nodes }
+    fn deliver(&self, config: &Config, node: NodeId, number: u64) -> Result<Change, WorldFault>
+        requires { node.0 < length self.now.nodes }
+        ensures prepared { IfOk result (IsPreparedAt config.now self.now.nodes node
+            (heard_by (counted self.now.messages number))) }
+        ensures fault { IfErr result (λ fault. HappensAt config.now self.now node
+            (heard_by (counted self.now.messages number)) (Err fault) self.now) }
     {
         if number == 0 || number > self.messages.len() as u64 {
             return Err(WorldFault::NoSuchMessage);
@@ -217,34 +247,29 @@ impl World {
     }
 
     /// The message of this number, which was shipped, comes to a node.
-    fn hear_message(
-        &mut self,
-        config: &Config,
-        node: NodeId,
-        number: u64,
-    ) -> Result<Reply, WorldFault>
-        requires inside { node.0 < length self.old.nodes }
+    fn hear_message(&self, config: &Config, node: NodeId, number: u64) -> Result<Change, WorldFault>
+        requires inside { node.0 < length self.now.nodes }
         requires counted { 0 < number }
-        requires shipped { number ≤ length self.old.messages }
-        ensures happens { HappensAt config.now self.old node
-            (heard_by (counted self.old.messages number)) result self.new }
-        ensures unchanged { OnErr result (self.new ≡ self.old) }
-        ensures count { length self.new.nodes ≡ length self.old.nodes }
+        requires shipped { number ≤ length self.now.messages }
+        ensures prepared { IfOk result (IsPreparedAt config.now self.now.nodes node
+            (heard_by (counted self.now.messages number))) }
+        ensures fault { IfErr result (λ fault. HappensAt config.now self.now node
+            (heard_by (counted self.now.messages number)) (Err fault) self.now) }
     {
         let message = &self.messages[number as usize - 1];
         match self.nodes[node.0 as usize].prepare_hear(config, message) {
-            Ok(change) => self.go_on(node, change),
+            Ok(change) => Ok(change),
             Err(why) => Err(WorldFault::Refused(why)),
         }
     }
 
     /// The operation of this number comes to a node by itself.
-    fn hand(&mut self, config: &Config, node: NodeId, number: u64) -> Result<Reply, WorldFault>
-        requires { node.0 < length self.old.nodes }
-        ensures happens { HappensAt config.now self.old node
-            (handed_by (counted self.old.operations number)) result self.new }
-        ensures unchanged { OnErr result (self.new ≡ self.old) }
-        ensures count { length self.new.nodes ≡ length self.old.nodes }
+    fn hand(&self, config: &Config, node: NodeId, number: u64) -> Result<Change, WorldFault>
+        requires { node.0 < length self.now.nodes }
+        ensures prepared { IfOk result (IsPreparedAt config.now self.now.nodes node
+            (handed_by (counted self.now.operations number))) }
+        ensures fault { IfErr result (λ fault. HappensAt config.now self.now node
+            (handed_by (counted self.now.operations number)) (Err fault) self.now) }
     {
         if number == 0 || number > self.operations.len() as u64 {
             return Err(WorldFault::NoSuchOperation);
@@ -254,22 +279,22 @@ impl World {
 
     /// The operation of this number, which was issued, comes to a node by itself.
     fn hear_operation(
-        &mut self,
+        &self,
         config: &Config,
         node: NodeId,
         number: u64,
-    ) -> Result<Reply, WorldFault>
-        requires inside { node.0 < length self.old.nodes }
+    ) -> Result<Change, WorldFault>
+        requires inside { node.0 < length self.now.nodes }
         requires counted { 0 < number }
-        requires issued { number ≤ length self.old.operations }
-        ensures happens { HappensAt config.now self.old node
-            (handed_by (counted self.old.operations number)) result self.new }
-        ensures unchanged { OnErr result (self.new ≡ self.old) }
-        ensures count { length self.new.nodes ≡ length self.old.nodes }
+        requires issued { number ≤ length self.now.operations }
+        ensures prepared { IfOk result (IsPreparedAt config.now self.now.nodes node
+            (handed_by (counted self.now.operations number))) }
+        ensures fault { IfErr result (λ fault. HappensAt config.now self.now node
+            (handed_by (counted self.now.operations number)) (Err fault) self.now) }
     {
         let operation = &self.operations[number as usize - 1];
         match self.nodes[node.0 as usize].prepare_hear_op(operation) {
-            Ok(change) => self.go_on(node, change),
+            Ok(change) => Ok(change),
             Err(why) => Err(WorldFault::Refused(why)),
         }
     }
@@ -303,9 +328,49 @@ impl World {
             return change_node(&mut self.nodes, node, change);
         }
         share_last(self.messages.as_slice(), change);
-        let noted = make_room(&mut self.operations, &mut self.messages, change)?;
+        make_room(&mut self.operations, &mut self.messages, change)?;
+        let noted = change.copy_reply()?;
         change_node(&mut self.nodes, node, change)?;
         note(&mut self.operations, &mut self.messages, noted);
+        Ok(())
+    }
+
+    /// As [`World::go_on`], without the reply.
+    fn pass_on(&mut self, node: NodeId, change: Change) -> Result<(), WorldFault>
+        requires inside { node.0 < length self.old.nodes }
+        requires ready { IsReadyAt self.old.nodes node change }
+        ensures ok { OnOk result
+            (Goes self.old node (λ v. changed v change) change.reply change.reply self.new) }
+        ensures err { IfErr result (λ fault. fault ≡ WorldFault.Refused Refusal.NoMemory) }
+        ensures crash { IfErr result (λ _. change.reply ≡ Reply.Crashed → ⊥) }
+        ensures unchanged { OnErr result (self.new ≡ self.old) }
+    {
+        match self.change_by(node, change) {
+            Ok(()) => Ok(()),
+            Err(NoMemory) => Err(WorldFault::Refused(Refusal::NoMemory)),
+        }
+    }
+
+    /// As [`World::change`], where the reply isn't left. What it issues and ships is moved.
+    fn change_by(&mut self, node: NodeId, mut change: Change) -> Result<(), NoMemory>
+        requires inside { node.0 < length self.old.nodes }
+        requires ready { IsReadyAt self.old.nodes node change }
+        ensures ok { OnOk result
+            (Goes self.old node (λ v. changed v change) change.reply change.reply self.new) }
+        ensures crash { IfErr result (λ _. change.reply ≡ Reply.Crashed → ⊥) }
+        ensures unchanged { OnErr result (self.new ≡ self.old) }
+    {
+        if notes_nothing(&change) {
+            return change_node(&mut self.nodes, node, &mut change);
+        }
+        share_last(self.messages.as_slice(), &mut change);
+        make_room(&mut self.operations, &mut self.messages, &change)?;
+        change_node(&mut self.nodes, node, &mut change)?;
+        note(
+            &mut self.operations,
+            &mut self.messages,
+            change.into_reply(),
+        );
         Ok(())
     }
 }
@@ -351,35 +416,33 @@ fn change_node(nodes: &mut Vec<Node>, node: NodeId, change: &mut Change) -> Resu
     nodes[node.0 as usize].perform(change)
 }
 
-/// How many operations a reply issues.
-fn issued_count(reply: &Reply) -> usize
-    ensures { result ≡ length (issued_by reply.now) }
+/// How many operations the reply to a change issues.
+fn issued_count(change: &Change) -> usize
+    ensures { result ≡ length (issued_by change.now.reply) }
 {
-    match reply {
-        Reply::Booted(_) | Reply::Issued(_) => 1,
-        Reply::Ticked { ops, passed: _ } => ops.as_slice().len(),
+    match change.reply() {
+        Some(Reply::Booted(_) | Reply::Issued(_)) => 1,
+        Some(Reply::Ticked { ops, passed: _ }) => ops.as_slice().len(),
         _ => 0,
     }
 }
 
-/// Makes room for what a reply issues and ships, and copies the reply.
+/// Makes room for what the reply to a change issues and ships.
 fn make_room(
     operations: &mut Vec<Op>,
     messages: &mut Vec<Message>,
     change: &Change,
-) -> Result<Reply, NoMemory>
+) -> Result<(), NoMemory>
     ensures operations { operations.new.items ≡ operations.old.items }
     ensures messages { messages.new.items ≡ messages.old.items }
     ensures operations_room { OnOk result
         (vec_len operations.new + length (issued_by change.now.reply)
         ≤ vec_capacity operations.new) }
     ensures messages_room { OnOk result (vec_len messages.new < vec_capacity messages.new) }
-    ensures copied { IfOk result (λ copied. copied ≡ change.now.reply) }
 {
-    let copied = change.copy_reply()?;
-    operations.reserve(issued_count(&copied))?;
+    operations.reserve(issued_count(change))?;
     messages.reserve(1)?;
-    Ok(copied)
+    Ok(())
 }
 
 /// Notes what a reply issues and ships, where there is room.

@@ -1,12 +1,15 @@
 -- What changes do, event by event.
-use Rattle.std.proofs.Common.{◌≡◌, ◌↔◌, ◌-◌, ◌<◌, ◌≤◌, ℕ, Bool, true, false, not, cond, List, [], ◌∷◌, length, Option, Some, None, refl, sym, ap, subst, ◌∙◌, arith, true≢false}
+use Rattle.std.proofs.Common.{◌≡◌, ◌-◌, ◌≤◌, ℕ, Bool, true, false, cond, List, [], ◌∷◌, length, Option, Some, None, refl, sym, ap, subst, ◌∙◌, arith, true≢false}
 use Rattle.std.specs.Prelude.{fold, max, min}
 use Rattle.dac_base.specs.declared.limits.TheConstants.{MAX_COUNTER}
 use Rattle.dac_base.specs.declared.NodeId.{NodeId}
 use Rattle.dac_operations.specs.Operations.{Operation}
 use Rattle.dac_meaning.specs.StateValue.{StateValue, IsState, join}
 use Rattle.dac_meaning.specs.Meaning.{meaning_of}
-use Rattle.dac_config.specs.Table.{Table}
+use Rattle.dac_meaning.specs.Below.{is_below}
+use Rattle.dac_config.specs.Table.{Table, node_count}
+use Rattle.dac_peers.specs.Peers.{PeersValue, acked_by_all, heard_from}
+use Rattle.dac_messages.specs.Bodies.{content_of}
 use Rattle.dac_deltas.specs.KeptDeltas.{KeptDeltas, cut, pushed, trimmed}
 use Rattle.dac_decide.specs.declared.waits.Noted.{Noted}
 use Rattle.dac_decide.specs.declared.start_gate.Opening.{Opening}
@@ -21,13 +24,13 @@ use Rattle.dac_events.specs.declared.refusal.Refusal.TheVariants.{DotsUsedUp}
 use Rattle.dac_model_node.specs.dac_commands.laws.Written.{none_is}
 use Rattle.dac_model_node.specs.NodeValue.{RunningValue}
 use Rattle.dac_model_node.specs.EventRefusals.{refusal_by, refusal_to_hear_op, overflows}
-use Rattle.dac_model_node.specs.Deeds.{Deed, deed_of, hears_message, moment_of, opening_at, ticks_by}
+use Rattle.dac_model_node.specs.Deeds.{Deed, brings, deed_of, hears_message, moment_of, opening_at, ticks_by}
 use Rattle.dac_model_node.specs.Accepted.{AreNewest, running_by}
 use Rattle.dac_model_node.specs.laws.Numbers.{fits, room_to_hear}
 use Rattle.dac_node.specs.declared.change.After.{After}
-use Rattle.dac_node.specs.declared.change.After.TheVariants.{Off, Boots, GoesOn}
-use Rattle.dac_node.specs.Knowing.{AdvanceValue, hearing, knowledge_of, running_of}
-use Rattle.dac_node.specs.After.{running_after, after_by, after_from_base, from_base, gone_on, next_by, FitsIn, ShipsOwnIn}
+use Rattle.dac_node.specs.declared.change.After.TheVariants.{Off, Boots, GoesOn, Keeps}
+use Rattle.dac_node.specs.Knowing.{AdvanceValue, adding, hearing, joining, knowledge_of, running_of}
+use Rattle.dac_node.specs.After.{running_after, after_by, after_from_base, from_base, gone_on, keeping, next_by, FitsIn, ShipsOwnIn}
 use Rattle.dac_node.specs.Changes.{ChangeValue, BootsBy, Effect, Fits, Prepared}
 
 -- an event that notes nothing
@@ -41,30 +44,38 @@ pub going_effect : (t : Table) (number : ℕ) (r : RunningValue) (e : Event) (ne
 going_effect t number r e next reply change is quiet after same =
     quiet_effect t number r e change quiet (ap (λ (c : ChangeValue). c.last) is) (ap (λ (c : ChangeValue). c.after) is ∙ after) (ap (λ (c : ChangeValue). c.reply) is ∙ same)
 
--- a message that comes, after which what ran goes on so
-pub heard_effect : (t : Table) (number : ℕ) (r : RunningValue) (m : Message) (next : AdvanceValue) (reply : Reply) (change : ChangeValue) → change ≡ record { last = number; after = GoesOn next; reply = reply }
-    → next ≡ from_base r (next_by r [] (hears_message t r m)) → reply ≡ (hears_message t r m).reply → Effect t number r (Hear m) change
-heard_effect t number r m next reply change is so same = record {
+-- the same, where what runs is what the deed asks for up to the base
+pub kept_effect : (t : Table) (number : ℕ) (r : RunningValue) (e : Event) (after : After) (reply : Reply) (change : ChangeValue) → change ≡ record { last = number; after = after; reply = reply } → (deed_of t r [] e).notes ≡ false
+    → after_from_base r after ≡ after_from_base r (after_by r [] (deed_of t r [] e)) → reply ≡ (deed_of t r [] e).reply → Effect t number r e change
+kept_effect t number r e after reply change is quiet so same = record {
   noted = [];
-  noting = λ h. absurd (true≢false (sym h));
+  noting = λ h. absurd (true≢false (sym h ∙ quiet));
   last = ap (λ (c : ChangeValue). c.last) is;
-  after = ap (λ (c : ChangeValue). after_from_base r c.after) is
-      ∙ (ap (λ (n : AdvanceValue). GoesOn (from_base r n)) so ∙ ap (λ trim. GoesOn (record (next_by r [] (hears_message t r m)) { trim = trim })) (max_again r.kept.base (hears_message t r m).trim));
+  after = ap (λ (c : ChangeValue). after_from_base r c.after) is ∙ so;
   reply = ap (λ (c : ChangeValue). c.reply) is ∙ same;
 }
+
+-- what goes on once these states are added, this is kept of peers and no delta below this number is kept any more
+abbrev added : RunningValue → PeersValue → List StateValue → ℕ → After
+added r peers adds trim = GoesOn (record { knowledge = joining (knowledge_of r) adds peers; deltas = adds; trim = trim })
+
+-- how many of its own deltas all other nodes acknowledged by then
+abbrev pub acked : Table → RunningValue → PeersValue → List StateValue → ℕ
+acked t r peers adds = acked_by_all peers (fold join r.state adds) (node_count t) r.origin.node
+
+-- a message that brings something new
+pub adds_message : (t : Table) (r : RunningValue) (m : Message) (peers : PeersValue) (next : AdvanceValue) → is_below (content_of m.body) r.state ≡ false → peers ≡ heard_from r.origin r.kept.count r.peers m
+    → next ≡ record (adding (knowledge_of r) (content_of m.body ∷ []) peers) { trim = max r.kept.base (acked t r peers (content_of m.body ∷ [])) } → after_from_base r (GoesOn next) ≡ GoesOn (from_base r (next_by r [] (hears_message t r m)))
+adds_message t r m peers next new after is =
+    ap (λ (n : AdvanceValue). GoesOn (from_base r n)) is
+    ∙ (ap (added r peers (content_of m.body ∷ [])) (max_again r.kept.base (acked t r peers (content_of m.body ∷ [])))
+    ∙ (λ i. added r (after i) (brought i) (max r.kept.base (acked t r (after i) (brought i)))))
   where
     max_again : (b n : ℕ) → max b (max b n) ≡ max b n
     max_again b n = omega arith
 
--- what was heard is said to be new where it is added
-pub told_new : (told below : Bool) (body : StateValue) (deltas : List StateValue) → deltas ≡ cond below [] (body ∷ []) → ((told ≡ true) ↔ (0 < length deltas)) → told ≡ not below
-told_new true true body deltas is h = absurd (omega (arith, subst (λ ds. 0 < length ds) is (h.0 refl)))
-told_new true false body deltas is h = refl
-told_new false true body deltas is h = refl
-told_new false false body deltas is h = absurd (true≢false (sym (h.1 (subst (λ ds. 0 < length ds) (sym is) one))))
-  where
-    one : 0 < 1
-    one = omega arith
+    brought : content_of m.body ∷ [] ≡ brings r.state (content_of m.body)
+    brought = ap (λ b. cond b [] (content_of m.body ∷ [])) (sym new)
 
 -- ---- what trims alike
 
@@ -83,6 +94,7 @@ trimmed_from_base k deltas n = ap (cut (fold pushed k deltas)) (alike k.base (fo
 run_from_base : (r : RunningValue) (after : After) → running_after (after_from_base r after) (Some r) ≡ running_after after (Some r)
 run_from_base r Off = refl
 run_from_base r (Boots b) = refl
+run_from_base r (Keeps peers trim) = ap (λ (kept : KeptDeltas StateValue). Some (running_of (joining (knowledge_of r) [] peers) kept)) (trimmed_from_base r.kept [] trim)
 run_from_base r (GoesOn next) = ap (λ (kept : KeptDeltas StateValue). Some (running_of next.knowledge kept)) (trimmed_from_base r.kept next.deltas next.trim)
 
 -- ---- at a node
@@ -119,10 +131,17 @@ ships_own t r noted (Ship to) = refl
 ships_own t r noted (Hear m) = tt
 ships_own t r noted (HearOp o) = tt
 
+-- numbers are left for what comes, if they are up to the base
+fits_from_base : (r : RunningValue) (after : After) → FitsIn (Some r) (after_from_base r after) → FitsIn (Some r) after
+fits_from_base r Off h = tt
+fits_from_base r (Boots b) h = tt
+fits_from_base r (GoesOn next) h = h
+fits_from_base r (Keeps peers trim) h = tt
+
 -- numbers are left for what comes
 pub effect_fits : (t : Table) (last : ℕ) (r : RunningValue) (e : Event) (change : ChangeValue) → refusal_by t last (Some r) e ≡ None → r.kept.count ≤ MAX_COUNTER → Effect t last r e change → Fits (record { last = last; running = Some r }) change
 effect_fits t last r e change none countable f = record {
-  numbers = from_fits change.after (subst (FitsIn (Some r)) (sym f.after) (to_fits (after_by r f.noted (deed_of t r f.noted e)) (by (deed_of t r f.noted e).goes_off)));
+  numbers = fits_from_base r change.after (subst (FitsIn (Some r)) (sym f.after) (to_fits (after_by r f.noted (deed_of t r f.noted e)) (by (deed_of t r f.noted e).goes_off)));
   ships = subst (ShipsOwnIn (Some r)) (sym f.reply) (ships_own t r f.noted e);
 }
   where
@@ -130,11 +149,7 @@ effect_fits t last r e change none countable f = record {
     to_fits Off h = tt
     to_fits (Boots b) h = tt
     to_fits (GoesOn next) h = h
-
-    from_fits : (after : After) → FitsIn (Some r) (after_from_base r after) → FitsIn (Some r) after
-    from_fits Off h = tt
-    from_fits (Boots b) h = tt
-    from_fits (GoesOn next) h = h
+    to_fits (Keeps peers trim) h = omega (arith, countable)
 
     by : (b : Bool) → FitsIn (Some r) (cond b Off (GoesOn (next_by r f.noted (deed_of t r f.noted e))))
     by true = tt
@@ -145,8 +160,8 @@ heard_op_fits : (r : RunningValue) (o : Operation) → refusal_to_hear_op r o �
 heard_op_fits r o none countable = (room_to_hear r (meaning_of (o ∷ [])) countable (none_is ((overflows r (meaning_of (o ∷ [])), DotsUsedUp) ∷ []) none).0, λ nothing. ap (fold join r.state) nothing)
 
 pub hear_op_fits : (last : ℕ) (r : RunningValue) (o : Operation) (fresh : Bool) (change : ChangeValue) → refusal_to_hear_op r o ≡ None → r.kept.count ≤ MAX_COUNTER →
-    change.after ≡ GoesOn (hearing (knowledge_of r) (meaning_of (o ∷ [])) r.peers) → change.reply ≡ Heard fresh → Fits (record { last = last; running = Some r }) change
+    after_from_base r change.after ≡ GoesOn (from_base r (hearing (knowledge_of r) (meaning_of (o ∷ [])) r.peers)) → change.reply ≡ Heard fresh → Fits (record { last = last; running = Some r }) change
 hear_op_fits last r o fresh change none countable after reply = record {
-  numbers = subst (FitsIn (Some r)) (sym after) (heard_op_fits r o none countable);
+  numbers = fits_from_base r change.after (subst (FitsIn (Some r)) (sym after) (heard_op_fits r o none countable));
   ships = subst (ShipsOwnIn (Some r)) (sym reply) tt;
 }

@@ -1,5 +1,5 @@
 -- What runs after a change.
-use Rattle.std.specs.Prelude.{◌≡◌, ◌+◌, ◌≤◌, max, cond, List, [], length, Option, Some, None, fold}
+use Rattle.std.specs.Prelude.{◌≡◌, ℕ, ◌+◌, ◌≤◌, max, cond, List, [], length, Option, Some, None, fold}
 use Rattle.std.specs.Option.{option_map}
 use Rattle.dac_base.specs.declared.limits.TheConstants.{MAX_COUNTER}
 use Rattle.dac_meaning.specs.StateValue.{join}
@@ -10,18 +10,24 @@ use Rattle.dac_messages.specs.declared.reply.Reply.TheVariants.{Shipped}
 use Rattle.dac_model_node.specs.NodeValue.{RunningValue}
 use Rattle.dac_model_node.specs.Deeds.{Deed, message_of}
 use Rattle.dac_node.specs.declared.change.After.{After}
-use Rattle.dac_node.specs.declared.change.After.TheVariants.{Off, Boots, GoesOn}
-use Rattle.dac_node.specs.Knowing.{AdvanceValue, running_of}
+use Rattle.dac_node.specs.declared.change.After.TheVariants.{Off, Boots, GoesOn, Keeps}
+use Rattle.dac_peers.specs.Peers.{PeersValue}
+use Rattle.dac_node.specs.Knowing.{AdvanceValue, joining, knowledge_of, running_of}
 
 -- what ran before goes on so
 abbrev pub gone_on : AdvanceValue → RunningValue → RunningValue
 gone_on next r = running_of next.knowledge (trimmed (fold pushed r.kept next.deltas) next.trim)
+
+-- so it does where nothing new comes, this is kept of peers, and no delta below this number is kept any more
+abbrev pub keeping : RunningValue → PeersValue → ℕ → AdvanceValue
+keeping r peers trim = record { knowledge = joining (knowledge_of r) [] peers; deltas = []; trim = trim }
 
 -- what runs from then on, where this ran before
 abbrev pub running_after : After → Option RunningValue → Option RunningValue
 running_after Off old = None
 running_after (Boots b) old = Some b.value
 running_after (GoesOn next) old = option_map (gone_on next) old
+running_after (Keeps peers trim) old = option_map (λ r. gone_on (keeping r peers trim) r) old
 
 -- numbers are left for the deltas that come, and where none comes the state stays as it is
 abbrev pub FitsIn : Option RunningValue → After → Type 0
@@ -62,4 +68,5 @@ from_base r next =
 
 abbrev pub after_from_base : RunningValue → After → After
 after_from_base r (GoesOn next) = GoesOn (from_base r next)
+after_from_base r (Keeps peers trim) = GoesOn (from_base r (keeping r peers trim))
 after_from_base r after = after

@@ -1,6 +1,6 @@
 //! What goes on after an event.
 
-ghost use Rattle.std.specs.Prelude.{◌≡◌, ◌↔◌, ◌<◌, length, IsTrue};
+ghost use Rattle.std.specs.Prelude.{◌≡◌};
 
 use crate::knowledge::Knowledge;
 use dac_origins::Origin;
@@ -70,13 +70,6 @@ impl Advance {
             trim,
         } = self;
         (knowledge, deltas, trim)
-    }
-
-    /// Whether a delta comes. What was heard is new exactly then.
-    pub(crate) fn has_news(&self) -> bool
-        ensures { IsTrue result ↔ (0 < length self.now.deltas) }
-    {
-        !self.deltas.is_empty()
     }
 
     /// No delta below this number is kept any more.

@@ -16,6 +16,7 @@ use dac_events::Command;
 use dac_lattice::Lattice;
 use dac_messages::{Body, Event, Message, Reply};
 use dac_origins::Origin;
+use dac_peers::Peers;
 use dac_state::{Op, State};
 use std::alloc::Global;
 use std::marker::Model;
@@ -29,6 +30,8 @@ pub(crate) enum After {
     Boots(Box<Running, Global>),
     /// What ran before, with these changes.
     GoesOn(Advance),
+    /// What ran before, with this kept of peers, and no delta below this number. All else stays where it is.
+    Keeps(Peers, u64),
 }
 
 /// What runs after an event that is no crash, and the reply to it.
@@ -68,6 +71,7 @@ impl Model for Change {
 impl Change {
     ghost use Rattle.dac_node.specs.Changes.{BootsBy, Effect};
     ghost use Rattle.dac_node.specs.Knowing.{hearing, knowledge_of};
+    ghost use Rattle.dac_node.specs.After.{after_from_base, from_base};
 
     /// The reply to the event, lent. A crash lends none, and its reply is [`Reply::Crashed`].
     pub fn reply(&self) -> Option<&Reply>
@@ -206,9 +210,9 @@ impl Change {
             (λ change. (t : Table) → Effect t last running.now (Event.Ship to) change) }
     {
         let message = running.message_to(to)?;
-        let next = running.shipped_to(to)?;
+        let peers = running.peers_shipped_to(to)?;
         let alloc = running.knowledge.alloc;
-        let change = Change::new(alloc, last, After::GoesOn(next), Reply::Shipped(message))?;
+        let change = Change::new(alloc, last, After::Keeps(peers, 0), Reply::Shipped(message))?;
         Ok(change)
     }
 
@@ -221,10 +225,9 @@ impl Change {
     ) -> Result<Self, NoMemory>
         ensures { IfOk result (Effect config.now last running.now (Event.Hear message.now)) }
     {
-        let next = running.after_message(config, message)?;
-        let fresh = next.has_news();
+        let (after, fresh) = running.after_message(config, message)?;
         let alloc = running.knowledge.alloc;
-        let change = Change::new(alloc, last, After::GoesOn(next), Reply::Heard(fresh))?;
+        let change = Change::new(alloc, last, after, Reply::Heard(fresh))?;
         Ok(change)
     }
 
@@ -232,15 +235,15 @@ impl Change {
     pub(crate) fn hear_op(last: u64, running: &Running, operation: &Op) -> Result<Self, NoMemory>
         ensures effect { IfOk result (λ change. (t : Table)
             → Effect t last running.now (Event.HearOp operation.now) change) }
-        ensures after { IfOk result (λ change. change.after
-            ≡ After.GoesOn (hearing (knowledge_of running.now) (meaning_of (operation.now ∷ []))
-            running.now.peers)) }
+        ensures after { IfOk result (λ change. after_from_base running.now change.after
+            ≡ After.GoesOn (from_base running.now (hearing (knowledge_of running.now)
+            (meaning_of (operation.now ∷ [])) running.now.peers))) }
         ensures reply { IfOk result (λ change. change.reply
             ≡ Reply.Heard (not (is_below (meaning_of (operation.now ∷ [])) running.now.state))) }
     {
-        let (next, fresh) = running.after_operation(operation)?;
+        let (after, fresh) = running.after_operation(operation)?;
         let alloc = running.knowledge.alloc;
-        let change = Change::new(alloc, last, After::GoesOn(next), Reply::Heard(fresh))?;
+        let change = Change::new(alloc, last, after, Reply::Heard(fresh))?;
         Ok(change)
     }
 }

@@ -73,7 +73,7 @@ impl Model for Knowledge {
 }
 
 impl Knowledge {
-    ghost use Rattle.dac_node.specs.Knowing.{knows_at_boot, joining, adding, hearing};
+    ghost use Rattle.dac_node.specs.Knowing.{knows_at_boot, joining, adding};
     ghost use Rattle.dac_model_node.specs.NodeValue.{IsSound};
 
     /// It is as its invariant says. This only tells proofs so, and does nothing when it runs.
@@ -132,23 +132,6 @@ impl Knowledge {
         })
     }
 
-    /// The same, where this is kept of peers.
-    pub(crate) fn with_peers(&self, peers: Peers) -> Result<Self, NoMemory>
-        ensures { IfOk result (λ knowledge. knowledge ≡ joining self.now [] peers) }
-    {
-        let waits = Arc::try_clone(&self.waits)?;
-        let state = Arc::try_clone(&self.state)?;
-        Ok(Knowledge {
-            alloc: self.alloc,
-            origin: self.origin,
-            moments: self.moments,
-            is_open: self.is_open,
-            waits,
-            state,
-            peers,
-        })
-    }
-
     /// The same, where a state is joined and this is kept of peers.
     pub(crate) fn join_state(&self, other: &State, peers: Peers) -> Result<Self, NoMemory>
         ensures { IfOk result (λ knowledge. knowledge ≡ joining self.now (other.now ∷ []) peers) }
@@ -167,18 +150,6 @@ impl Knowledge {
         })
     }
 
-    /// What goes on where nothing new comes, and this is kept of peers.
-    pub(crate) fn go_on_with(&self, peers: Peers) -> Result<Advance, NoMemory>
-        ensures { IfOk result (λ next. next ≡ adding self.now [] peers) }
-    {
-        let knowledge = self.with_peers(peers)?;
-        Ok(Advance {
-            knowledge,
-            deltas: Vec::new(self.alloc),
-            trim: 0,
-        })
-    }
-
     /// What goes on after a delta comes that is to be added, where this is kept of peers.
     pub(crate) fn add_delta(&self, delta: State, peers: Peers) -> Result<Advance, NoMemory>
         ensures { IfOk result (λ next. next ≡ adding self.now (delta ∷ []) peers) }
@@ -193,26 +164,26 @@ impl Knowledge {
         })
     }
 
-    /// What goes on after a state comes that may be below, where this is kept of peers.
-    pub(crate) fn hear_state(&self, body: &State, peers: Peers) -> Result<Advance, NoMemory>
-        ensures { IfOk result (λ next. next ≡ hearing self.now body.now peers) }
-    {
-        if is_below(body, &self.state) {
-            return self.go_on_with(peers);
-        }
-        let delta = body.copy()?;
-        let next = self.add_delta(delta, peers)?;
-        Ok(next)
-    }
-
-    /// What goes on after a message's body comes, where this is kept of peers.
-    pub(crate) fn hear_body(&self, body: &Body, peers: Peers) -> Result<Advance, NoMemory>
-        ensures { IfOk result (λ next. next ≡ hearing self.now (content_of body.now) peers) }
+    /// Whether what a message's body brings is below the state.
+    pub(crate) fn knows(&self, body: &Body) -> bool
+        ensures { result ≡ is_below (content_of body.now) self.now.state }
     {
         match body.state() {
-            Some(state) => self.hear_state(state, peers),
-            None => self.hear_state(&State::bottom(self.alloc), peers),
+            Some(state) => is_below(state, &self.state),
+            None => is_below(&State::bottom(self.alloc), &self.state),
         }
+    }
+
+    /// What goes on after a message's body comes that is to be added, where this is kept of peers.
+    pub(crate) fn add_body(&self, body: &Body, peers: Peers) -> Result<Advance, NoMemory>
+        ensures { IfOk result
+            (λ next. next ≡ adding self.now (content_of body.now ∷ []) peers) }
+    {
+        let delta = match body.state() {
+            Some(state) => state.copy()?,
+            None => State::bottom(self.alloc),
+        };
+        self.add_delta(delta, peers)
     }
 
     /// The greater of `base` and how many of the own deltas all other nodes have acknowledged.
@@ -221,8 +192,16 @@ impl Knowledge {
             ≡ max base (acked_by_all self.now.peers self.now.state (node_count config.now)
             self.now.origin.node) }
     {
-        self.peers
-            .acked_past(&self.state, config.nodes(), self.origin.node, base)
+        self.trim_with(config, &self.peers, base)
+    }
+
+    /// The same, where this is kept of peers.
+    pub(crate) fn trim_with(&self, config: &Config, peers: &Peers, base: u64) -> u64
+        ensures { result
+            ≡ max base (acked_by_all peers.now self.now.state (node_count config.now)
+            self.now.origin.node) }
+    {
+        peers.acked_past(&self.state, config.nodes(), self.origin.node, base)
     }
 }
 

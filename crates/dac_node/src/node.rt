@@ -296,7 +296,7 @@ impl Node {
     }
 
     /// The state once it does what was prepared, if it runs then.
-    pub fn state_after<'a>(&self, change: &'a Change) -> Option<&'a State>
+    pub fn state_after<'a>(&'a self, change: &'a Change) -> Option<&'a State>
         ensures { option_copied result ≡ state_of (changed self.now change.now) }
     {
         let Some(outcome) = &change.outcome else {
@@ -309,6 +309,7 @@ impl Node {
                 None => None,
                 Some(_running) => Some(next.state()),
             },
+            After::Keeps(_peers, _trim) => self.state(),
         }
     }
 
@@ -326,6 +327,7 @@ impl Node {
                 None => None,
                 Some(_running) => Some(next.origin()),
             },
+            After::Keeps(_peers, _trim) => self.origin(),
         }
     }
 
@@ -348,6 +350,11 @@ impl Node {
             After::GoesOn(next) => {
                 if let Some(running) = &mut self.running {
                     running.go_on(next, &outcome.reply)?;
+                }
+            }
+            After::Keeps(peers, trim) => {
+                if let Some(running) = &mut self.running {
+                    running.keep(peers, trim, &outcome.reply);
                 }
             }
         }

@@ -26,6 +26,7 @@ use dac_messages::{Event, Message, Reply};
 use dac_model_node::dac_commands::{operation_of, refusal_of};
 use dac_model_node::dac_ticks::KeptBoard;
 use dac_origins::Origin;
+use dac_peers::Peers;
 use dac_placement::is_up;
 use dac_state::{Op, State};
 use std::alloc::Global;
@@ -67,7 +68,7 @@ impl Model for Running {
 impl Running {
     ghost use Rattle.dac_model_node.specs.Accepted.{booted, AreNewest};
     ghost use Rattle.dac_node.specs.Knowing.{adding, knowledge_of};
-    ghost use Rattle.dac_node.specs.After.{gone_on, ShipsOwnIn};
+    ghost use Rattle.dac_node.specs.After.{gone_on, keeping, ShipsOwnIn};
 
     /// The deltas that are kept are the newest, and their count is at most 2^62. The state is one. This only tells proofs
     /// so, and does nothing when it runs.
@@ -167,6 +168,20 @@ impl Running {
         ensures { IfSome (option_copied result) (λ board. IsBoardOf board self.now.state) }
     {
         self.shown.board()
+    }
+
+    /// Goes on with this kept of peers and no delta below this number, with this reply. An interval that the reply ships
+    /// is remembered.
+    pub(crate) fn keep(&mut self, peers: Peers, trim: u64, reply: &Reply)
+        requires { ShipsOwnIn (Some self.old) reply.now }
+        ensures { self.new ≡ gone_on (keeping self.old peers trim) self.old }
+    {
+        if let Reply::Shipped(message) = reply {
+            self.remember(message);
+        }
+        drop_below(&mut self.buffer, trim);
+        self.knowledge.peers = peers;
+        self.knowledge.peers.settle();
     }
 
     /// Whether so many deltas more would pass the last number.

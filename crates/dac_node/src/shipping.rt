@@ -5,17 +5,18 @@ ghost use Rattle.dac_meaning.specs.Below.{is_below};
 ghost use Rattle.dac_meaning.specs.Meaning.{meaning_of};
 ghost use Rattle.dac_peers.specs.Peers.{is_up_to_date as needs_nothing, shipped_to};
 ghost use Rattle.dac_model_node.specs.Deeds.{body_from, message_of, hears_message};
-ghost use Rattle.dac_node.specs.Knowing.{adding, hearing, knowledge_of};
-ghost use Rattle.dac_node.specs.After.{from_base, next_by};
+ghost use Rattle.dac_messages.specs.Bodies.{content_of};
+ghost use Rattle.dac_node.specs.Knowing.{hearing, knowledge_of};
+ghost use Rattle.dac_node.specs.After.{after_from_base, from_base, next_by};
 
-use crate::advance::Advance;
+use crate::change::After;
 use crate::knowledge::covers;
 use crate::running::Running;
 use dac_base::{NoMemory, NodeId};
 use dac_config::Config;
 use dac_lattice::Lattice;
 use dac_messages::{Body, Message};
-use dac_peers::Position;
+use dac_peers::{Peers, Position};
 use dac_state::{Op, State};
 
 impl Running {
@@ -99,39 +100,45 @@ impl Running {
         }
     }
 
-    /// What goes on once a node was shipped to: it is owed no answer any more.
-    pub(crate) fn shipped_to(&self, to: NodeId) -> Result<Advance, NoMemory>
-        ensures { IfOk result
-            (λ next. next ≡ adding (knowledge_of self.now) [] (shipped_to self.now.peers to)) }
+    /// What is kept of peers once a node was shipped to: it is owed no answer any more.
+    pub(crate) fn peers_shipped_to(&self, to: NodeId) -> Result<Peers, NoMemory>
+        ensures { IfOk result (λ peers. peers ≡ shipped_to self.now.peers to) }
     {
-        let known = &self.knowledge;
-        let peers = known.peers.shipped_to(to)?;
-        known.go_on_with(peers)
+        let peers = self.knowledge.peers.shipped_to(to)?;
+        Ok(peers)
     }
 
-    /// What goes on after a message is heard. What all other nodes have acknowledged by then is kept no longer.
+    /// What runs after a message is heard, and whether it was new. What all other nodes have acknowledged by then is kept
+    /// no longer.
     pub(crate) fn after_message(
         &self,
         config: &Config,
         message: &Message,
-    ) -> Result<Advance, NoMemory>
-        ensures { IfOk result (λ next. next
-            ≡ from_base self.now (next_by self.now []
-            (hears_message config.now self.now message.now))) }
+    ) -> Result<(After, bool), NoMemory>
+        ensures after { IfOk result (λ both. after_from_base self.now both.0
+            ≡ After.GoesOn (from_base self.now (next_by self.now []
+            (hears_message config.now self.now message.now)))) }
+        ensures fresh { IfOk result
+            (λ both. both.1 ≡ not (is_below (content_of message.now.body) self.now.state)) }
     {
         let known = &self.knowledge;
         let count = self.buffer.count();
         let peers = known.peers.heard_from(known.origin, count, message)?;
-        let mut next = known.hear_body(&message.body, peers)?;
+        if known.knows(&message.body) {
+            let trim = known.trim_with(config, &peers, self.buffer.base());
+            return Ok((After::Keeps(peers, trim), false));
+        }
+        let mut next = known.add_body(&message.body, peers)?;
         let trim = next.knowledge.acked_past(config, self.buffer.base());
         next.trim_below(trim);
-        Ok(next)
+        Ok((After::GoesOn(next), true))
     }
 
-    /// What goes on after one operation is heard that comes by itself, and whether it is new.
-    pub(crate) fn after_operation(&self, operation: &Op) -> Result<(Advance, bool), NoMemory>
-        ensures next { IfOk result (λ both. both.0
-            ≡ hearing (knowledge_of self.now) (meaning_of (operation.now ∷ [])) self.now.peers) }
+    /// What runs after one operation is heard that comes by itself, and whether it is new.
+    pub(crate) fn after_operation(&self, operation: &Op) -> Result<(After, bool), NoMemory>
+        ensures after { IfOk result (λ both. after_from_base self.now both.0
+            ≡ After.GoesOn (from_base self.now (hearing (knowledge_of self.now)
+            (meaning_of (operation.now ∷ [])) self.now.peers))) }
         ensures fresh { IfOk result
             (λ both. both.1 ≡ not (is_below (meaning_of (operation.now ∷ [])) self.now.state)) }
     {
@@ -139,11 +146,10 @@ impl Running {
         let peers = known.peers.copy()?;
         // This test takes no memory, and few of the operations that come are new.
         if covers(&known.state, operation) {
-            let next = known.go_on_with(peers)?;
-            return Ok((next, false));
+            return Ok((After::Keeps(peers, 0), false));
         }
         let delta = State::delta_of(known.alloc, operation)?;
         let next = known.add_delta(delta, peers)?;
-        Ok((next, true))
+        Ok((After::GoesOn(next), true))
     }
 }

@@ -1,5 +1,5 @@
 -- What is noted at places stays what was acknowledged, once a number is raised.
-use Rattle.std.proofs.Common.{◌≡◌, ◌≢◌, ℕ, List, cond, Option, Some, inl, inr, ap, sym, ◌∙◌}
+use Rattle.std.proofs.Common.{◌≡◌, ◌≢◌, ℕ, List, cond, Option, Some, inl, inr, refl, ap, sym, ◌∙◌}
 use Rattle.std.specs.FinMap as map
 use Rattle.dac_base.specs.declared.NodeId.{NodeId}
 use Rattle.dac_origins.specs.declared.dot.Origin.{Origin}
@@ -13,6 +13,14 @@ use Rattle.dac_peers.specs.laws.Onward.{same_or_not}
 -- what an incarnation of a node acknowledged
 abbrev pub of_node : Numbers → NodeId → ℕ → Option ℕ
 of_node acked node inc = map.get acked (record { node = node; inc = inc })
+
+-- what an origin acknowledged, once its number is raised
+pub raised_at : (acked : Numbers) (origin : Origin) (n : ℕ) → map.get (raised acked origin n) origin ≡ Some (greater (map.get acked origin) n)
+raised_at acked origin n = elim (same_origin_or_not origin origin) [
+  | inl same ↦ map.get-insert origins_total acked origin (greater (map.get acked origin) n) origin
+      ∙ ap (λ b. cond b (Some (greater (map.get acked origin) n)) (map.get acked origin)) same.1
+  | inr other ↦ absurd (other.0 refl)
+]
 
 -- another node's numbers stay
 other_stays : (acked : Numbers) (origin : Origin) (n : ℕ) (node : NodeId) (inc : ℕ) → node ≢ origin.node

@@ -1,7 +1,7 @@
 //! What was acknowledged, with a shorter way to what is asked most.
 ghost use Rattle.std.specs.Prelude.{◌≡◌, ◌↔◌, ◌<◌, ℕ, length, IsTrue, IfOk, OnOk, OnErr};
 ghost use Rattle.std.specs.FinMap as map;
-ghost use Rattle.dac_deltas.specs.Numbers.{raised};
+ghost use Rattle.dac_deltas.specs.Numbers.{greater, raised};
 ghost use Rattle.dac_peers.specs.Newest.{noted, IsNoted};
 
 use crate::positions::Position;
@@ -35,6 +35,16 @@ impl Model for Acked {
     ghost view = { λ a. a.numbers };
 
     ghost invariant = { λ a. AreLatest a.numbers a.latest.items };
+}
+
+/// The greater of a number and the one before it, if there was one.
+fn greater(before: Option<u64>, number: u64) -> u64
+    ensures { result ≡ greater before number }
+{
+    match before {
+        Some(before) => before.max(number),
+        None => number,
+    }
 }
 
 /// Makes room up to a node's place, and notes nothing there. Where memory is refused the answer is false, and all is as
@@ -95,15 +105,13 @@ impl Acked {
         ensures ok { OnOk result (self.new ≡ raised self.old origin number) }
         ensures err { OnErr result (self.new ≡ self.old) }
     {
+        let greatest = greater(self.get(origin), number);
         self.numbers.raise(origin, number)?;
-        let position = match self.numbers.get(origin) {
-            Some(number) => Some(Position {
-                inc: origin.inc,
-                number,
-            }),
-            None => None,
+        let position = Position {
+            inc: origin.inc,
+            number: greatest,
         };
-        note(&mut self.latest, origin.node, position);
+        note(&mut self.latest, origin.node, Some(position));
         Ok(())
     }
 

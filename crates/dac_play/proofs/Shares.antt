@@ -1,5 +1,5 @@
 -- What a share does, pair by pair.
-use Rattle.std.proofs.Common.{◌≡◌, ℕ, ◌+◌, ◌<◌, ◌≤◌, Bool, true, false, cond, List, [], ◌∷◌, ◌++◌, length, get_or, take, zero, suc, Option, Some, None, Result, Ok, Err, refl, sym, ap, ap₂, subst, ◌∙◌, arith, ⊎_elim, add-one, append-nil}
+use Rattle.std.proofs.Common.{◌≡◌, ℕ, ◌+◌, ◌<◌, ◌≤◌, Bool, true, false, cond, List, [], ◌∷◌, ◌++◌, length, get_or, take, zero, suc, Option, Some, None, Result, Ok, Err, refl, sym, ap, ap₂, subst, ◌∙◌, arith, ⊎_elim, add-one, append-nil, true≢false}
 use Rattle.std.specs.Prelude.{◌≢◌, fold, IfOk, OnOk}
 use Rattle.std.specs.Borrow.{Bor}
 use Rattle.std.specs.Option.{is_some, option_copied}
@@ -13,8 +13,11 @@ use Rattle.dac_events.specs.declared.WorldEvent.{WorldEvent}
 use Rattle.dac_meaning.specs.StateValue.{StateValue}
 use Rattle.dac_messages.specs.declared.reply.Reply.{Reply}
 use Rattle.dac_core.specs.WorldFault.{WorldFault}
+use Rattle.dac_core.specs.WorldFault.TheVariants.{Refused}
+use Rattle.dac_events.specs.declared.refusal.Refusal.TheVariants.{NoMemory}
 use Rattle.dac_core.specs.WorldValue.{WorldValue}
-use Rattle.dac_core.specs.ModelWorld.{ModelWorld, Shows, Follows, Done, Lacked, happens, out_of_memory, numbered}
+use Rattle.dac_core.specs.ModelWorld.{ModelWorld, Shows, Done, Lacked, happens, out_of_memory, numbered}
+use Rattle.dac_core.specs.Passing.{Passes, TellsFault}
 use Rattle.dac_play.specs.Pairs.{pairs, TellsEachOther}
 use Rattle.dac_play.specs.Play.{state_at, HasState, IsShared}
 use Rattle.dac_play.specs.Sharing.{state_in, having_state, shipping, delivery, after_telling, shared, Leads, IsAnswered}
@@ -22,20 +25,34 @@ use Rattle.dac_play.proofs.EachOther.{tell_each_other}
 use Rattle.dac_play.proofs.Playing.{state_shown}
 
 -- ---- one event
-accepts : (table : Table) (old new : WorldValue) (event : WorldEvent) (answer : Result Reply WorldFault) → Follows table old (λ w. happens table w event) answer new → answer ≢ out_of_memory → IsAnswered table old event (is_ok answer) new
-accepts table old new event answer follows enough = record {
+-- what is told of an answer says whether there is a reply
+tells_ok : (answer : Result Reply WorldFault) (told : Result (Unit {0}) WorldFault) → TellsFault answer told → is_ok told ≡ is_ok answer
+tells_ok answer (Ok done) is = sym is
+tells_ok answer (Err fault) is = sym (ap is_ok is)
+
+abbrev without_reply : Result Reply WorldFault → Result (Unit {0}) WorldFault
+without_reply (Ok reply) = Ok tt
+without_reply (Err fault) = Err fault
+
+-- where memory was refused, that is told
+tells_lack : (answer : Result Reply WorldFault) (told : Result (Unit {0}) WorldFault) → TellsFault answer told → answer ≡ out_of_memory → told ≡ Err (Refused NoMemory)
+tells_lack answer (Ok done) is lacks = absurd (true≢false (sym is ∙ ap is_ok lacks))
+tells_lack answer (Err fault) is lacks = ap without_reply (sym is ∙ lacks)
+
+accepts : (table : Table) (old new : WorldValue) (event : WorldEvent) (told : Result (Unit {0}) WorldFault) → Passes table old event told new → told ≢ Err (Refused NoMemory) → IsAnswered table old event (is_ok told) new
+accepts table old new event told passes enough = record {
   each = λ w shows.
-      let p = follows.each w shows in
-      ⊎_elim (λ (done : Done (happens table w event) answer p.0). (ap is_ok done.answered, subst (λ x. Shows table x new) done.went_on p.1.1))
-      (λ (lacked : Lacked w (happens table w event) answer p.0). absurd (enough lacked.answered))
+      let p = passes.follows.each w shows in
+      ⊎_elim (λ (done : Done (happens table w event) passes.answer p.0). (tells_ok passes.answer told passes.tells ∙ ap is_ok done.answered, subst (λ x. Shows table x new) done.went_on p.1.1))
+      (λ (lacked : Lacked w (happens table w event) passes.answer p.0). absurd (enough (tells_lack passes.answer told passes.tells lacked.answered)))
       p.1.0;
 }
 
 -- the same where memory may be refused
-pub accepts_if : {E : Type 0} (r : Result Bool E) (table : Table) (old new : WorldValue) (event : WorldEvent) (answer : Result Reply WorldFault) → Follows table old (λ w. happens table w event) answer new → IfOk r (λ a. a ≡ is_ok answer) → OnOk r (answer ≢ out_of_memory)
+pub accepts_if : {E : Type 0} (r : Result Bool E) (table : Table) (old new : WorldValue) (event : WorldEvent) (told : Result (Unit {0}) WorldFault) → Passes table old event told new → IfOk r (λ a. a ≡ is_ok told) → OnOk r (told ≢ Err (Refused NoMemory))
     → IfOk r (λ a. IsAnswered table old event a new)
-accepts_if (Ok a) table old new event answer follows known enough = subst (λ b. IsAnswered table old event b new) (sym known) (accepts table old new event answer follows enough)
-accepts_if (Err e) table old new event answer follows known enough = tt
+accepts_if (Ok a) table old new event told passes known enough = subst (λ b. IsAnswered table old event b new) (sym known) (accepts table old new event told passes enough)
+accepts_if (Err e) table old new event told passes known enough = tt
 
 -- ---- one pair
 pub told_nothing : (table : Table) (old new : WorldValue) (pair : NodeId × NodeId) → IsAnswered table old (shipping pair) false new → Leads table old (λ w. after_telling table w pair) new

@@ -1,10 +1,9 @@
 //! Each node that runs tells each other one what that one hasn't acknowledged.
 
-ghost use Rattle.std.specs.Prelude.{◌≡◌, ◌≢◌, ◌<◌, IfOk, OnOk, length};
+ghost use Rattle.std.specs.Prelude.{◌≡◌, ◌≢◌, ◌<◌, IfOk, OnOk, Err, length};
 ghost use Rattle.std.specs.Option.{is_some};
 ghost use Rattle.std.specs.Result.{is_ok};
 ghost use Rattle.dac_config.specs.Table.{node_count};
-ghost use Rattle.dac_core.specs.ModelWorld.{out_of_memory};
 ghost use Rattle.dac_play.specs.Play.{state_at, IsShared};
 ghost use Rattle.dac_play.specs.Sharing.{having_state, after_telling, shared, Leads, IsAnswered};
 
@@ -12,7 +11,7 @@ use crate::pairs::all_pairs;
 use crate::states::state_at;
 use dac_base::{NoMemory, NodeId};
 use dac_config::Config;
-use dac_core::{Refusal, Reply, What, World, WorldEvent, WorldFault};
+use dac_core::{Refusal, What, World, WorldEvent, WorldFault};
 use std::alloc::Global;
 
 /// Whether a node runs.
@@ -40,12 +39,12 @@ fn running(alloc: Global, config: &Config, world: &World) -> Result<Vec<NodeId>,
 }
 
 /// Whether an event was accepted. `NoMemory` is no answer: such an event is no event.
-fn was_accepted(answer: &Result<Reply, WorldFault>) -> Result<bool, NoMemory>
+fn was_accepted(answer: &Result<(), WorldFault>) -> Result<bool, NoMemory>
     ensures known { IfOk result (λ accepted. accepted ≡ is_ok answer.now) }
-    ensures enough { OnOk result (answer.now ≢ out_of_memory) }
+    ensures enough { OnOk result (answer.now ≢ Err (WorldFault.Refused Refusal.NoMemory)) }
 {
     match answer {
-        Ok(_reply) => Ok(true),
+        Ok(()) => Ok(true),
         Err(WorldFault::Refused(Refusal::NoMemory)) => Err(NoMemory),
         Err(_fault) => Ok(false),
     }
@@ -57,7 +56,7 @@ fn accepts(config: &Config, world: &mut World, event: &WorldEvent) -> Result<boo
     ensures answers { IfOk result
         (λ accepted. IsAnswered config.now world.old event.now accepted world.new) }
 {
-    let answer = world.step(config, event);
+    let answer = world.pass(config, event);
     was_accepted(&answer)
 }
 

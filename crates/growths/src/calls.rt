@@ -253,6 +253,7 @@ pub const CALLS: &[(&str, Call)] = &[
     ("World::step:ship-equal", Call::World(OfWorld::ShipEqual)),
     ("World::step:deliver", Call::World(OfWorld::Deliver)),
     ("World::step:hand", Call::World(OfWorld::Hand)),
+    ("World::pass:ship", Call::World(OfWorld::Pass)),
     ("weave", Call::Closed(OfClosed::Weave)),
     ("replay", Call::Closed(OfClosed::Replay)),
     ("read_script", Call::Script(OfScript::Script)),

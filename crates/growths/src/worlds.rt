@@ -24,6 +24,7 @@ pub enum OfWorld {
     ShipEqual,
     Deliver,
     Hand,
+    Pass,
 }
 
 /// A run of a world, and what comes after it.
@@ -164,7 +165,7 @@ fn next(asked: OfWorld) -> WorldEvent {
                 node: OTHER,
             }),
         ),
-        OfWorld::Ship => (ME, What::Ship { to: THIRD }),
+        OfWorld::Ship | OfWorld::Pass => (ME, What::Ship { to: THIRD }),
         OfWorld::ShipInterval | OfWorld::ShipEqual => (OTHER, What::Ship { to: THIRD }),
         OfWorld::Deliver => (OTHER, What::Deliver(1)),
         OfWorld::Hand => (OTHER, What::Hand(1)),
@@ -212,6 +213,11 @@ impl Bench for WorldBench {
                 Err(_) => Said::NoMemory,
             },
             OfWorld::Run => self.run(),
+            OfWorld::Pass => match self.world.pass(&self.config, &next(self.asked)) {
+                Ok(()) => Said::Well(0),
+                Err(WorldFault::Refused(Refusal::NoMemory)) => Said::NoMemory,
+                Err(_) => Said::Other,
+            },
             _ => said(&self.world.step(&self.config, &next(self.asked))),
         }
     }

@@ -1,12 +1,30 @@
-use Rattle.std.proofs.Common.{◌<◌, length, rules, subst}
+use Rattle.std.proofs.Common.{◌<◌, Err, length, rules, subst}
 use Rattle.dac_settle.specs.dac_model_world.WorldValue.{WorldValue}
+use Rattle.dac_settle.specs.dac_model_world.ModelWorld.{event_of}
 use Rattle.dac_settle.specs.dac_model_world.laws.Follow.{follows_in, hears_in}
+use Rattle.dac_core.proofs.Readiness.{gone_at, stayed_at}
 use Rattle.dac_core.proofs.world.World.step.Goals as goal
 
-pub returns-clause-follows : goal.returns-clause-follows
-returns-clause-follows c =
+pub returns-in-Ok-clause-follows : goal.returns-in-Ok-clause-follows
+returns-in-Ok-clause-follows c =
+    let v = c.args.self.now in
     let inside : c.args.event.now.node.0 < length c.self.inside.nodes.items = search rules in
-    follows_in c.args.config.now c.args.self.now c.happen_at.new.self c.args.event.now c.happen_at.result (subst (λ (v : WorldValue). c.args.event.now.node.0 < length v.nodes) c.self.view_is inside) c.happen_at.ensures.happens
+    let there = subst (λ (x : WorldValue). c.args.event.now.node.0 < length x.nodes) c.self.view_is inside in
+    follows_in c.args.config.now v c.go_on.new.self c.args.event.now c.go_on.result there
+    (gone_at c.args.config.now v c.prepare_at.new.self c.go_on.new.self c.args.event.now.node (event_of v.operations v.messages c.args.event.now.what) c.in-Ok.change c.go_on.result c.prepare_at.ensures.unchanged there c.in-Ok.ensures.prepared c.go_on.ensures.ok c.go_on.ensures.err c.go_on.ensures.crash c.go_on.ensures.unchanged)
 
-pub returns-clause-heard : goal.returns-clause-heard
-returns-clause-heard c = hears_in c.args.config.now c.args.self.now c.happen_at.new.self c.args.event.now c.happen_at.result c.happen_at.ensures.happens
+pub returns-in-Ok-clause-heard : goal.returns-in-Ok-clause-heard
+returns-in-Ok-clause-heard c =
+    let v = c.args.self.now in
+    let inside : c.args.event.now.node.0 < length c.self.inside.nodes.items = search rules in
+    let there = subst (λ (x : WorldValue). c.args.event.now.node.0 < length x.nodes) c.self.view_is inside in
+    hears_in c.args.config.now v c.go_on.new.self c.args.event.now c.go_on.result
+    (gone_at c.args.config.now v c.prepare_at.new.self c.go_on.new.self c.args.event.now.node (event_of v.operations v.messages c.args.event.now.what) c.in-Ok.change c.go_on.result c.prepare_at.ensures.unchanged there c.in-Ok.ensures.prepared c.go_on.ensures.ok c.go_on.ensures.err c.go_on.ensures.crash c.go_on.ensures.unchanged)
+
+pub returns-in-Err-clause-follows : goal.returns-in-Err-clause-follows
+returns-in-Err-clause-follows c =
+    let v = c.args.self.now in
+    let inside : c.args.event.now.node.0 < length c.self.inside.nodes.items = search rules in
+    let there = subst (λ (x : WorldValue). c.args.event.now.node.0 < length x.nodes) c.self.view_is inside in
+    follows_in c.args.config.now v c.prepare_at.new.self c.args.event.now (Err c.in-Err.fault) there
+    (stayed_at c.args.config.now v c.prepare_at.new.self c.args.event.now.node (event_of v.operations v.messages c.args.event.now.what) c.in-Err.fault c.prepare_at.ensures.unchanged c.in-Err.ensures.fault)
