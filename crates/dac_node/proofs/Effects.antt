@@ -149,7 +149,7 @@ effect_fits t last r e change none countable f = record {
     to_fits Off h = tt
     to_fits (Boots b) h = tt
     to_fits (GoesOn next) h = h
-    to_fits (Keeps peers trim) h = omega (arith, countable)
+    to_fits (Keeps peers trim) h = (omega (arith, countable), λ _. refl)
 
     by : (b : Bool) → FitsIn (Some r) (cond b Off (GoesOn (next_by r f.noted (deed_of t r f.noted e))))
     by true = tt
