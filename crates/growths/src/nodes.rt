@@ -23,7 +23,7 @@ pub enum Happens {
     Down,
     Takeover,
     Tick,
-    /// A tick that makes a board: it is the eighth one since the state changed.
+    /// A tick at a state that others have seen: it shares their waits.
     StillTick,
     ShipWhole,
     ShipInterval,
