@@ -3,7 +3,7 @@
 use crate::steps::{Kind, Step, state_after};
 use dac_base::AppId;
 use dac_config::{Config, read_config};
-use dac_decide::{Opening, Waits, gate};
+use dac_decide::{Board, Opening, Waits, gate};
 use dac_state::{How, State};
 use std::alloc::Global;
 
@@ -102,6 +102,22 @@ fn failovers_wait(rt: HostRuntime) {
         let answer = is_due_after(rt.alloc(), notes, steps, *now);
         assert!(rt; answer == Some(*due), "at {now}");
     }
+}
+
+/// Whether a note of what these steps mean would change nothing after these notes.
+fn are_quiet_after(alloc: Global, notes: &[(&[Step], u64)], steps: &[Step]) -> Option<bool> {
+    let config = read_config(alloc, FAILOVER).ok()?;
+    let waits = waits_after(alloc, &config, notes)?;
+    let state = state_after(alloc, steps, &[])?;
+    let board = Board::new(alloc, &config, &state).ok()?;
+    Some(waits.are_quiet(&config, &board))
+}
+
+#[test]
+fn quiet_waits(rt: HostRuntime) {
+    assert!(rt; are_quiet_after(rt.alloc(), &[], RUNNING) == Some(true));
+    assert!(rt; are_quiet_after(rt.alloc(), &[], LOST) == Some(false));
+    assert!(rt; are_quiet_after(rt.alloc(), &[(LOST, 1000)], RUNNING) == Some(false));
 }
 
 /// Three nodes, of which the second is mandatory and the third optional.

@@ -119,7 +119,8 @@ fn are_groups(config: &Config) -> bool {
             return false;
         }
     }
-    config.sync_wait() == SyncWait::NoSync
+    let is_like_itself = config.apps() > 0 && config.lists_alike(config, AppId(0));
+    is_like_itself && config.sync_wait() == SyncWait::NoSync
 }
 
 #[test]
