@@ -6,7 +6,7 @@
 
 pub use either::Either;
 pub use parting::{joined, parted};
-pub use phases::run_phases;
+pub use phases::{run_phases, workers_of};
 pub use worker::{Side, Stop, Turn, Worker};
 
 mod either;

@@ -1,11 +1,12 @@
 //! A phase of all workers, and the round behind it.
 
-ghost use Rattle.std.specs.Prelude.{◌≡◌, true, false, None, IfSome};
+ghost use Rattle.std.specs.Prelude.{◌≡◌, ◌⊎◌, true, false, map, None, Ok, IfOk, IfErr, IfSome};
 ghost use Rattle.std.specs.Thread.{IsSend};
-ghost use Rattle.dac_run.specs.declared.worker.Stop.TheVariants.{Fault};
+ghost use Rattle.dac_run.specs.Told.{IsTold};
+ghost use Rattle.dac_run.specs.declared.worker.Stop.TheVariants.{Fault, NoMemory as WantOfMemory};
 
 use crate::worker::{Side, Stop, Turn, Worker};
-use dac_base::NodeId;
+use dac_base::{NoMemory, NodeId};
 use std::alloc::Global;
 use std::sync::Wait;
 use std::thread;
@@ -60,40 +61,56 @@ fn ended<W: Worker, R: Threads + Wait>(rt: &R, started: Started<W>) -> Result<W,
     }
 }
 
-/// What is told of a worker's fault, where this was told before it. A consequence is told only where nothing was.
-fn louder<W: Worker>(told: Option<Stop<W::Fault>>, fault: W::Fault) -> Stop<W::Fault>
-    ensures cause { W.is_cause fault ≡ true → result ≡ Fault fault }
+/// The fault that is told of a worker's and of the one that was told before it: a consequence is told only if nothing was.
+fn louder<W: Worker>(told: Option<W::Fault>, fault: W::Fault) -> W::Fault
+    ensures cause { W.is_cause fault ≡ true → result ≡ fault }
     ensures kept { W.is_cause fault ≡ false → IfSome told (λ before. result ≡ before) }
-    ensures alone { told ≡ None → result ≡ Fault fault }
+    ensures alone { told ≡ None → result ≡ fault }
 {
     match told {
         Some(before) if !W::is_cause(&fault) => before,
-        _ => Stop::Fault(fault),
+        _ => fault,
     }
 }
 
-/// Waits for all workers, in order. Of several faults the last cause is told, and the first fault if none is a cause. So it doesn't
-/// hang on the order of the workers whether a cause is told.
+/// The workers of a phase, in order, if none of their outcomes is a fault. Of several faults the last cause is told, and the first
+/// fault if none is a cause. So whether a cause is told doesn't depend on the order of the workers.
+///
+/// `NoMemory` comes if the list of workers has no room. `NoThread` never comes.
+pub fn workers_of<W: Worker>(
+    alloc: Global,
+    outcomes: Vec<Result<W, W::Fault>>,
+) -> Result<Vec<W>, Stop<W::Fault>>
+    ensures ok { IfOk result (λ workers. map Ok workers.items ≡ outcomes.items) }
+    ensures err { IfErr result (λ stop. (stop ≡ WantOfMemory) ⊎ ((fault : _)
+        × (stop ≡ Fault fault) × IsTold W.is_cause outcomes.items fault)) }
+{
+    let mut workers = Vec::new(alloc);
+    let mut told = None;
+    for outcome in outcomes {
+        match outcome {
+            Ok(worker) => workers.push(worker)?,
+            Err(fault) => told = Some(louder::<W>(told, fault)),
+        }
+    }
+    match told {
+        Some(fault) => Err(Stop::Fault(fault)),
+        None => Ok(workers),
+    }
+}
+
+/// Waits for all workers, in order.
 fn join_all<W: Worker, R: Threads + Wait>(
     rt: &R,
     alloc: Global,
     all: Vec<Started<W>>,
-) -> Result<Vec<W>, Stop<W::Fault>> {
-    let mut workers = Vec::new(alloc);
-    let mut stop = None;
+) -> Result<Vec<Result<W, W::Fault>>, NoMemory> {
+    let mut outcomes = Vec::new(alloc);
+    outcomes.reserve(all.len())?;
     for started in all {
-        match ended(rt, started) {
-            Ok(worker) => match workers.push(worker) {
-                Ok(()) => {}
-                Err(_) => stop = Some(Stop::NoMemory),
-            },
-            Err(fault) => stop = Some(louder::<W>(stop, fault)),
-        }
+        outcomes.push(ended(rt, started))?;
     }
-    match stop {
-        Some(stop) => Err(stop),
-        None => Ok(workers),
-    }
+    Ok(outcomes)
 }
 
 /// A phase: all workers that have work run at once, each in a thread of its own, until all have ended.
@@ -110,7 +127,8 @@ fn run_phase<W: Worker, R: Threads + Wait + Sync>(
             requires { IsSend W.row }
         {
             let all = start_all(scope, rt, alloc, phase, workers)?;
-            join_all(rt, alloc, all)
+            let outcomes = join_all(rt, alloc, all)?;
+            workers_of(alloc, outcomes)
         },
     )
 }

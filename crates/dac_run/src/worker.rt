@@ -38,12 +38,20 @@ pub enum Stop<F> {
 }
 
 impl<F> From<NoMemory> for Stop<F> {
+    ghost use Rattle.dac_run.specs.declared.worker.Stop.TheVariants.{NoMemory as WantOfMemory};
+
+    ghost from_gives = { λ _ stop. stop ≡ WantOfMemory };
+
     fn from(_refused: NoMemory) -> Self {
         Stop::NoMemory
     }
 }
 
 impl<T: Drop, F> From<AllocFailed<T>> for Stop<F> {
+    ghost use Rattle.dac_run.specs.declared.worker.Stop.TheVariants.{NoMemory as WantOfMemory};
+
+    ghost from_gives = { λ _ stop. stop ≡ WantOfMemory };
+
     fn from(_failed: AllocFailed<T>) -> Self {
         Stop::NoMemory
     }
