@@ -21,11 +21,11 @@ pub after_tick-requires-clause-grown : goal.after_tick-requires-clause-grown
 after_tick-requires-clause-grown c =
     let t = c.args.config.now in
     let k = c.running.inside.knowledge in
-    let waits = c.in_ok-waits.waits in
+    let waits = c.deref.result.now in
     let turn = turn_of t k.origin waits c.args.now k.state in
-    let made = c.in_ok-waits.ensures.turn in
+    let made = c.in_ok-turn.ensures in
     let items = c.in_ok-deltas.ensures ∙ ap meanings (c.as_slice.ensures ∙ made.ops) in
-    c.in_ok-state.ensures ∙ (left_is k.state turn c.in_ok-waits.turn made ∙ (state_joined t k.origin waits c.args.now k.state ∙ ap (fold join k.state) (sym items)))
+    c.in_ok-state.ensures ∙ (left_is k.state turn c.in_ok-turn.turn made ∙ (state_joined t k.origin waits c.args.now k.state ∙ ap (fold join k.state) (sym items)))
 
 pub returns : goal.returns
 returns c =
@@ -33,13 +33,14 @@ returns c =
     let k = c.running.inside.knowledge in
     let r = running_of k c.running.inside.buffer in
     let now = c.args.now in
-    let waits = c.in_ok-waits.waits in
-    let made = c.in_ok-waits.ensures.turn in
+    let waits = c.deref.result.now in
+    let noted = c.deref.ensures in
+    let made = c.in_ok-turn.ensures in
     let items = c.in_ok-deltas.ensures ∙ ap meanings (c.as_slice.ensures ∙ made.ops) in
-    let next = c.in_ok-next.ensures ∙ (λ i. ticking k now true (c.in_ok-noted.ensures.ok i) (items i)) in
+    let next = c.in_ok-next.ensures ∙ (λ i. ticking k now true (sym noted i) (items i)) in
     let opened = subst (λ (x : RunningValue). opening_at t x now ≡ Opened) (sym c.running.view_is) c.requires.open in
     subst (λ (x : RunningValue). Effect t c.args.last x (Tick now) c.in_ok-change.change) c.running.view_is
-    (claimed_effect t c.args.last r now opened waits c.in_ok-waits.ensures.noted c.in_ok-change.change (c.in_ok-change.ensures ∙ (λ i. record { last = c.args.last; after = GoesOn (next i); reply = Ticked (made.ops i) (made.passed i) })))
+    (claimed_effect t c.args.last r now opened waits (λ notes stands. noted ∙ c.in_ok-noted.ensures notes stands) c.in_ok-change.change (c.in_ok-change.ensures ∙ (λ i. record { last = c.args.last; after = GoesOn (next i); reply = Ticked (made.ops i) (made.passed i) })))
 
 pub after_tick-requires-clause-order : goal.after_tick-requires-clause-order
 after_tick-requires-clause-order c =
