@@ -134,9 +134,8 @@ fn push_token(buffer: &mut Buffer<Token>) -> Result<(), NoMemory> {
     Ok(())
 }
 
-/// So many tokens.
-fn tokens(alloc: Global, count: u64) -> Result<Buffer<Token>, NoMemory> {
-    let mut buffer = Buffer::new(alloc);
+/// The buffer with so many tokens more.
+fn with_tokens(mut buffer: Buffer<Token>, count: u64) -> Result<Buffer<Token>, NoMemory> {
     for _ in 0..count {
         push_token(&mut buffer)?;
     }
@@ -165,9 +164,9 @@ fn joins_and_next(
     Ok((before, joins(&buffer, from)?))
 }
 
-/// Nine tokens, of which the interval from the fourth on is remembered.
+/// Nine tokens in a lazy buffer, of which the interval from the fourth on is remembered.
 fn remembering(alloc: Global) -> Result<Buffer<Token>, NoMemory> {
-    let mut buffer = tokens(alloc, 9)?;
+    let mut buffer = with_tokens(Buffer::lazy(alloc), 9)?;
     if 3 <= buffer.count() {
         if let Some(joined) = buffer.interval(3)? {
             buffer.remember(3, joined);
@@ -189,21 +188,39 @@ fn remembered_interval_is_copied(rt: HostRuntime) {
     assert!(rt; beside_remembered(rt.alloc(), 2) == Ok((Some(6), Some(7))));
 }
 
-/// By how many joins the interval from a delta on is made of so many tokens, where joins of blocks are made for that from
-/// another delta on. Then the same once one delta more came.
+/// By how many joins the interval from a delta on is made of so many tokens in a lazy buffer, where joins of blocks are made for
+/// that from another delta on. Then the same once one delta more came.
 fn warmed(
     alloc: Global,
     count: u64,
     to_warm: u64,
     from: u64,
 ) -> Result<(Option<u64>, Option<u64>), NoMemory> {
-    let mut buffer = tokens(alloc, count)?;
+    let mut buffer = with_tokens(Buffer::lazy(alloc), count)?;
     buffer.warm(to_warm)?;
     joins_and_next(buffer, from)
 }
 
-/// How many tokens, for the interval from which delta on joins of blocks are made, and from which one it is asked for. Then by
-/// how many joins that one is made, before and after one delta more. For two deltas no joins of blocks are made.
+/// How many tokens, and from which delta on the interval is asked for. Then by how many joins it is made, before and after one
+/// delta more: it joins just its blocks, since pushes made the joins of these.
+const PUSHED: &[(u64, u64, u64, u64)] = &[(9, 0, 1, 1), (300, 45, 7, 8)];
+
+#[test]
+fn pushes_make_the_joins_of_blocks(rt: HostRuntime) {
+    for (count, from, before, after) in PUSHED {
+        let answer = match with_tokens(Buffer::new(rt.alloc()), *count) {
+            Ok(buffer) => joins_and_next(buffer, *from),
+            Err(refused) => Err(refused),
+        };
+        assert!(rt;
+            answer == Ok((Some(*before), Some(*after))),
+            "{count}, {from}"
+        );
+    }
+}
+
+/// How many tokens, for the interval from which delta on a lazy buffer makes its joins of blocks, and from which one it is asked
+/// for. Then by how many joins that one is made, before and after one delta more. For two deltas no joins of blocks are made.
 const WARMED: &[(u64, u64, u64, u64, u64)] = &[
     (9, 7, 0, 8, 9),
     (9, 6, 0, 1, 2),
@@ -230,7 +247,7 @@ fn greatest_warmed(
     to: u64,
     from: u64,
 ) -> Result<(Option<u64>, Option<u64>), NoMemory> {
-    let mut buffer = Buffer::new(alloc);
+    let mut buffer = Buffer::lazy(alloc);
     for number in [5u64, 9, 2, 7, 1, 8, 3, 6, 4] {
         push(&mut buffer, number)?;
     }
