@@ -33,7 +33,7 @@ import random_live
 import random_racing
 import random_scripts
 import random_texts
-import sim
+import simulator
 
 Answer = Tuple[bytes, int]
 Model = Callable[[bytes], Answer]
@@ -92,12 +92,12 @@ def by_recording(judge: recorded.Judge) -> Judge:
 
 KINDS = {
     "check": Kind("check", random_texts.random_text, by_model(check.check)),
-    "sim": Kind("sim", random_scripts.random_script, by_model(sim.simulate)),
+    "sim": Kind("sim", random_scripts.random_script, by_model(simulator.simulate)),
     "live": Kind("live", random_live.random_live, by_model(live.run_live)),
     "racing": Kind("live", random_racing.random_racing, by_what_holds),
     "recorded": Kind("record", random_live.random_live, by_recording(recorded.by_outcome)),
     "recorded races": Kind("record", random_racing.random_racing, by_recording(recorded.by_races)),
-    "packets": Kind("sim", random_scripts.random_packets, by_model(sim.simulate)),
+    "packets": Kind("sim", random_scripts.random_packets, by_model(simulator.simulate)),
     **{
         f"found {command}": Kind(word, partial(found.source, command), by_model(found.MODELS[command]))
         for command, word in found.WORDS.items()
