@@ -134,18 +134,26 @@ class Nightly(unittest.TestCase):
         self.run_it("--only", "stacks")
         self.assertEqual(self.older(), ["stacks"])
 
+    def ended_by(self, number: int, begun: Path) -> int:
+        """The status of a run that a signal ends once its part has begun."""
+        with self.start("--only", "stacks", "examples") as started:
+            until = time.monotonic() + MOST_SECONDS
+            while not (begun.exists() and begun.read_text().endswith("\n")):
+                self.assertLess(time.monotonic(), until)
+                time.sleep(0.05)
+            started.send_signal(number)
+            started.communicate(timeout=MOST_SECONDS)
+        return started.returncode
+
     def test_a_signal_keeps_what_was_kept(self) -> None:
         self.run_it("--only", "stacks", "examples")
         before = self.rows()
-        self.script("stacks", f"echo >{self.top}/out/begun; sleep 60")
-        with self.start("--only", "stacks", "examples") as started:
-            until = time.monotonic() + MOST_SECONDS
-            while not (self.top / "out" / "begun").exists():
-                self.assertLess(time.monotonic(), until)
-                time.sleep(0.05)
-            started.send_signal(signal.SIGTERM)
-            started.communicate(timeout=MOST_SECONDS)
-        self.assertEqual(started.returncode, 128 + signal.SIGTERM)
+        begun = self.top / "out" / "begun"
+        self.script("stacks", f"echo $$ >{begun}; exec sleep 60")
+        for number in (signal.SIGTERM, signal.SIGINT, signal.SIGHUP):
+            self.assertEqual(self.ended_by(number, begun), 128 + number)
+            self.assertFalse(Path("/proc", begun.read_text().strip()).exists(), number)
+            begun.unlink()
         self.git("checkout", "-q", ".")
         after = self.rows()
         self.assertEqual([after[name][3:] for name in ("stacks", "fuzz")], [before[name][3:] for name in ("stacks", "fuzz")])
