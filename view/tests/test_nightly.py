@@ -18,6 +18,12 @@ SCRIPTS = ("races", "growths", "stacks", "mutants", "fuzz", "examples/check")
 MODELS = ("processes.py", "arguments.py", "instrumented.py")
 # A crate that no program uses, and those that the programs are made of.
 CRATES = "# all\nlow: core\nother: core\ndistac: low\ngrowths: low\n"
+# A launcher that has a program once it was asked to compile one.
+LAUNCHER = """cd "$(dirname "$0")"
+case "$*" in
+    --which) [ -f out/program ] && echo "not proved: $PWD/out/program" || echo none ;;
+    "--unproved --help") mkdir -p out && touch out/program ;;
+esac"""
 MOST_SECONDS = 60
 
 
@@ -33,7 +39,7 @@ class Nightly(unittest.TestCase):
             shutil.copy(TOP / name, self.top / name)
         for name in SCRIPTS:
             self.script(name, f'echo "{name} | right"')
-        self.script("distac", "echo none")
+        self.script("distac", LAUNCHER)
         self.write("models/compare.py", "print('compare | right')\n")
         self.write("crates.txt", CRATES)
         for crate in ("low", "other", "distac", "growths"):
@@ -120,6 +126,13 @@ class Nightly(unittest.TestCase):
         self.git("checkout", "-q", ".")
         (self.top / "models" / "new.py").unlink()
         self.assertEqual(self.older(), ["stacks"])
+
+    def test_a_program_that_is_compiled_first(self) -> None:
+        for state in ("none", "stale: somewhere"):
+            self.script("distac", LAUNCHER.replace("echo none", f"echo {state}"))
+            self.run_it("--only", "compare")
+            self.assertIn("`python3 models/compare.py out/program --seed", self.rows()["compare"][0], state)
+            (self.top / "out" / "program").unlink()
 
     def test_another_toolchain_and_a_failure(self) -> None:
         self.script("stacks", "echo wrong; exit 3")
