@@ -1,12 +1,14 @@
 #!/usr/bin/env python3
 """Runs the program and the models on the same random inputs, and prints the first difference whole.
 
-Usage: python3 compare.py PROGRAM [--seed S] [--count N] [--scripts M] [--live L] [--racing R] [--recorded D] [--packets P] [--jobs J]
+Usage: python3 compare.py PROGRAM [--seed S] [--count N] [--scripts M] [--live L] [--racing R] [--recorded D] [--packets P]
+       [--still T] [--reboots B] [--keys K] [--jobs J]
 
 PROGRAM may be a command of several words in one argument, as of a loader with its arguments. The word `check`, `sim`, `live` or `record`
 is added to it. A live run that hasn't ended after some minutes is a difference too. Packets are fed to `sim`, 500 by a script.
 What racing live scripts print hangs on the order of the threads. It is checked by what has to hold of each run: see racing.py.
 Such scripts and those with one outcome are recorded too: see recorded.py.
+Of long scripts some have many ticks at which nothing changes, some many reboots, and some maps of many keys: see random_long.py.
 The inputs that ./fuzz found are played too, all of them: see found.py.
 The last line counts, and says whether PROGRAM is the proved program. Of a program elsewhere, as a copy, it says that it isn't.
 """
@@ -17,6 +19,7 @@ import argparse
 import shlex
 import subprocess
 import sys
+from collections import Counter
 from collections.abc import Iterator
 from concurrent.futures import ProcessPoolExecutor
 from dataclasses import dataclass
@@ -30,16 +33,19 @@ import programs
 import racing
 import recorded
 import random_live
+import random_long
 import random_racing
 import random_scripts
 import random_texts
-import sim
+import simulator
 
 Answer = Tuple[bytes, int]
 Model = Callable[[bytes], Answer]
 # Of an input and what the program answered: what is wrong with that, as a text, or nothing.
 Judge = Callable[[bytes, Answer], Optional[str]]
 BATCH = 50
+# What is counted of long scripts, by the words that its lines begin with.
+COUNTED = {"still": (b"tick ",), "reboots": (b"crash ",), "keys": (b"permit ", b"start ")}
 MOST_SECONDS = 300
 
 
@@ -61,6 +67,14 @@ class Difference:
     source: bytes
     program: Answer
     judged: str
+
+
+@dataclass(frozen=True)
+class Compared:
+    """The differences among some inputs, and how many lines of each kind of long scripts are counted."""
+
+    differences: list[Difference]
+    lines: Counter[str]
 
 
 def shown(who: str, answer: Answer) -> str:
@@ -92,12 +106,13 @@ def by_recording(judge: recorded.Judge) -> Judge:
 
 KINDS = {
     "check": Kind("check", random_texts.random_text, by_model(check.check)),
-    "sim": Kind("sim", random_scripts.random_script, by_model(sim.simulate)),
+    "sim": Kind("sim", random_scripts.random_script, by_model(simulator.simulate)),
     "live": Kind("live", random_live.random_live, by_model(live.run_live)),
     "racing": Kind("live", random_racing.random_racing, by_what_holds),
     "recorded": Kind("record", random_live.random_live, by_recording(recorded.by_outcome)),
     "recorded races": Kind("record", random_racing.random_racing, by_recording(recorded.by_races)),
-    "packets": Kind("sim", random_scripts.random_packets, by_model(sim.simulate)),
+    "packets": Kind("sim", random_scripts.random_packets, by_model(simulator.simulate)),
+    **{kind: Kind("sim", partial(random_long.random_long, kind), by_model(simulator.simulate)) for kind in COUNTED},
     **{
         f"found {command}": Kind(word, partial(found.source, command), by_model(found.MODELS[command]))
         for command, word in found.WORDS.items()
@@ -115,31 +130,41 @@ def run_program(program: list[str], word: str, source: bytes) -> Answer:
     return done.stdout, done.returncode
 
 
-def compare_batch(program: list[str], word: str, seed: int, numbers: range) -> list[Difference]:
-    """The differences among the inputs of some numbers."""
+def counted_in(word: str, source: bytes) -> int:
+    """How many lines of an input are counted."""
+    return sum(line.startswith(COUNTED[word]) for line in source.split(b"\n")) if word in COUNTED else 0
+
+
+def compare_batch(program: list[str], word: str, seed: int, numbers: range) -> Compared:
+    """What is found of the inputs of some numbers."""
     kind = KINDS[word]
-    differences = []
+    found = Compared([], Counter())
     for number in numbers:
         source = kind.make(seed, number)
         said = run_program(program, kind.word, source)
         judged = kind.judge(source, said)
+        found.lines[word] += counted_in(word, source)
         if judged is not None:
-            differences.append(Difference(word, number, source, said, judged))
-    return differences
+            found.differences.append(Difference(word, number, source, said, judged))
+    return found
 
 
 def batches(word: str, count: int) -> Iterator[tuple[str, range]]:
-    """The numbers of all inputs of a kind, in batches."""
-    for start in range(0, count, BATCH):
-        yield word, range(start, min(start + BATCH, count))
+    """The numbers of all inputs of a kind, in batches. A long one is a batch of its own."""
+    size = 1 if word in COUNTED else BATCH
+    for start in range(0, count, size):
+        yield word, range(start, min(start + size, count))
 
 
-def compare_all(program: list[str], seed: int, counts: dict[str, int], jobs: int) -> list[Difference]:
-    """All differences, found by several processes at once."""
+def compare_all(program: list[str], seed: int, counts: dict[str, int], jobs: int) -> Compared:
+    """What is found of all inputs, by several processes at once."""
     work = [batch for word, count in counts.items() for batch in batches(word, count)]
+    found = Compared([], Counter())
     with ProcessPoolExecutor(jobs) as pool:
-        tasks = [pool.submit(compare_batch, program, word, seed, numbers) for word, numbers in work]
-        return [difference for task in tasks for difference in task.result()]
+        for task in [pool.submit(compare_batch, program, word, seed, numbers) for word, numbers in work]:
+            found.differences.extend(task.result().differences)
+            found.lines.update(task.result().lines)
+    return found
 
 
 def show(difference: Difference) -> None:
@@ -161,9 +186,17 @@ def arguments() -> argparse.Namespace:
     parser.add_argument("--racing", type=int, default=300, help="how many scripts for `live` whose answers hang on the threads")
     parser.add_argument("--recorded", type=int, default=200, help="how many scripts of either kind for `record`")
     parser.add_argument("--packets", type=int, default=20_000, help="how many packets for `feed`, at least")
+    parser.add_argument("--still", type=int, default=20, help="how many scripts for `sim` of ticks at which nothing changes")
+    parser.add_argument("--reboots", type=int, default=3, help="how many scripts for `sim` of hundreds or thousands of reboots")
+    parser.add_argument("--keys", type=int, default=20, help="how many scripts for `sim` of 1 to 1,088 keys")
     parser.add_argument("--jobs", type=int, default=2)
     parser.add_argument("program", type=shlex.split, help="the program, or a command of several words")
     return parser.parse_args()
+
+
+def of_long(lines: Counter[str]) -> str:
+    """What long scripts have."""
+    return f"{lines['still']} ticks, {lines['reboots']} reboots and {lines['keys']} keys given"
 
 
 def main() -> int:
@@ -172,15 +205,17 @@ def main() -> int:
     feeds = -(-words.packets // random_scripts.PACKETS)
     counts = {"check": words.count, "sim": words.scripts, "live": words.live, "racing": words.racing, "packets": feeds}
     counts.update({"recorded": words.recorded, "recorded races": words.recorded})
+    counts.update({"still": words.still, "reboots": words.reboots, "keys": words.keys})
     kept = {f"found {command}": len(found.kept(command)) for command in found.WORDS}
-    differences = compare_all(words.program, words.seed, {**counts, **kept}, words.jobs)
-    if differences:
-        show(differences[0])
+    compared = compare_all(words.program, words.seed, {**counts, **kept}, words.jobs)
+    if compared.differences:
+        show(compared.differences[0])
     state = "proved" if programs.is_proved(words.program) else "not proved"
     lives = f"{words.live} live scripts, {words.racing} racing live scripts, {2 * words.recorded} recorded runs"
     made = f"{words.count} texts, {words.scripts} scripts, {lives}, {feeds * random_scripts.PACKETS} packets"
-    print(f"{made}, {sum(kept.values())} found inputs, {len(differences)} differences; the program is {state}")
-    return 1 if differences else 0
+    long = f"{words.still + words.reboots + words.keys} long scripts with {of_long(compared.lines)}"
+    print(f"{made}, {long}, {sum(kept.values())} found inputs, {len(compared.differences)} differences; the program is {state}")
+    return 1 if compared.differences else 0
 
 
 if __name__ == "__main__":

@@ -15,7 +15,7 @@ from typing import Tuple
 import check
 import live
 import seeds
-import sim
+import simulator
 
 FOLDER = Path(__file__).resolve().parent / "found"
 # The program's word for each command that is tried.
@@ -25,9 +25,9 @@ FEEDS = seeds.PACKETS_UNDER + seeds.PARTED + b"feed "
 Answer = Tuple[bytes, int]
 MODELS: dict[str, Callable[[bytes], Answer]] = {
     "check": check.check,
-    "sim": sim.simulate,
+    "sim": simulator.simulate,
     "live": live.run_live,
-    "feed": sim.simulate,
+    "feed": simulator.simulate,
 }
 
 

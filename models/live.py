@@ -16,7 +16,7 @@ from dataclasses import dataclass, field
 from typing import Callable, List
 
 from check import Config, ConfigFault
-from sim import ACTOR, COMMANDS, SHAPES, VERB, InputFault, Line, LineReader, Printer, ScriptFault, Value, read_input
+from simulator import ACTOR, COMMANDS, SHAPES, VERB, InputFault, Line, LineReader, Printer, ScriptFault, Value, read_input
 from wire import WireFault, read_packet
 from world import Refused, World
 

@@ -1,6 +1,6 @@
 """The processes that a script starts. A run of the script that is ended ends all that it started, and leaves nothing behind.
 
-Ctrl-C and SIGTERM end a run. The work of the script runs in a thread beside the main one, which only waits and answers signals.
+Ctrl-C, SIGTERM and a terminal that is closed end a run. The work of the script runs in a thread beside the main one, which only waits and answers signals.
 So no signal comes amid the start of a process.
 """
 
@@ -133,9 +133,15 @@ def end(number: int, _frame: FrameType | None) -> NoReturn:
     sys.exit(128 + number)
 
 
+def handle_signals(handler: Callable[[int, FrameType | None], object]) -> None:
+    """Has a function answer the signals that ask a run to end. `nohup` has one of them ignored, and that stays."""
+    for number in (signal.SIGHUP, signal.SIGINT, signal.SIGTERM):
+        if number != signal.SIGHUP or signal.getsignal(number) != signal.SIG_IGN:
+            signal.signal(number, handler)
+
+
 def work_until_ended(work: Callable[[], int]) -> int:
     """Does the work of a script, and gives its status. A signal ends what the work started, and the work."""
-    for number in (signal.SIGINT, signal.SIGTERM):
-        signal.signal(number, end)
+    handle_signals(end)
     with ThreadPoolExecutor(1) as pool:
         return pool.submit(work).result()

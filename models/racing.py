@@ -25,7 +25,7 @@ from typing import List, Tuple
 from check import Config, spelled
 from live import READ, Asked, LiveReader, Phase, Run, phases_of
 from placement import FAILOVER, HALTED, KEPT, MOVE, NOBODY, START, TAKEOVER
-from sim import COMMANDS, HOW_NAMES, read_input
+from simulator import COMMANDS, HOW_NAMES, read_input
 from world import REFUSALS
 
 OK, FRESH = b"ok", b"fresh"

@@ -40,7 +40,7 @@ from live import CALLER, CALLER_SHAPES, MOST_NODES, READ, Asked, LiveReader, Run
 from random_packets import changed_bytes, random_packet
 from random_scripts import CONFIGS, ODD_WORDS, decorated, odd_input, weighted, with_fault
 from random_texts import random_text
-from sim import ACTOR, APP, NODE, NUMBER, TRUTH, VERB, ScriptFault, read_lines
+from simulator import ACTOR, APP, NODE, NUMBER, TRUTH, VERB, ScriptFault, read_lines
 from world import World
 
 Who = Tuple[int, int]

@@ -16,7 +16,7 @@ from random import Random
 from check import MOST_INPUT, Config, ConfigFault, read_config, spelled
 from random_packets import changed_bytes, random_packet
 from random_texts import random_text
-from sim import LineReader, Player
+from simulator import LineReader, Player
 from world import World
 
 CONFIGS = (

@@ -26,7 +26,7 @@ import racing
 from check import Config
 from live import READ, Asked, LiveReader, Phase, Run, phases_of
 from racing import OK, Broken, demand
-from sim import Line, LineReader, Player, Value, parted, read_input
+from simulator import Line, LineReader, Player, Value, parted, read_input
 
 SHIP, HEAR, PAGE = b"ship", b"hear", b"page"
 SHIPS_OF_PHASE = 5

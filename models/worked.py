@@ -19,7 +19,7 @@ from meaning import NORMAL, Claim, ClaimAct, Dot, Down, Drain, Key, Meaning, Ope
 from placement import load, verdict
 from racing import fault_of_run
 from random_live import outputs
-from sim import LineReader, Player, simulate
+from simulator import LineReader, Player, simulate
 from wire import FIRST, MAGIC, SECOND, WireFault, Writer, is_operation, packet_bytes, read_packet, read_state, rows_of
 from wire import state_bytes
 from world import World

@@ -13,6 +13,7 @@ OLDEST: Tuple[Tuple[str, Tuple[int, int]], ...] = (
     ("view/tests", (3, 10)),
     ("view", (3, 8)),
     ("distac-view", (3, 8)),
+    ("models", (3, 8)),
     ("tools", (3, 8)),
     ("believe", (3, 8)),
     ("check-documents", (3, 8)),

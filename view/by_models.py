@@ -15,7 +15,7 @@ FOLDER = Path(__file__).resolve().parent.parent / "models"
 def asked_of_models() -> Callable[[str, bytes], "tuple[bytes, int]"]:
     """What answers as the program does: a function from a subcommand and its input to what is printed and the exit status."""
     sys.path.insert(0, str(FOLDER))
-    models = {"check": import_module("check").check, "sim": import_module("sim").simulate}
+    models = {"check": import_module("check").check, "sim": import_module("simulator").simulate}
 
     def asked(word: str, source: bytes) -> tuple[bytes, int]:
         """The answer of a model."""

@@ -10,9 +10,9 @@ sys.path.insert(0, str(Path(__file__).resolve().parents[2] / "models"))
 
 import check
 import live
-import sim
+import simulator
 
-MODELS: Dict[str, Callable[[bytes], Tuple[bytes, int]]] = {"check": check.check, "sim": sim.simulate, "live": live.run_live}
+MODELS: Dict[str, Callable[[bytes], Tuple[bytes, int]]] = {"check": check.check, "sim": simulator.simulate, "live": live.run_live}
 
 
 def main() -> int:

@@ -2,9 +2,11 @@
 
 from __future__ import annotations
 
+import ast
 import runpy
 import shutil
 import subprocess
+import sys
 import unittest
 
 from support import TOP
@@ -40,6 +42,45 @@ REFUSED = (
 # Those whose first comment is their help.
 COMMENTED = ("growths", "mutants", "races", "fuzz", "stacks", "nightly")
 HELPED = ("tests", "examples/check", "check-documents", *COMMENTED)
+
+# Those that a reader runs first. A Python that is too old prints a sentence, so it has to be able to read them.
+PLAIN = ("believe", "check-documents", "models/sim.py")
+OLD_PYTHONS = ("python2", "python2.7", "python3.5", "python3.6", "python3.7")
+# What such a Python can't read.
+NEWER = (ast.AnnAssign, ast.AsyncFunctionDef, ast.FunctionDef, ast.JoinedStr, ast.NamedExpr, ast.Starred)
+VERSION = "import sys; sys.stdout.write('%d.%d' % sys.version_info[:2])"
+PRETENDS = "import sys; sys.version_info = (3, 7, 16); exec(compile(open(sys.argv[1]).read(), sys.argv[1], 'exec'))"
+
+
+def said_by_python(*words: str) -> "tuple[int, str, str]":
+    """The status of a Python, and what it prints. It gets no input."""
+    done = subprocess.run(words, stdin=subprocess.DEVNULL, capture_output=True, text=True, timeout=MOST_SECONDS, check=False)
+    return done.returncode, done.stdout, done.stderr
+
+
+class OldPythons(unittest.TestCase):
+    """What is run first says that a Python is too old."""
+
+    def expect(self, script: str, version: str, *words: str) -> None:
+        """A sentence with the version, and nothing else."""
+        sentence = f"{script.rpartition('/')[2]}: this is Python {version}, and 3.8 or later is needed\n"
+        self.assertEqual(said_by_python(*words, str(TOP / script)), (2, "", sentence), words)
+
+    def test_a_python_that_says_it_is_older(self) -> None:
+        for script in PLAIN:
+            self.expect(script, "3.7", sys.executable, "-c", PRETENDS)
+
+    def test_the_pythons_that_are_here(self) -> None:
+        for python in filter(shutil.which, OLD_PYTHONS):
+            status, version, _ = said_by_python(python, "-c", VERSION)
+            for script in PLAIN if status == 0 else ():
+                self.expect(script, version, python)
+
+    def test_nothing_newer_is_read(self) -> None:
+        for script in PLAIN:
+            tree = ast.parse((TOP / script).read_text())
+            self.assertEqual([type(node) for node in tree.body[:3]], [ast.Expr, ast.Import, ast.If], script)
+            self.assertEqual([ast.dump(node) for node in ast.walk(tree) if isinstance(node, NEWER)], [], script)
 
 
 class OwnCommands(unittest.TestCase):

@@ -1,0 +1,176 @@
+"""The script `nightly` in a repository whose parts are made up: what it keeps of each part, and which table it prints."""
+
+from __future__ import annotations
+
+import os
+import shutil
+import signal
+import subprocess
+import tempfile
+import time
+import unittest
+from pathlib import Path
+
+from support import TOP
+
+PARTS = ("examples", "races", "compare", "growths", "stacks", "mutants")
+SCRIPTS = ("races", "growths", "stacks", "mutants", "fuzz", "examples/check")
+MODELS = ("processes.py", "arguments.py", "instrumented.py")
+# A crate that no program uses, and those that the programs are made of.
+CRATES = "# all\nlow: core\nother: core\ndistac: low\ngrowths: low\n"
+# A launcher that has a program once it was asked to compile one.
+LAUNCHER = """cd "$(dirname "$0")"
+case "$*" in
+    --which) [ -f out/program ] && echo "not proved: $PWD/out/program" || echo none ;;
+    "--unproved --help") mkdir -p out && touch out/program ;;
+esac"""
+MOST_SECONDS = 60
+
+
+class Nightly(unittest.TestCase):
+    """A repository of four crates."""
+
+    def setUp(self) -> None:
+        room = tempfile.TemporaryDirectory()
+        self.addCleanup(room.cleanup)
+        self.top = Path(room.name).resolve() / "top"
+        for name in ("nightly", *(f"models/{name}" for name in MODELS)):
+            (self.top / name).parent.mkdir(parents=True, exist_ok=True)
+            shutil.copy(TOP / name, self.top / name)
+        for name in SCRIPTS:
+            self.script(name, f'echo "{name} | right"')
+        self.script("distac", LAUNCHER)
+        self.write("models/compare.py", "print('compare | right')\n")
+        self.write("crates.txt", CRATES)
+        for crate in ("low", "other", "distac", "growths"):
+            self.write(f"crates/{crate}/src/lib.rt", "")
+            self.write(f"crates/{crate}/mutants/verdicts.tsv", "")
+        self.write(".gitignore", "out/\n__pycache__/\n")
+        self.toolchain("kit-1")
+        self.git("init", "-q")
+        self.git("add", "-A")
+        self.git("-c", "user.name=a", "-c", "user.email=a", "commit", "-q", "-m", "all")
+
+    def write(self, path: str, text: str) -> Path:
+        """A file."""
+        file = self.top / path
+        file.parent.mkdir(parents=True, exist_ok=True)
+        file.write_text(text)
+        return file
+
+    def script(self, path: str, text: str) -> None:
+        """A script that can be run."""
+        self.write(path, f"#!/bin/sh\n{text}\n").chmod(0o755)
+
+    def toolchain(self, name: str) -> None:
+        """A toolchain of a name, beside the repository."""
+        self.script("../bin/rt", f"echo {name}")
+
+    def git(self, *words: str) -> str:
+        """What git says."""
+        done = subprocess.run(["git", *words], cwd=self.top, stdout=subprocess.PIPE, text=True, check=True)
+        return done.stdout.strip()
+
+    def start(self, *words: str) -> "subprocess.Popen[str]":
+        """Starts the script."""
+        surroundings = {**os.environ, "PATH": f"{self.top.parent / 'bin'}:{os.environ['PATH']}"}
+        pipe = subprocess.PIPE
+        line = [str(self.top / "nightly"), *words]
+        return subprocess.Popen(line, env=surroundings, text=True, stdin=subprocess.DEVNULL, stdout=pipe, stderr=pipe)
+
+    def run_it(self, *words: str) -> "tuple[int, list[str]]":
+        """The status of the script, and the lines that it prints."""
+        with self.start(*words) as started:
+            output, errors = started.communicate(timeout=MOST_SECONDS)
+        self.assertEqual(errors, "")
+        return started.returncode, output.splitlines()
+
+    def rows(self) -> "dict[str, list[str]]":
+        """The cells of each row of the record, by the part."""
+        lines = self.run_it("--record")[1][4:]
+        cells = [[cell.strip() for cell in line.replace("\\|", "!").strip("|").split("|")] for line in lines]
+        return {row[0]: row[1:] for row in cells}
+
+    def older(self) -> "list[str]":
+        """The parts that are older than their sources."""
+        return [name for name, cells in self.rows().items() if "older than its sources" in cells[3]]
+
+    def test_the_record(self) -> None:
+        status, lines = self.run_it()
+        self.assertEqual((status, lines[-1]), (0, "6 of 6 parts ran, 6 ended with status 0"))
+        status, lines = self.run_it("--record")
+        commit = self.git("rev-parse", "--short=12", "HEAD")
+        self.assertEqual((status, lines[0]), (1, f"Commit {commit}, kit-1:"))
+        rows = self.rows()
+        self.assertEqual(list(rows), [*PARTS, "fuzz"])
+        self.assertEqual(rows["fuzz"], ["", "", "", "not run", ""])
+        self.assertEqual(rows["stacks"], ["`./stacks`", commit, "0:00:00", "status 0", "`stacks ! right`"])
+        self.assertEqual({rows[name][3] for name in PARTS}, {"status 0"})
+        self.assertEqual(self.run_it("--only", "fuzz")[0], 0)
+        self.assertEqual(self.run_it("--record")[0], 0)
+        self.assertEqual(self.git("status", "--porcelain"), "")
+
+    def test_what_is_older(self) -> None:
+        self.run_it()
+        self.write("crates/other/mutants/verdicts.tsv", "recorded")
+        self.assertEqual(self.older(), [])
+        self.write("crates/other/src/lib.rt", "changed")
+        self.assertEqual(self.older(), ["mutants"])
+        self.write("models/new.py", "")
+        self.assertEqual(self.older(), ["races", "compare", "growths", "stacks", "mutants"])
+        self.write("crates/low/src/lib.rt", "changed")
+        self.assertEqual(self.older(), list(PARTS))
+        self.assertEqual(self.run_it("--only", "stacks")[0], 0)
+        self.assertEqual(self.older(), [name for name in PARTS if name != "stacks"])
+        self.assertTrue(self.rows()["stacks"][1].endswith(" with changes"))
+        self.git("checkout", "-q", ".")
+        (self.top / "models" / "new.py").unlink()
+        self.assertEqual(self.older(), ["stacks"])
+
+    def test_a_program_that_is_compiled_first(self) -> None:
+        for state in ("none", "stale: somewhere"):
+            self.script("distac", LAUNCHER.replace("echo none", f"echo {state}"))
+            self.run_it("--only", "compare")
+            self.assertIn("`python3 models/compare.py out/program --seed", self.rows()["compare"][0], state)
+            (self.top / "out" / "program").unlink()
+
+    def test_another_toolchain_and_a_failure(self) -> None:
+        self.script("stacks", "echo wrong; exit 3")
+        self.assertEqual(self.run_it("--only", "stacks", "examples")[0], 1)
+        self.toolchain("kit-2")
+        rows = self.rows()
+        self.assertEqual([rows[name][3] for name in ("examples", "stacks")], ["status 0, by kit-1", "status 3, by kit-1"])
+        self.assertEqual(self.run_it("--record")[0], 1)
+
+    def test_a_change_while_a_part_runs(self) -> None:
+        self.script("stacks", f"echo changed >{self.top}/crates/low/src/lib.rt")
+        self.run_it("--only", "stacks")
+        self.assertEqual(self.older(), ["stacks"])
+
+    def ended_by(self, number: int, begun: Path) -> int:
+        """The status of a run that a signal ends once its part has begun."""
+        with self.start("--only", "stacks", "examples") as started:
+            until = time.monotonic() + MOST_SECONDS
+            while not (begun.exists() and begun.read_text().endswith("\n")):
+                self.assertLess(time.monotonic(), until)
+                time.sleep(0.05)
+            started.send_signal(number)
+            started.communicate(timeout=MOST_SECONDS)
+        return started.returncode
+
+    def test_a_signal_keeps_what_was_kept(self) -> None:
+        self.run_it("--only", "stacks", "examples")
+        before = self.rows()
+        begun = self.top / "out" / "begun"
+        self.script("stacks", f"echo $$ >{begun}; exec sleep 60")
+        for number in (signal.SIGTERM, signal.SIGINT, signal.SIGHUP):
+            self.assertEqual(self.ended_by(number, begun), 128 + number)
+            self.assertFalse(Path("/proc", begun.read_text().strip()).exists(), number)
+            begun.unlink()
+        self.git("checkout", "-q", ".")
+        after = self.rows()
+        self.assertEqual([after[name][3:] for name in ("stacks", "fuzz")], [before[name][3:] for name in ("stacks", "fuzz")])
+
+
+if __name__ == "__main__":
+    unittest.main()
