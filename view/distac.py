@@ -108,7 +108,8 @@ def runnable(path: str) -> str:
     """The program of this name or at this path."""
     program = shutil.which(path) if os.sep not in path else path
     if program is None or not os.path.isfile(program):
-        raise Problem(f"no program distac at {path}: name one by --distac PATH or by the environment variable DISTAC")
+        more = "name one by --distac PATH or by the environment variable DISTAC, or ask the models by --models"
+        raise Problem(f"no program distac at {path}: {more}")
     if not os.access(program, os.X_OK):
         raise Problem(f"{path} can't be run: it isn't executable")
     return program

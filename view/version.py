@@ -39,10 +39,15 @@ def commit_of(folder: Path) -> str:
     """The commit of a checkout. A folder that only stands inside of another checkout has none."""
     if not (folder / ".git").exists():
         return ""
-    words = ["git", "-C", str(folder), "describe", "--always", "--exclude=*", "--abbrev=40", f"--dirty={CHANGED}"]
+    return git_says(folder, "describe", "--always", "--exclude=*", "--abbrev=40", f"--dirty={CHANGED}") or ""
+
+
+def git_says(folder: Path, *words: str) -> str | None:
+    """What git says of a checkout, or none if it fails."""
+    line = ["git", "-C", str(folder), *words]
     surroundings = {name: value for name, value in os.environ.items() if not name.startswith("GIT_")}
     try:
-        done = subprocess.run(words, stdin=subprocess.DEVNULL, capture_output=True, env=surroundings, timeout=MOST_SECONDS, check=True)
+        done = subprocess.run(line, stdin=subprocess.DEVNULL, capture_output=True, env=surroundings, timeout=MOST_SECONDS, check=True)
     except (OSError, subprocess.SubprocessError):
-        return ""
-    return done.stdout.decode("ascii", "replace").strip()
+        return None
+    return done.stdout.decode("utf-8", "replace").strip()
