@@ -118,7 +118,7 @@ def opened_now(distac: Distac, checked: Checked, placed: Placed) -> Side:
     page = cluster.page(distac)
     for app, node in placed.places.items():
         if page.held[app].runs_at != node:
-            raise Problem(f"distac doesn't place {shown(app)} at {shown(node)}: it says {page.held[app].verdict}")
+            raise Problem(f"distac doesn't place {shown(bare_name(app))} at {shown(bare_name(node))}: it says {page.held[app].verdict}")
     return Side(cluster, page, configuration.nodes, unsaid=placed.fresh)
 
 

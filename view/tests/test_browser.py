@@ -28,7 +28,7 @@ TOO_WIDE = """
 """
 PAPER_TOO_WIDE = TOO_WIDE.replace(".wide, .claims, .drawing, .lines, svg", "svg")
 FACTS = """({
-  hit: typeof hit, scripts: document.scripts.length, lang: document.documentElement.lang, title: document.title,
+  viewport: document.querySelector("meta[name=viewport]").content, hit: typeof hit, scripts: document.scripts.length, lang: document.documentElement.lang, title: document.title,
   levels: [...document.querySelectorAll("h1, h2, h3")].map(each => Number(each.tagName[1])),
   width: document.documentElement.scrollWidth, inner: innerWidth, scale: visualViewport.scale,
   handlers: [...document.querySelectorAll("*")].filter(each => [...each.attributes].some(one => one.name.startsWith("on"))).length,
@@ -130,6 +130,7 @@ class InBrowser(unittest.TestCase):
             self.browser.open(path, 390)
             facts = self.browser.value(FACTS)
             self.assertEqual(facts["lang"], "en")
+            self.assertEqual(facts["viewport"], "width=device-width, initial-scale=1")
             self.assertRegex(facts["title"], r"\A[A-Z][a-z ]+: [^/]+\Z")
             levels: List[int] = facts["levels"]
             self.assertEqual((levels[0], levels.count(1)), (1, 1), name)
