@@ -125,5 +125,6 @@ class Browser:
         return base64.b64decode(self.ask("Page.captureScreenshot")["data"])
 
     def paper(self) -> bytes:
-        """The printed page."""
+        """The printed page, as somebody prints it who has dark colors on the screen."""
+        self.ask("Emulation.setEmulatedMedia", media="print", features=[{"name": "prefers-color-scheme", "value": "dark"}])
         return base64.b64decode(self.ask("Page.printToPDF", preferCSSPageSize=True, printBackground=False)["data"])

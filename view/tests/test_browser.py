@@ -5,6 +5,7 @@ It wants chromium in PATH, as Debian's package of that name brings it. Without o
 
 from __future__ import annotations
 
+import re
 import tempfile
 import unittest
 from pathlib import Path
@@ -16,6 +17,8 @@ from support import EXAMPLES, view
 WIDTHS = (390, 1280)
 # A page of A4 in pixels of the style, without its edges.
 PAPER_WIDTH, BROAD_PAPER_WIDTH = 688, 1046
+# In points, upright.
+A4 = (595, 842)
 HOSTILE = "'<img/src=x/onerror=hit=1><script>hit=1</script>'"
 MANY = "[{kernel,[{distributed,[%s]}]}].\n"
 
@@ -114,7 +117,9 @@ class InBrowser(unittest.TestCase):
             self.assertEqual(self.browser.value(PAPER_TOO_WIDE), [], name)
             colors = self.browser.value('[getComputedStyle(document.body).color, getComputedStyle(document.body).backgroundColor]')
             self.assertEqual(colors, ["rgb(0, 0, 0)", "rgb(255, 255, 255)"], name)
-            self.assertEqual(self.browser.paper()[:5], b"%PDF-", name)
+            boxes = re.findall(rb"/MediaBox \[0 0 ([0-9.]+) ([0-9.]+)\]", self.browser.paper())
+            sizes = {tuple(round(float(side)) for side in box) for box in boxes}
+            self.assertEqual(sizes, {A4[::-1] if is_drawing else A4}, name)
 
     def test_no_script_runs_and_nothing_is_fetched(self) -> None:
         for name, path in self.pages.items():
