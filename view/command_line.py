@@ -80,7 +80,8 @@ def parser_of_words() -> argparse.ArgumentParser:
     """The parser of the command line."""
     description = "For people around distac: where a fault is, what a script did, and what happens if a node goes down."
     parser = Parser("distac-view", description=description, epilog=epilog_of(""), formatter_class=Formatter)
-    parser.add_argument("--version", action=Version, nargs=0, help="print the version and the commit")
+    nowhere = argparse.SUPPRESS
+    parser.add_argument("--version", action=Version, nargs=0, dest=nowhere, default=nowhere, help="print the version and the commit")
     more = "print what bash reads to complete the words of distac-view"
     parser.add_argument("--print-completion", choices=["bash"], metavar="bash", help=more)
     program_words(parser, None)
