@@ -13,7 +13,7 @@ from view.erlang_tokens import Misread
 from view.loading import Checked
 from view.places import Remark, place_of
 from view.texts import cut, listed, shown
-from view.tokens import Kind, Token, name_of, tokens_of
+from view.tokens import Kind, Token, bare_name, bare_names, name_of, tokens_of
 
 SYNC_LISTS = ("sync_nodes_mandatory", "sync_nodes_optional")
 
@@ -80,7 +80,7 @@ def twice_in_file(checked: Checked, path: str) -> Iterator[Remark]:
     for (depth, section), token in named_tokens(checked.text):
         number += depth == 2
         key = (section, "") if depth == 2 else (number, name_of(token.written))
-        name = cut(shown(name_of(token.written)), 60)
+        name = cut(shown(bare_name(name_of(token.written))), 60)
         if key in seen and depth == 4:
             yield remark_at(checked, token, "TwiceParameter", f"{name} stands twice in its section: OTP doesn't boot with that; take one out")
         elif key in seen and os.path.basename(path) != "sys.config":
@@ -98,7 +98,7 @@ def own_file(checked: Checked) -> Iterator[Remark]:
         return
     tokens = (token for _, token in named_tokens(checked.text) if name_of(token.written) in SYNC_LISTS)
     token = next(tokens, Token(Kind.STOP, 0, 0, ""))
-    what = f"{shown(missing[0])} runs applications and is in no sync list: no node waits for it"
+    what = f"{shown(bare_name(missing[0]))} runs applications and is in no sync list: no node waits for it"
     cure = "if this is its own file, add it to its list, or make one of the files of all nodes by distac-view gather"
     yield remark_at(checked, token, "OwnFile", f"{what}; {cure}")
 
@@ -116,7 +116,7 @@ def equal_times_remark(checked: Checked, pairs: list[Pair]) -> Remark:
     """What is said of applications with one time."""
     pair = pairs[0]
     names = [each.name for each in checked.configuration.applications if any(each in (other.one, other.other) for other in pairs)]
-    what = f"{cut(shown(listed(names)), 200)} have the same time and may run at {shown(pair.node)} together"
+    what = f"{cut(shown(listed(bare_names(names))), 200)} have the same time and may run at {shown(bare_name(pair.node))} together"
     sentence = f"{what}: if it goes down, OTP 25 may restart one of them alone and hang; {CURE}"
     return remark_at(checked, token_of_entry(checked.text, names[-1]), "EqualTimes", sentence, *names)
 

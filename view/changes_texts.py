@@ -18,13 +18,23 @@ def lines_of(changes: Changes) -> Iterator[str]:
     """The changes, and what is to be said of rolling them out."""
     rows = [*map(setting_row, changes.settings), *map(row_of, changes.changes)]
     yield from lines_of_rows([tuple(shown(cell) for cell in row) for row in rows])
+    yield from alone_lines(changes)
+    yield count_line(changes)
+    yield from below(notes_on(changes))
+
+
+def alone_lines(changes: Changes) -> Iterator[str]:
+    """The applications, nodes and notes that one file alone has."""
     for kind, (added, gone) in (("application", changes.apps), ("node", changes.nodes)):
         yield from (shown(f"+ {bare_name(name)} ({kind})") for name in added)
         yield from (shown(f"- {bare_name(name)} ({kind})") for name in gone)
     for sign, notes in zip("+-", changes.notes):
         yield from (shown(f"{sign} {note.text} (note)") for note in notes)
-    yield f"{len(changes.changes)} of {changes.compared} answers change"
-    yield from below(notes_on(changes))
+
+
+def count_line(changes: Changes) -> str:
+    """How many answers change."""
+    return f"{len(changes.changes)} of {changes.compared} answers change"
 
 
 def setting_row(setting: Differing) -> tuple[str, ...]:

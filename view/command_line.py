@@ -6,6 +6,7 @@ import argparse
 import sys
 from typing import IO, Callable
 
+from view.asked import asked_by
 from view.check import check
 from view.completion import bash_completion
 from view.distac import MODELS, Distac, found_distac, nobody
@@ -14,6 +15,7 @@ from view.help_texts import epilog_of
 from view.loading import Faulty, Loaded, answers_of, load_script
 from view.looking import seen_lines
 from view.output import Output, Progress, drop, open_streams, say, why_not_written
+from view.page_frame import write_page
 from view.playing import answers_in, rows_of, unknown_names
 from view.problems import Problem, Status
 from view.question_commands import add_json, add_load, add_rolling, add_what_if, load, rolling, what_if
@@ -21,11 +23,10 @@ from view.remarks import add_strict, ended_by, warned
 from view.texts import shown
 from view.timeline import Drafting
 from view.verbs import Role, fits
+from view.version import VERSION, version_line
 from view.web_page import page_text
 from view.wide_states import too_wide
-from view.writing import PIPE, write_whole
 
-VERSION = "distac-view 1"
 MOST_DRAWN = 1_000
 
 
@@ -51,7 +52,8 @@ def timeline(distac: Distac, words: argparse.Namespace, output: Output) -> Statu
     drafting = Drafting(loaded.configuration)
     for seen in seen_lines(distac, loaded, drawn.start, drawn.stop):
         drafting.add(seen)
-    write_page(words.output, page_text(words.script, drafting.finished(), left_out), output, words.script)
+    asked = asked_by(words, [words.script], distac.about)
+    write_page(words.output, page_text(drafting.finished(), left_out, asked), output, [words.script])
     if left_out:
         say(f"distac-view: {left_out}")
     for remark in remarks:
@@ -71,15 +73,6 @@ def drawn_lines(loaded: Loaded, first: int, most: int) -> tuple[range, str]:
     return range(start, stop), f"{numbers} are drawn: --from LINE and --lines N choose others"
 
 
-def write_page(path: str, text: str, output: Output, script: str) -> None:
-    """Writes a page to a file, or to standard output for a dash."""
-    data = text.encode("utf-8", "replace")
-    if path == PIPE:
-        output.raw(data)
-    else:
-        write_whole(path, data, [script])
-
-
 Subcommand = Callable[[Distac, argparse.Namespace, Output], Status]
 
 
@@ -87,7 +80,8 @@ def parser_of_words() -> argparse.ArgumentParser:
     """The parser of the command line."""
     description = "For people around distac: where a fault is, what a script did, and what happens if a node goes down."
     parser = Parser("distac-view", description=description, epilog=epilog_of(""), formatter_class=Formatter)
-    parser.add_argument("--version", action="version", version=VERSION)
+    nowhere = argparse.SUPPRESS
+    parser.add_argument("--version", action=Version, nargs=0, dest=nowhere, default=nowhere, help="print the version and the commit")
     more = "print what bash reads to complete the words of distac-view"
     parser.add_argument("--print-completion", choices=["bash"], metavar="bash", help=more)
     program_words(parser, None)
@@ -121,6 +115,14 @@ class Parser(argparse.ArgumentParser):
             file.write(message)
         else:
             say(message.rstrip("\n"))
+
+
+class Version(argparse.Action):
+    """Prints the version. The commit is looked up only then."""
+
+    def __call__(self, parser: argparse.ArgumentParser, *_: object) -> None:
+        sys.stdout.write(version_line() + "\n")
+        parser.exit()
 
 
 class Formatter(argparse.RawDescriptionHelpFormatter):
@@ -191,6 +193,7 @@ def run(arguments: list[str]) -> int:
     """Does what the command line says. The exit status."""
     parser = parser_of_words()
     words = parser.parse_args(arguments)
+    words.arguments = arguments
     if words.print_completion:
         sys.stdout.write(bash_completion(parser))
         return Status.FINE

@@ -11,7 +11,7 @@ from view.loading import Checked
 from view.near_names import looks_misspelt, near_to
 from view.places import Remark, place_of
 from view.texts import cut, listed, shown
-from view.tokens import Kind, Token, name_of, tokens_of
+from view.tokens import Kind, Token, bare_name, name_of, tokens_of
 
 SYNC = ("sync_nodes_mandatory", "sync_nodes_optional")
 
@@ -82,7 +82,7 @@ def unknown_permissions(checked: Checked, source: Source) -> Iterator[Remark]:
             continue
         meant = near_to(name, names)
         cure = f"is {shown(meant)} meant?" if meant else "it is ignored"
-        yield source.remark(token, "UnknownPermission", f"no application {cut(shown(name), 60)} is in distributed: {cure}", name)
+        yield source.remark(token, "UnknownPermission", f"no application {cut(shown(bare_name(name)), 60)} is in distributed: {cure}", name)
 
 
 def unlisted_sync_nodes(checked: Checked, source: Source) -> Iterator[Remark]:
@@ -94,7 +94,7 @@ def unlisted_sync_nodes(checked: Checked, source: Source) -> Iterator[Remark]:
             if node not in listed_nodes:
                 meant = near_to(node, sorted(listed_nodes))
                 cure = f"is {shown(meant)} meant?" if meant else "it is waited for all the same"
-                sentence = f"{cut(shown(node), 60)} is in no application's list: {cure}"
+                sentence = f"{cut(shown(bare_name(node)), 60)} is in no application's list: {cure}"
                 yield source.remark(source.token_of(parameter, node), "UnlistedNode", sentence)
 
 
@@ -112,7 +112,8 @@ def single_nodes(checked: Checked, source: Source) -> Iterator[Remark]:
     """Applications that one node alone can run."""
     for application in checked.configuration.applications:
         if len(application.nodes) == 1:
-            sentence = f"{shown(application.nodes[0])} alone can run {shown(application.name)}: it never fails over"
+            node, name = (shown(bare_name(each)) for each in (application.nodes[0], application.name))
+            sentence = f"{node} alone can run {name}: it never fails over"
             yield source.remark(source.token_of("distributed", application.name), "SingleNode", sentence, application.name)
 
 
@@ -123,7 +124,7 @@ def near_names(checked: Checked, source: Source) -> Iterator[Remark]:
         for one, other in combinations(names, 2):
             if looks_misspelt(one, other):
                 token = max(first_token(source, one), first_token(source, other), key=lambda found: found.start)
-                sentence = f"{listed([shown(one), shown(other)])} differ by one change: are they two?"
+                sentence = f"{listed([shown(bare_name(one)), shown(bare_name(other))])} differ by one change: are they two?"
                 yield source.remark(token, "NearName", sentence, *((one, other) if is_app else ()))
 
 

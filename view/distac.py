@@ -18,6 +18,8 @@ from view.texts import bytes_of, text_of
 TOP = Path(__file__).resolve().parent.parent
 BESIDE = (TOP if TOP.is_dir() else TOP.parent) / "distac"
 MODELS = "--models"
+NAMED = "a program distac that was named: distac-view doesn't know whether it is proved"
+ABOUT = {"proved": "the proved program distac", "not proved": "the program distac, which is not proved"}
 MOST_INPUT = 2_097_152
 
 Asked = Callable[[str, bytes], "tuple[bytes, int]"]
@@ -34,11 +36,12 @@ class Answer:
 class Distac:
     """The program, asked by a function from its subcommand and its input to what it printed and its exit status.
 
-    It counts the cases of a question, and those of them that are done, for the progress that is shown.
+    A page says about it what is known of its proof. It counts the cases of a question, and those of them that are done, for the progress that is shown.
     """
 
-    def __init__(self, asked: Asked) -> None:
+    def __init__(self, asked: Asked, about: str = "the program distac") -> None:
         self.asked = asked
+        self.about = about
         self.is_asked: Callable[[], None] = lambda: None
         self.cases = 0
         self.cases_done = 0
@@ -86,10 +89,10 @@ def found_distac(named: str | None) -> Distac:
     """The program by the command line, by the environment, or beside this one; or the models."""
     if named == MODELS:
         say("distac-view: the models answer, and nothing of them is proved")
-        return Distac(asked_of_models())
+        return Distac(asked_of_models(), "the models: nothing of them is proved")
     path = named or os.environ.get("DISTAC")
-    program = runnable(path) if path else program_beside()
-    return Distac(lambda word, source: run(program, word, source))
+    program, about = (runnable(path), NAMED) if path else program_beside()
+    return Distac(lambda word, source: run(program, word, source), about)
 
 
 def nobody() -> Distac:
@@ -105,16 +108,17 @@ def runnable(path: str) -> str:
     """The program of this name or at this path."""
     program = shutil.which(path) if os.sep not in path else path
     if program is None or not os.path.isfile(program):
-        raise Problem(f"no program distac at {path}: name one by --distac PATH or by the environment variable DISTAC")
+        more = "name one by --distac PATH or by the environment variable DISTAC, or ask the models by --models"
+        raise Problem(f"no program distac at {path}: {more}")
     if not os.access(program, os.X_OK):
         raise Problem(f"{path} can't be run: it isn't executable")
     return program
 
 
-def program_beside() -> str:
-    """The program beside this one: the proved one, else one without proof, which is compiled first where there is none."""
+def program_beside() -> tuple[str, str]:
+    """The program beside this one, and what is known of its proof: the proved one, else one without, which is compiled first."""
     if not TOP.is_dir():
-        return runnable(str(BESIDE))
+        return runnable(str(BESIDE)), NAMED
     state, path = which_answers()
     if state not in ("proved", "not proved"):
         say("distac-view: the program distac is compiled first, without proof, in a minute or two; --models asks the models instead")
@@ -124,7 +128,7 @@ def program_beside() -> str:
         say("distac-view: the program distac is NOT PROVED; ./distac prove proves it")
     elif state != "proved":
         raise Problem("the program distac couldn't be compiled: name one by --distac PATH, or ask the models by --models")
-    return path
+    return path, ABOUT[state]
 
 
 def which_answers() -> tuple[str, str]:

@@ -7,13 +7,14 @@ over several parts is drawn whole in each of them, and each shows its own rows.
 from __future__ import annotations
 
 from dataclasses import dataclass
-from html import escape
 from typing import Iterator
 
 from view.answers import Answered
 from view.configuration import Configuration
+from view.markup import text_in
 from view.texts import columns_of, cut, shown
 from view.timeline import Band, Bar, Hand, Message, Share, State, Timeline
+from view.tokens import bare_name, bare_names
 from view.verbs import Role, word_of
 
 ROW = 22
@@ -30,11 +31,6 @@ SHADES = (0, -12, 8)
 SMALL_SIGN = 5.6
 
 STATE_CLASSES = {State.OFF: "off", State.UP: "up", State.SAID_DOWN: "said", State.HEARD_DOWN: "dead"}
-
-
-def text_in(text: str) -> str:
-    """A text inside of an element."""
-    return escape(shown(text), quote=True)
 
 
 @dataclass(frozen=True)
@@ -99,14 +95,14 @@ class Drawing:
     def head(self) -> str:
         """The names of the nodes, above their lanes."""
         names = "".join(
-            f'<text x="{lane.left + 12:.0f}" y="22" class="name">{text_in(cut(lane.node, MOST_NAME))}'
-            f"<title>{text_in(lane.node)}</title></text>"
+            f'<text x="{lane.left + 12:.0f}" y="22" class="name">{text_in(cut(bare_name(lane.node), MOST_NAME))}'
+            f"<title>{text_in(bare_name(lane.node))}</title></text>"
             for lane in self.lanes.values()
         )
         words = f'<text x="{self.script_left:.0f}" y="22" class="soft">line of the script</text>'
         words += f'<text x="{self.moment_right:.0f}" y="22" class="soft end">moment</text>'
         words += f'<text x="{self.answer_left:.0f}" y="22" class="soft">answer</text>'
-        return svg(self.width, HEAD, words + names, f"columns: line, moment, {', '.join(self.lanes)}, answer")
+        return svg(self.width, HEAD, words + names, f"columns: line, moment, {', '.join(bare_names(self.lanes))}, answer")
 
     def parts(self, first: int) -> Iterator[str]:
         """The pictures of all rows, from the first to the last: one of so many rows, and those behind it."""
@@ -128,9 +124,21 @@ class Drawing:
             *(self.note(row, timeline.rows[row]) for row in part.rows if not timeline.rows[row].line.is_event),
         ]
         below = LAST_GAP if part.stop == len(timeline.rows) else 0
-        label = f"{self.span(part.start, part.stop)}, with the lanes of {', '.join(self.lanes)}"
+        label = f"{self.span(part.start, part.stop)}, with the lanes of {', '.join(bare_names(self.lanes))}"
         inside = "\n".join(shape for shape in shapes if shape)
-        return svg(self.width, len(part.rows) * ROW + below, inside, label, part.start * ROW)
+        height, top = len(part.rows) * ROW + below, part.start * ROW
+        return svg(self.width, height, inside, label, top) + self.numbers(part, height, top)
+
+    def numbers(self, part: Part, height: float, top: float) -> str:
+        """The numbers of some lines once more, which stay where they are while the picture scrolls sideways."""
+        stripes = "".join(f'<rect y="{row * ROW}" width="100%" height="{ROW}" class="stripe"/>' for row in part.rows if row % 2)
+        numbers = "".join(
+            f'<text x="{self.number_right:.0f}" y="{row * ROW + 15}" class="soft end">{self.timeline.rows[row].line.number}</text>'
+            for row in part.rows
+        )
+        width = self.number_right + 4
+        view = f'viewBox="0 {top} {width:.0f} {height}"'
+        return f'<svg class="numbers" width="{width:.0f}" height="{height}" {view} aria-hidden="true">{stripes}{numbers}</svg>'
 
     def rows(self, part: Part) -> Iterator[str]:
         """The texts of some rows, on every other one a stripe."""
@@ -183,7 +191,7 @@ class Drawing:
         """The state of a node over some rows."""
         lane, kind = self.lanes[band.node], STATE_CLASSES[band.state]
         life = f", life {band.inc}" if band.inc else ""
-        words = title(f"{band.node} {band.state.value}{life}, {self.span(band.start, band.end)}")
+        words = title(f"{bare_name(band.node)} {band.state.value}{life}, {self.span(band.start, band.end)}")
         left, width = (lane.middle - 1, 2) if band.state is State.OFF else (lane.middle - BAND / 2, BAND)
         return box(left, band.start * ROW + 4, width, (band.end - band.start) * ROW - 2, kind, words)
 
@@ -194,7 +202,7 @@ class Drawing:
         names = self.timeline.configuration.names
         left, top = lane.bar_left(place), bar.start * ROW + 4
         kept = "" if held.verdict == "kept" else " loose"
-        claim = f"{held.app} at {bar.node}, term {held.term} {held.how}"
+        claim = f"{bare_name(held.app)} at {bare_name(bar.node)}, term {held.term} {held.how}"
         said = f"{claim}, verdict {held.verdict}, {self.span(bar.start, bar.end)}"
         color = color_of(names.index(held.app), len(names))
         shape = box(left, top, BAR, (bar.end - bar.start) * ROW - 2, f"bar{kept}", title(said), color)
@@ -206,7 +214,7 @@ class Drawing:
     def bar_name(self, bar: Bar, middle: float, top: float, kind: str, color: str) -> str:
         """The name of an application along its bar, as much of it as there is room for."""
         most = int((bar.end * ROW - top) / SMALL_SIGN)
-        name = shown(bar.held.app)
+        name = shown(bare_name(bar.held.app))
         if most < min(len(name), 3):
             return ""
         place = f'transform="translate({middle - 3:.1f} {top}) rotate(90)"'
@@ -218,7 +226,7 @@ class Drawing:
             return ""
         at = share.row * ROW + ROW / 2
         places = [self.lanes[node].middle for node in share.nodes]
-        number, nodes = self.timeline.rows[share.row].line.number, ", ".join(share.nodes)
+        number, nodes = self.timeline.rows[share.row].line.number, ", ".join(bare_names(share.nodes))
         words = title(f"{number}: share, {share.count} messages among {nodes}")
         line = f'<path d="M{min(places):.1f} {at:.1f}H{max(places):.1f}"/>'
         dots = "".join(f'<circle cx="{place:.1f}" cy="{at:.1f}" r="4"/>' for place in places)
@@ -247,7 +255,7 @@ class Drawing:
         if kind == "lost":
             stop, bottom = start + side * 34, top + 8
         line = self.timeline.rows[message.row].line.number
-        what = f"message {message.number}, {message.kind}, from {message.sender} to {message.receiver}, line {line}; {end}"
+        what = f"message {message.number}, {message.kind}, from {bare_name(message.sender)} to {bare_name(message.receiver)}, line {line}; {end}"
         head = "cross" if kind in ("lost", "refused") else "tip"
         path = f'<path d="M{start + side * 7:.1f} {top:.1f}L{stop:.1f} {bottom:.1f}" marker-end="url(#{head})"/>'
         return f'<g class="message {kind}">{title(what)}{path}</g>'
@@ -257,7 +265,7 @@ def lanes_of(configuration: Configuration, left: float) -> Iterator[Lane]:
     """The lanes of all nodes, each as wide as its name and its bars."""
     for node in configuration.nodes:
         bars = 14 + BAND + GAP + len(apps_at(configuration, node)) * (BAR + 3) + 20
-        width = max(LEAST_LANE, bars, min(len(shown(node)), MOST_NAME) * SIGN + 24)
+        width = max(LEAST_LANE, bars, min(len(shown(bare_name(node))), MOST_NAME) * SIGN + 24)
         yield Lane(node, left, width)
         left += width
 

@@ -11,7 +11,7 @@ from typing import Iterator
 from view.loading import Checked
 from view.places import Remark, place_of
 from view.texts import bytes_of, shown, text_of
-from view.tokens import name_of
+from view.tokens import bare_name, name_of
 
 NAME = r"(?:'[^'\n]*'|[a-z][A-Za-z0-9_@]*)"
 REMEMBERED = re.compile(rf"^%+ *forbidden (?P<app>{NAME}) at (?P<node>{NAME})\s*$", re.MULTILINE)
@@ -27,7 +27,8 @@ def unknown_in(checked: Checked) -> Iterator[Remark]:
     known = forbidden_in(checked)
     for found in REMEMBERED.finditer(text_of(checked.text)):
         if (name_of(found["node"]), name_of(found["app"])) not in known:
-            sentence = f"{shown(found['node'])} is in no list of an application {shown(found['app'])}: this comment forbids nothing"
+            node, app = (shown(bare_name(name_of(found[part]))) for part in ("node", "app"))
+            sentence = f"{node} is in no list of an application {app}: this comment forbids nothing"
             yield Remark(place_of(checked.text, len(bytes_of(found.string[: found.start("app")]))), "UnknownForbidden", sentence)
 
 

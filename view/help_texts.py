@@ -58,6 +58,8 @@ EXAMPLES = {
     "rolling": """\
   distac-view rolling sys.config                 the best order of restarts, and what moves in each step
   distac-view rolling sys.config --takes 4000    the same if each node is back after 4 s
+  distac-view rolling sys.config -o rolling.html
+                                                 the same as a page, for a change request
   distac-view rolling sys.config --now now.txt --order shop2@rack1 shop1@rack1 --drain
                                                  this order, from where applications run now, with drains""",
     "load": """\

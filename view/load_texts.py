@@ -17,14 +17,24 @@ MOST_COLUMNS = 8
 def table_of(load: Load, most: int | None) -> Iterator[str]:
     """The table, and which applications are one loss from nothing."""
     rows = shown_rows(load, most)
-    yield from lines_of_rows(wide_rows(load, rows) if len(load.side.nodes) <= MOST_COLUMNS else narrow_rows(rows))
-    left = len(load.rows) + 1 - len(rows)
-    if left:
-        yield f"+ {left} {'pair that loses' if left == 1 else 'pairs that lose'} nothing more than each node alone"
+    yield from lines_of_rows(wide_rows(load, rows) if is_wide(load) else narrow_rows(rows))
+    yield from left_lines(load, rows)
     last = list(last_lines(load))
     if last:
         yield ""
         yield from last
+
+
+def is_wide(load: Load) -> bool:
+    """Whether each node has a column."""
+    return len(load.side.nodes) <= MOST_COLUMNS
+
+
+def left_lines(load: Load, rows: list[Row]) -> Iterator[str]:
+    """How many pairs aren't shown, if any."""
+    left = len(load.rows) + 1 - len(rows)
+    if left:
+        yield f"+ {left} {'pair that loses' if left == 1 else 'pairs that lose'} nothing more than each node alone"
 
 
 def shown_rows(load: Load, most: int | None) -> list[Row]:

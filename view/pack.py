@@ -1,7 +1,8 @@
 #!/usr/bin/env python3
 """Packs `distac-view` into one file that runs with Python 3.8 or later: `python3 view/pack.py -o distac-view.pyz`.
 
-The models are in it too, for `--models`. The same sources give the same bytes, on any machine and at any time.
+The models are in it too, for `--models`. The same sources give the same bytes, on any machine and at any time. It knows no commit:
+view/release.py packs one that does.
 """
 
 from __future__ import annotations
@@ -19,27 +20,31 @@ TOP = Path(__file__).resolve().parent.parent
 sys.path.insert(0, str(TOP))
 
 from view.problems import Problem, Status
+from view.version import COMMIT_FILE
 from view.writing import write_whole
 
 FIRST_LINE = b"#!/usr/bin/env python3\n"
 FIRST_MOMENT = (1980, 1, 1, 0, 0, 0)
 PACKED = ("view/*.py", "models/*.py")
+LEFT_OUT = ("view/pack.py", "view/release.py")
 
 
-def members() -> Iterator[Tuple[str, bytes]]:
-    """What is packed: the launcher under the name that Python runs, and the modules in the order of their names."""
+def members(commit: str) -> Iterator[Tuple[str, bytes]]:
+    """What is packed: the launcher under the name that Python runs, the modules in the order of their names, and the commit."""
     yield "__main__.py", (TOP / "distac-view").read_bytes()
     for pattern in PACKED:
-        for path in sorted(set(TOP.glob(pattern)) - {Path(__file__).resolve()}):
+        for path in sorted(set(TOP.glob(pattern)) - {TOP / name for name in LEFT_OUT}):
             yield path.relative_to(TOP).as_posix(), path.read_bytes()
+    if commit:
+        yield f"view/{COMMIT_FILE}", f"{commit}\n".encode()
 
 
-def packed() -> bytes:
+def packed(commit: str = "") -> bytes:
     """The bytes of the whole file. Nothing is compressed, since compressed bytes differ from machine to machine."""
     stream = io.BytesIO(FIRST_LINE)
     stream.seek(0, os.SEEK_END)
     with zipfile.ZipFile(stream, "a", zipfile.ZIP_STORED) as archive:
-        for name, data in members():
+        for name, data in members(commit):
             entry = zipfile.ZipInfo(name, FIRST_MOMENT)
             entry.create_system = 3
             entry.external_attr = 0o100644 << 16

@@ -3,8 +3,9 @@
 from __future__ import annotations
 
 import argparse
-from typing import Iterable
+from typing import Callable, Iterable
 
+from view.asked import Asked, asked_by
 from view.changes import changes_by
 from view.changes_texts import lines_of as changes_lines
 from view.changes_texts import notes_on as change_notes
@@ -17,23 +18,39 @@ from view.load_texts import budget_faults
 from view.load_texts import table_of as load_table
 from view.notes import Failure
 from view.output import Output, say
+from view.page_frame import write_page
 from view.plan_answers import changes_answer, load_answer, rolling_answer
+from view.plan_pages import Verdict, changes_page, load_page, rolling_page, what_if_page
 from view.problems import Problem, Status
 from view.rolling import rolling_of
 from view.rolling_texts import drain_notes, hang_faults
 from view.rolling_texts import lines_of as rolling_lines
+from view.running_now import names_a_file
 from view.texts import listed, shown
 from view.verbs import Role, fits
 from view.what_if import Question, reply_to
 from view.what_if_notes import below, notes_on, start_notes
 from view.what_if_texts import table_of
+from view.writing import PIPE
 
 
-def written(output: Output, lines: Iterable[str]) -> None:
-    """Writes an answer, line by line."""
-    for line in lines:
-        output.line(line)
+def answer(words: argparse.Namespace, output: Output, json: Callable[[], str], lines: Callable[[], Iterable[str]]) -> None:
+    """Writes an answer as JSON or line by line, unless its page stands on standard output."""
+    if words.output != PIPE:
+        for line in [json()] if words.json else lines():
+            output.line(line)
     output.flush()
+
+
+def put_page(distac: Distac, words: argparse.Namespace, output: Output, page: Callable[[Asked], str]) -> None:
+    """Writes the page of an answer, if one was asked for."""
+    if words.output is None:
+        return
+    if words.output == PIPE and words.json:
+        raise Problem("--json and -o - can't stand together: one of them has standard output")
+    now = words.now if names_a_file(words.now) else []
+    read = [path for path in (words.config, getattr(words, "then", None), getattr(words, "after", None), *now) if path]
+    write_page(words.output, page(asked_by(words, read, distac.about)), output, read)
 
 
 def what_if(distac: Distac, words: argparse.Namespace, output: Output) -> Status:
@@ -42,14 +59,16 @@ def what_if(distac: Distac, words: argparse.Namespace, output: Output) -> Status
     if words.then:
         return what_changes(distac, question, words, output)
     reply = reply_to(distac, question)
-    written(output, [what_if_answer(reply, notes_on(reply))] if words.json else table_of(reply, words.all))
+    put_page(distac, words, output, lambda asked: what_if_page(reply, notes_on(reply), words.all, asked))
+    answer(words, output, lambda: what_if_answer(reply, notes_on(reply)), lambda: table_of(reply, words.all))
     return Status.FINE
 
 
 def what_changes(distac: Distac, question: Question, words: argparse.Namespace, output: Output) -> Status:
     """Prints what a new configuration changes. The status is 1 if it changes anything."""
     changes = changes_by(distac, question, words.then)
-    written(output, [changes_answer(changes, change_notes(changes))] if words.json else changes_lines(changes))
+    put_page(distac, words, output, lambda asked: changes_page(changes, change_notes(changes), asked))
+    answer(words, output, lambda: changes_answer(changes, change_notes(changes)), lambda: changes_lines(changes))
     return Status.NO if changes.are_any else Status.FINE
 
 
@@ -61,7 +80,8 @@ def load(distac: Distac, words: argparse.Namespace, output: Output) -> Status:
     found = load_of(distac, Question(words.config, now=words.now), words.pairs)
     notes = [*start_notes(found.side, bool(words.now)), *hang_notes((row.down, row.may_hang) for row in found.rows)]
     failures = list(budget_faults(found, fail_on, words.most))
-    written(output, [load_answer(found, failures, notes)] if words.json else [*load_table(found, words.most), *below(notes)])
+    put_page(distac, words, output, lambda asked: load_page(found, words.most, Verdict(fail_on, failures), notes, asked))
+    answer(words, output, lambda: load_answer(found, failures, notes), lambda: [*load_table(found, words.most), *below(notes)])
     return judged(failures)
 
 
@@ -87,7 +107,8 @@ def rolling(distac: Distac, words: argparse.Namespace, output: Output) -> Status
     hangs = hang_notes(([step.node], step.may_hang) for step in found.steps)
     notes = [*start_notes(found.side, bool(words.now)), *drain_notes(words.drain), *hangs]
     failures = list(hang_faults(found, fail_on))
-    written(output, [rolling_answer(found, failures, notes)] if words.json else [*rolling_lines(found), *below(notes)])
+    put_page(distac, words, output, lambda asked: rolling_page(found, Verdict(fail_on, failures), notes, asked))
+    answer(words, output, lambda: rolling_answer(found, failures, notes), lambda: [*rolling_lines(found), *below(notes)])
     return max(Status.NO if found.is_barred else Status.FINE, judged(failures))
 
 
@@ -106,6 +127,7 @@ def add_what_if(parser: argparse.ArgumentParser) -> None:
     parser.add_argument("--then", metavar="NEW.config", help=then)
     parser.add_argument("--all", action="store_true", help="show the rows of applications that stay too")
     add_json(parser)
+    add_page(parser)
 
 
 def add_load(parser: argparse.ArgumentParser) -> None:
@@ -116,6 +138,7 @@ def add_load(parser: argparse.ArgumentParser) -> None:
     parser.add_argument("--most", metavar="N", type=int, help="how many applications a node may have")
     add_fail_on(parser, "lost (an application is lost, or runs nowhere), load (a node has more than --most), hang (OTP may hang)")
     add_json(parser)
+    add_page(parser)
 
 
 def add_rolling(parser: argparse.ArgumentParser) -> None:
@@ -128,6 +151,7 @@ def add_rolling(parser: argparse.ArgumentParser) -> None:
     add_takes(parser)
     add_fail_on(parser, "hang (OTP may hang in a step)")
     add_json(parser)
+    add_page(parser)
 
 
 def add_fail_on(parser: argparse.ArgumentParser, what: str) -> None:
@@ -147,6 +171,12 @@ def milliseconds(word: str) -> int:
     if not fits(Role.NUMBER, word) or not 0 < int(word) <= FOREVER:
         raise argparse.ArgumentTypeError(f"milliseconds from 1 to {FOREVER} are wanted, and not {shown(word)}")
     return int(word)
+
+
+def add_page(parser: argparse.ArgumentParser) -> None:
+    """The word that asks for a page."""
+    more = "write the answer as a page too, to be printed or kept with a change; a dash is standard output, with the page alone"
+    parser.add_argument("-o", "--output", metavar="FILE.html", help=more)
 
 
 def add_json(parser: argparse.ArgumentParser) -> None:

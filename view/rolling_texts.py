@@ -4,6 +4,7 @@ from __future__ import annotations
 
 from typing import Iterator
 
+from view.configuration import Configuration
 from view.notes import Failure, Note
 from view.rolling import Move, Rolling, Step
 from view.texts import listed, shown
@@ -14,14 +15,29 @@ from view.what_if_texts import lasting
 
 def lines_of(rolling: Rolling) -> Iterator[str]:
     """The order with what it costs, and its steps."""
-    names = " > ".join(bare_name(node) for node in rolling.order)
-    lasts = f"restarts of {rolling.takes} ms" if rolling.takes is not None else f"restarts {lasting(None, rolling.configuration)}"
-    yield shown(f"order {names}: {counted(rolling.moves, 'move')}, {rolling.waits} ms of waits, {lasts}{found_how(rolling)}")
+    yield shown(f"order {order_of(rolling)}: {cost_of(rolling)}")
     for number, step in enumerate(rolling.steps, 1):
-        yield shown(f"{number} {bare_name(step.node)}: {'; '.join(parts_of(step))}")
-        for waiter in step.waiters:
-            wait = wait_of(waiter, rolling.configuration)
-            yield shown(f"  fault: {bare_name(waiter.node)} can't come back: it waits {wait}, and ends. The restart can't go on.")
+        parts = "; ".join(f"{when}: {listed(what)}" for when, what in parts_of(step))
+        yield shown(f"{number} {bare_name(step.node)}: {parts}")
+        yield from (f"  fault: {sentence}" for sentence in barred_by(step, rolling.configuration))
+
+
+def order_of(rolling: Rolling) -> str:
+    """The nodes in the order of their restarts."""
+    return " > ".join(bare_name(node) for node in rolling.order)
+
+
+def cost_of(rolling: Rolling) -> str:
+    """What an order costs, how long restarts last, and how the order was found."""
+    lasts = f"restarts of {rolling.takes} ms" if rolling.takes is not None else f"restarts {lasting(None, rolling.configuration)}"
+    return f"{counted(rolling.moves, 'move')}, {rolling.waits} ms of waits, {lasts}{found_how(rolling)}"
+
+
+def barred_by(step: Step, configuration: Configuration) -> Iterator[str]:
+    """The nodes that can't come back, and for whom they wait."""
+    for waiter in step.waiters:
+        wait = wait_of(waiter, configuration)
+        yield shown(f"{bare_name(waiter.node)} can't come back: it waits {wait}, and ends. The restart can't go on.")
 
 
 def drain_notes(drains: bool) -> Iterator[Note]:
@@ -47,18 +63,18 @@ def found_how(rolling: Rolling) -> str:
     return f" (least of {rolling.compared} orders, the worst has {rolling.worst})" if rolling.compared > 1 else ""
 
 
-def parts_of(step: Step) -> Iterator[str]:
-    """What happens in a step."""
+def parts_of(step: Step) -> Iterator[tuple[str, list[str]]]:
+    """What happens in a step, by when or how."""
     if step.drained:
-        yield f"drained: {listed([target_of(move) for move in step.drained])}"
-    yield f"down: {listed([moved(move) for move in step.down]) or 'nothing moves'}"
+        yield "drained", [target_of(move) for move in step.drained]
+    yield "down", [moved(move) for move in step.down] or ["nothing moves"]
     if step.may_hang:
-        yield f"OTP may hang: {few_of(step.may_hang)}"
+        yield "OTP may hang", [few_of(step.may_hang)]
     if step.waiting:
-        yield f"back before its wait is over: {few_of(step.waiting)}"
+        yield "back before its wait is over", [few_of(step.waiting)]
     if step.nowhere:
-        yield f"runs nowhere meanwhile: {few_of(step.nowhere)}"
-    yield f"back: {listed([moved(move) for move in step.back]) or 'nothing moves'}"
+        yield "runs nowhere meanwhile", [few_of(step.nowhere)]
+    yield "back", [moved(move) for move in step.back] or ["nothing moves"]
 
 
 def moved(move: Move) -> str:

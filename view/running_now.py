@@ -37,7 +37,7 @@ class Placed:
 
 def placed_by(words: list[str], configuration: Configuration) -> Placed:
     """What `--now` says: the name of a file, or APP=NODE for each application that runs. In that form all nodes are up."""
-    if len(words) == 1 and ("=" not in words[0] or os.path.exists(words[0])):
+    if names_a_file(words):
         return placed_in(words[0], text_of(read_bytes(words[0], MOST_INPUT)), configuration)
     places: dict[str, str] = {}
     for word in words:
@@ -46,6 +46,11 @@ def placed_by(words: list[str], configuration: Configuration) -> Placed:
             raise Problem(f"--now takes one file, or APP=NODE for each application: {shown(word)} is neither")
         put(places, "--now", app, node, configuration)
     return Placed(places, configuration.nodes)
+
+
+def names_a_file(words: list[str]) -> bool:
+    """Whether `--now` names a file."""
+    return len(words) == 1 and ("=" not in words[0] or os.path.exists(words[0]))
 
 
 def parted(word: str) -> tuple[str, str, str]:
@@ -113,7 +118,7 @@ def opened_now(distac: Distac, checked: Checked, placed: Placed) -> Side:
     page = cluster.page(distac)
     for app, node in placed.places.items():
         if page.held[app].runs_at != node:
-            raise Problem(f"distac doesn't place {shown(app)} at {shown(node)}: it says {page.held[app].verdict}")
+            raise Problem(f"distac doesn't place {shown(bare_name(app))} at {shown(bare_name(node))}: it says {page.held[app].verdict}")
     return Side(cluster, page, configuration.nodes, unsaid=placed.fresh)
 
 

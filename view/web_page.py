@@ -4,21 +4,23 @@ from __future__ import annotations
 
 from typing import Iterator
 
-from view.drawing import HEAD, LAST_GAP, ROW, ROWS_OF_PART, Drawing, color_of, text_in
+from view.answers import Answered
+from view.asked import Asked
+from view.drawing import HEAD, LAST_GAP, ROW, ROWS_OF_PART, Drawing, color_of, moment_of
+from view.markup import region, text_in
+from view.page_frame import page_of
+from view.texts import cut
 from view.timeline import Timeline
+from view.tokens import bare_name
 
 # What a printed page has room for, in pixels of the style, and how much smaller its pictures are than on a screen.
 PAGE_HEIGHT, PAGE_WIDTH, PRINT_SCALE = 718, 1046, 0.85
 LEAST_ROWS = 8
+# How much of a window's width the edges of a page and a scroll bar take.
+SIDES = 48
+MOST_SIGNS = 400
 
-LIGHT = """color-scheme: light; --back: #ffffff; --text: #1c2024; --soft: #59626c; --stripe: #f4f6f8; --line: #7d8791;
-  --up: #3f8f57; --said: #ffc46b; --dead: #a31515; --share: #5b6b7b; --message: #3b4a5a; --bad: #b3261e; --bar: 44%;"""
-DARK = """color-scheme: dark; --back: #15181c; --text: #e4e7eb; --soft: #9fa9b4; --stripe: #1c2127; --line: #76828d;
-  --up: #5fb57a; --said: #8a5a12; --dead: #ff6b5a; --share: #a9b7c5; --message: #c3ced9; --bad: #ff8a7c; --bar: 58%;"""
-STYLE = f":root {{ {LIGHT} }}\n@media (prefers-color-scheme: dark) {{ :root {{ {DARK} }} }}" + """
-body { margin: 0; padding: 16px; background: var(--back); color: var(--text); font: 14px/1.45 system-ui, sans-serif; }
-h1 { font-size: 18px; margin: 0 0 6px; }
-h2 { font-size: 15px; margin: 18px 0 6px; }
+STYLE = """
 .head { position: sticky; top: 0; background: var(--back); border-bottom: 1px solid var(--line); width: max-content;
   min-width: 100%; }
 svg { display: block; }
@@ -57,19 +59,26 @@ svg .nothing path { stroke-dasharray: 1 3; stroke-linecap: round; }
 svg .repeated path { stroke-dasharray: 6 3; }
 svg .lost path, svg .refused path { stroke: var(--bad); }
 svg marker path { fill: none; stroke: context-stroke; stroke-width: 1.4; }
-.legend span { display: inline-block; margin: 0 16px 4px 0; white-space: nowrap; }
+.legend span { display: inline-block; margin: 0 16px 4px 0; max-width: 100%; }
 .legend svg { display: inline; vertical-align: -3px; }
-table { border-collapse: collapse; }
-td, th { padding: 2px 14px 2px 0; text-align: left; }
-td.end, th.end { text-align: right; }
-p { margin: 4px 0; max-width: 60em; }
-.claims { max-height: 15em; overflow: auto; margin: 0 0 12px; }
-.part .head, svg .again { display: none; }
+.claims, .lines { max-height: 15em; overflow: auto; margin: 0 0 12px; }
+.claims td { white-space: nowrap; }
+.lines { max-height: 80vh; }
+.lines td { padding-bottom: 4px; border-bottom: 1px solid var(--stripe); }
+.lines td:nth-child(3) { min-width: 14em; }
+.lines .note { color: var(--soft); font-style: italic; }
+.part .head, svg .again, .numbers { display: none; }
+@media screen and (max-width: WIDTH) {
+  .drawing { overflow: auto; max-height: 85vh; border: 1px solid var(--line); }
+  .drawing > .head { z-index: 2; }
+  .part { display: grid; width: max-content; }
+  .part > svg { grid-area: 1 / 1; }
+  .part > .numbers { display: block; position: sticky; left: 0; z-index: 1; background: var(--back); }
+}
 @media print {
   @page { size: A4 landscape; margin: 10mm; }
-  :root { PRINTED }
-  body { padding: 0; }
-  body > .head { display: none; }
+  .drawing > .head { display: none; }
+  details:not([open]) { display: none; }
   svg .again { display: inline; }
   .claims { max-height: none; overflow: visible; }
   tr, .legend span { break-inside: avoid; }
@@ -77,7 +86,7 @@ p { margin: 4px 0; max-width: 60em; }
   .part .head { display: block; position: static; width: auto; }
   .part svg { width: calc(var(--width) * PRINT_SCALE); max-width: 100%; height: auto; }
 }
-""".replace("PRINTED", LIGHT).replace("PRINT_SCALE", str(PRINT_SCALE))
+""".replace("PRINT_SCALE", str(PRINT_SCALE))
 
 MARKERS = (
     '<svg width="0" height="0" style="position:absolute" aria-hidden="true"><defs>'
@@ -93,28 +102,26 @@ MARKERS = (
 )
 
 
-def page_text(name: str, timeline: Timeline, left_out: str) -> str:
+def page_text(timeline: Timeline, left_out: str, asked: Asked) -> str:
     """The whole page."""
     drawing = Drawing(timeline)
-    metadata = f'<meta charset="utf-8"><meta name="viewport" content="width=device-width"><title>{text_in(name)}</title>'
-    note = f"<p>{text_in(left_out)}</p>" if left_out else ""
     head = f'<div class="head">{drawing.head()}</div>'
+    drawn = "\n".join(f'<div class="part" style="--width:{drawing.width:.0f}px">{head}{part}</div>' for part in drawing.parts(first_rows(timeline)))
     parts = [
-        f'<!DOCTYPE html>\n<html lang="en"><head>{metadata}<style>{STYLE}</style></head><body>',
-        f"<h1>{text_in(name)}</h1>{note}{MARKERS}",
+        MARKERS,
         claims_table(timeline),
-        f'<div class="legend">{legend(timeline)}</div>',
-        head,
-        *(f'<div class="part" style="--width:{drawing.width:.0f}px">{head}{part}</div>' for part in drawing.parts(first_rows(timeline))),
-        "</body></html>\n",
+        f'<h2>Drawing</h2><div class="legend">{legend(timeline)}</div>',
+        region("drawing", "the drawing: a row for each line, a lane for each node", f"{head}\n{drawn}"),
+        lines_table(timeline),
     ]
-    return "\n".join(parts)
+    style = STYLE.replace("WIDTH", f"{drawing.width + SIDES:.0f}px")
+    return page_of(f"Timeline: {asked.files[0].name}", asked, "\n".join(parts), left_out, style)
 
 
 def first_rows(timeline: Timeline) -> int:
     """How many rows fit on a printed page below the title, the claims and the legend. If few do, they begin a page of their own."""
     names = sum(len(name) + 6 for name in timeline.configuration.names)
-    above = 190 + 25 * len(timeline.claims) + 26 * (7.5 * names // PAGE_WIDTH)
+    above = 240 + 25 * len(timeline.claims) + 26 * (7.5 * names // PAGE_WIDTH)
     rows = int((PAGE_HEIGHT - above) / (ROW * PRINT_SCALE) - (HEAD + LAST_GAP) / ROW)
     return min(rows, ROWS_OF_PART) if rows >= LEAST_ROWS else ROWS_OF_PART
 
@@ -122,7 +129,7 @@ def first_rows(timeline: Timeline) -> int:
 def legend(timeline: Timeline) -> str:
     """What each shape stands for."""
     names = timeline.configuration.names
-    apps = "".join(sample("bar", text_in(name), color_of(number, len(names))) for number, name in enumerate(names))
+    apps = "".join(sample("bar", text_in(bare_name(name)), color_of(number, len(names))) for number, name in enumerate(names))
     states = sample("up", "up") + sample("off", "off") + sample("said", "said to be down") + sample("dead", "and has heard it")
     held = sample("bar loose", "held, but not kept there", "--hue:210")
     kinds = {**dict.fromkeys(("whole", "interval", "nothing", "repeated"), "tip"), **dict.fromkeys(("lost", "refused"), "cross")}
@@ -165,5 +172,29 @@ def claim_rows(timeline: Timeline) -> Iterator[str]:
     for claim in timeline.claims:
         number = timeline.rows[claim.row].line.number
         first = f'<td class="end">{number}</td><td class="end">{claim.moment} ms</td>'
-        names = f"<td>{text_in(claim.app)}</td><td>{text_in(claim.node)}</td>"
-        yield f"<tr>{first}{names}<td>{claim.term}</td><td>{text_in(claim.how)}</td></tr>"
+        names = f"<td>{text_in(bare_name(claim.app))}</td><td>{text_in(bare_name(claim.node))}</td>"
+        yield f"<tr>{first}{names}<td>{claim.term}</td><td>{text_in(how_in(claim.how))}</td></tr>"
+
+
+def how_in(how: str) -> str:
+    """How a claim came about, with its node without quotes."""
+    words, _, node = how.rpartition(" ")
+    return f"{words} {bare_name(node)}" if words else how
+
+
+def lines_table(timeline: Timeline) -> str:
+    """Each line with its node and its whole answer, for those who don't see the drawing."""
+    rows = "\n".join(line_row(one) for one in timeline.rows)
+    heads = "".join(f'<th scope="col">{head}</th>' for head in ("line", "node", "what is asked", "moment", "answer"))
+    table = f"<table><thead><tr>{heads}</tr></thead><tbody>{rows}</tbody></table>"
+    return f"<details><summary>The same as a table: line, node and answer</summary>{region('lines', 'all lines', table)}</details>"
+
+
+def line_row(one: Answered) -> str:
+    """The row of a line, or of a comment."""
+    number, text = f'<td class="end">{one.line.number}</td>', text_in(cut(one.line.text.strip(), MOST_SIGNS))
+    if not one.line.is_event:
+        return f'<tr>{number}<td colspan="4" class="note">{text}</td></tr>'
+    answer = "<br>".join(text_in(cut(line, MOST_SIGNS)) for line in one.answer)
+    node = "all" if one.line.verb == "share" else text_in(bare_name(one.actor))
+    return f"<tr>{number}<td>{node}</td><td>{text}</td><td>{moment_of(one)}</td><td>{answer}</td></tr>"

@@ -35,12 +35,15 @@ def lasting(takes: int | None, configuration: Configuration) -> str:
 
 
 def side_table(reply: Reply, answers: Answers, shows_all: bool) -> Iterator[str]:
-    """The table of one side. What runs nowhere from the start on is told below it."""
+    """The table of one side."""
+    yield from lines_of_rows([HEADS, *rows_of_side(reply, answers, shows_all)])
+
+
+def rows_of_side(reply: Reply, answers: Answers, shows_all: bool) -> Iterator[tuple[str, ...]]:
+    """The rows of one side. What runs nowhere from the start on is told below them."""
     nowhere = [held.app for held in nowhere_at_first(answers.side)]
-    rows: list[tuple[str, ...]] = [HEADS]
     for case in answers.cases:
-        rows += case_rows(case, nowhere, reply.tick_time, shows_all)
-    yield from lines_of_rows(rows)
+        yield from case_rows(case, nowhere, reply.tick_time, shows_all)
 
 
 def case_rows(case: Case, nowhere: list[str], tick_time: int, shows_all: bool) -> Iterator[tuple[str, ...]]:

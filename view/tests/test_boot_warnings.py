@@ -70,6 +70,18 @@ class BootWarnings(unittest.TestCase):
         self.assertEqual(errors.count("EqualTimes"), 2, errors)
         self.assertIn("a1, b1 and c1 have the same time", errors)
 
+    def test_names_without_quotes(self) -> None:
+        """A name has quotes where a cure says what to write, and nowhere else."""
+        lists = "{'App-1',500,['x-1@h',{'x-2@h','y-1@h'}]},{'App-2',500,['x-1@h',{'x-2@h','y-1@h'}]},{'Lone',1,['x-1@h']}"
+        rest = "{permissions,[{'App-3',true}]},{sync_nodes_mandatory,['x-1@h','x-3@h','q-1@far']},{sync_nodes_optional,['y-1@h']}"
+        errors = self.errors_on("{kernel,[{distributed,[%s]},%s]}" % (lists, rest) + "].\n%% forbidden 'Lone' at 'x-2@h'\n%%")
+        told = [line for line in errors.splitlines() if line.startswith(str(self.room.name))]
+        for name in ("EqualTimes", "SingleNode", "OwnFile", "UnknownPermission", "UnlistedNode", "NearName", "UnknownForbidden"):
+            self.assertIn(f": {name}: ", errors)
+        for line in told:
+            self.assertNotRegex(line.split(": is ")[0], "'[^']+'")
+        self.assertIn("x-3@h is in no application's list: is 'x-1@h' meant?", errors)
+
     def test_bytes_that_are_no_text(self) -> None:
         path = Path(self.room.name) / "node.config"
         path.write_bytes(b"[{app,[{p,\"\xff\"}]}," + (PLACED % "").encode() + b"].")

@@ -12,10 +12,11 @@ from xml.etree import ElementTree
 
 from support import EXAMPLES, view
 from view.drawing import HUES, ROWS_OF_PART, color_of
-from view.script import script_of
-from view.web_page import DARK, LIGHT, first_rows
-from view.timeline import Claimed, Timeline
 from view.configuration import Application, Configuration
+from view.page_frame import DARK, LIGHT, PAPER
+from view.script import script_of
+from view.timeline import Claimed, Timeline
+from view.web_page import first_rows
 
 SCRIPTS = sorted(path for path in EXAMPLES.glob("*.distac") if not path.name.startswith("live-"))
 PICTURE = re.compile(r"<svg .*?</svg>", re.DOTALL)
@@ -122,6 +123,7 @@ class Pages(unittest.TestCase):
         self.assertTrue(pictures(page))
         known = {"html", "head", "meta", "title", "style", "body", "h1", "h2", "p", "div", "span", "table", "thead", "tbody", "tr", "th", "td"}
         known |= {"svg", "defs", "pattern", "marker", "path", "rect", "circle", "text", "g"}
+        known |= {"header", "main", "section", "dl", "dt", "dd", "details", "summary", "br"}
         for tag, its in Elements(page).found:
             self.assertIn(tag, known)
             self.assertFalse([name for name in its if name.startswith("on")], its)
@@ -153,7 +155,7 @@ class Colors(unittest.TestCase):
             self.assertIn(f'class="{state}"><title>', page)
 
     def test_contrasts(self) -> None:
-        for scheme in (LIGHT, DARK):
+        for scheme in (LIGHT, DARK, PAPER):
             colors = dict(re.findall(r"--(\w+): (#[0-9a-f]{6});", scheme))
             for name, least in (("text", 7.0), ("soft", 4.5), ("bad", 4.5), ("up", 3.0), ("dead", 3.0), ("line", 3.0), ("message", 3.0)):
                 for ground in ("back", "stripe"):
