@@ -3,15 +3,17 @@
 
 Usage: python3 mutated.py [--rows FOLDER] [--jobs J] [--list]
 
-A mutant is one change of world.py, placement.py, meaning.py or sim.py: see mutations.py. It is a wrong definition in the model's
-words. It falls if any row of the gate or any example prints something else by it: see gate_rows.py. It falls too if it fails, or
-takes more than some seconds. Texts of configurations (check.py) and bytes (wire.py) are left out, because the rows of `check` and
-the tests of bytes compare them, and so is the command line.
+A mutant is one change of world.py, placement.py, meaning.py or sim.py: see mutations.py. It is a wrong definition, as an operator
+would see it. It falls if a row of the gate or an example prints something else by it (see gate_rows.py), if it fails, or if it
+takes more than some seconds. The texts of configurations (check.py) and the bytes (wire.py) aren't changed, because rows and tests
+of their own compare them, nor is what runs from the command line.
 
-equivalent.txt lists mutants by which nothing is printed otherwise, and those that are left, each with its reason. An entry there
-that names no mutant, or one that falls, is a fault. Each survivor is printed with its file, its line, and how it reads before and
-after the change. The last line is `N mutants, K fall, S survive`, where equivalent ones count nowhere. The status is 0 if each
-survivor is listed and no entry is a fault.
+unseen.txt lists the mutants that no row sees, each with a reason. By those that are equivalent nothing is printed otherwise. Those
+that another test of the gate refuses name it, and fall. All others are left. An entry that names no mutant, one that a row sees, or
+no test, is a fault.
+
+Each survivor is printed with its place, and as it reads before and after the change. The last line is `N mutants, K fall, S
+survive`, without those that are equivalent. The status is 0 if there is a reason for each survivor, and no entry is a fault.
 """
 
 from __future__ import annotations
@@ -35,13 +37,13 @@ from gate_rows import TOP, Row, all_rows
 from mutations import Mutation, mutations_of
 
 MODELS = Path(__file__).resolve().parent
-REASONS = MODELS / "equivalent.txt"
+REASONS = MODELS / "unseen.txt"
 # Each module behind those that it imports.
 MODULES = ("check", "meaning", "wire", "placement", "world", "sim")
 CHANGED = ("world", "placement", "meaning", "sim")
 MOST_SECONDS = 10.0
 BATCH = 20
-EQUIVALENT, LEFT = "equivalent", "left"
+EQUIVALENT, LEFT, TESTED = "equivalent", "left", "tested by "
 
 
 class TooSlow(BaseException):
@@ -54,10 +56,15 @@ class BadReasons(Exception):
 
 @dataclass(frozen=True)
 class Reason:
-    """Why no row sees a mutant, and whether it changes what is printed."""
+    """Why no row sees a mutant: it is equivalent, left, or tested by a test that is named."""
 
     kind: str
     text: str
+
+    @property
+    def test(self) -> str:
+        """The test that refuses the mutant, by its crate, its module and its name, or nothing."""
+        return self.kind[len(TESTED) :] if self.kind.startswith(TESTED) else ""
 
 
 # Playing
@@ -145,7 +152,7 @@ def survivors_of(mutations: list[Mutation], rows: list[Row], jobs: int) -> list[
 
 
 def read_reasons(text: str) -> dict[str, Reason]:
-    """The reason for each listed mutant. A reason is a line, and each line behind it that is indented is a mutant."""
+    """The reason for each listed mutant. A reason is a line, and each indented line behind it is a mutant."""
     found: dict[str, Reason] = {}
     reason: Optional[Reason] = None
     for line in text.splitlines():
@@ -155,20 +162,28 @@ def read_reasons(text: str) -> dict[str, Reason]:
             found[line.strip()] = reason
         elif line and not line.startswith("%"):
             kind, _, why = line.partition(" because ")
-            if kind not in (EQUIVALENT, LEFT) or not why:
-                raise BadReasons(f"neither `{EQUIVALENT} because ..` nor `{LEFT} because ..`: {line}")
+            if not why or not (kind in (EQUIVALENT, LEFT) or kind.startswith(TESTED)):
+                raise BadReasons(f"neither equivalent, nor left, nor tested by a test, because of something: {line}")
             reason = Reason(kind, why)
     return found
 
 
+def is_test(top: Path, name: str) -> bool:
+    """Whether there is a test of this crate, module and name."""
+    crate, module, function = name.split("::")
+    path = top / "crates" / crate / "src" / f"{module}.rt"
+    return path.exists() and f"#[test]\nfn {function}(" in path.read_text(encoding="utf-8")
+
+
 def faults_of(reasons: dict[str, Reason], mutations: list[Mutation], survivors: list[Mutation]) -> Iterator[str]:
-    """The entries that name no mutant, and those that name one that falls."""
+    """The entries that name no mutant, one that a row sees, or no test."""
     names, surviving = set(map(str, mutations)), set(map(str, survivors))
-    for name in reasons:
+    for name, reason in reasons.items():
         if name not in names:
             yield f"listed, but no mutant: {name}"
         elif name not in surviving:
             yield f"listed, but a row sees it: {name}"
+    yield from (f"no test: {test}" for test in sorted({one.test for one in reasons.values()} - {""}) if not is_test(TOP, test))
 
 
 # Printing
@@ -183,16 +198,18 @@ def shown(mutation: Mutation, reason: Optional[Reason]) -> str:
 def report(mutations: list[Mutation], survivors: list[Mutation], reasons: dict[str, Reason]) -> int:
     """Prints the survivors, the faults of the list and the counts. The exit status."""
     faults = list(faults_of(reasons, mutations, survivors))
-    equivalent = [one for one in survivors if str(one) in reasons and reasons[str(one)].kind == EQUIVALENT]
-    left = [one for one in survivors if one not in equivalent]
+    known = {one: reasons[str(one)] for one in survivors if str(one) in reasons}
+    equivalent = [one for one, reason in known.items() if reason.kind == EQUIVALENT]
+    tested = [one for one, reason in known.items() if reason.test]
+    left = [one for one in survivors if one not in equivalent and one not in tested]
     for mutation in left:
-        print(shown(mutation, reasons.get(str(mutation))))
+        print(shown(mutation, known.get(mutation)))
     for fault in faults:
         print(fault)
     count = len(mutations) - len(equivalent)
-    print(f"{len(equivalent)} more are equivalent, {len(faults)} entries of {REASONS.name} are faults")
+    print(f"{len(equivalent)} more are equivalent, {len(tested)} fall by other tests of the gate, {len(faults)} faults of {REASONS.name}")
     print(f"{count} mutants, {count - len(left)} fall, {len(left)} survive")
-    return 1 if faults or any(str(mutation) not in reasons for mutation in left) else 0
+    return 1 if faults or any(mutation not in known for mutation in left) else 0
 
 
 def arguments() -> argparse.Namespace:

@@ -36,13 +36,14 @@ OPERATORS: Dict[Type[ast.operator], Tuple[str, str]] = {
     ast.LShift: ("<<", ">>"),
     ast.RShift: (">>", "<<"),
 }
-OTHER_CALLS = {"max": "min", "min": "max", "any": "all", "all": "any", "sorted": "list", "reversed": "list"}
+OTHER_CALLS = {"max": "min", "min": "max", "any": "all", "all": "any", "sorted": "list", "reversed": "list", "sum": "any"}
 CLAIMS = ("NORMAL", "FAILOVER", "TAKEOVER")
 VERDICTS = ("START", "FAILOVER", "MOVE", "TAKEOVER", "KEPT", "HALTED", "NOBODY")
 BODIES = ("WHOLE", "INTERVAL", "NOTHING")
 # The module whose names are the verdicts.
 PLACEMENT = "placement"
 
+STATEMENTS = (ast.Expr, ast.Assign, ast.AnnAssign, ast.AugAssign, ast.Break, ast.If, ast.IfExp, ast.For, ast.comprehension)
 UNTOUCHED_FUNCTIONS = ("main",)
 UNTOUCHED_FIELDS = ("annotation", "returns", "decorator_list", "bases", "ops", "op", "ctx")
 QUOTED = re.compile(r"[bf]?\"([^\"]*)\"|[bf]?'([^']*)'")
@@ -202,7 +203,7 @@ class Walk:
     def edits(self, node: ast.AST, around: Optional[ast.expr]) -> Iterator[Edit]:
         """The changes of a part as a whole."""
         yield from self.in_body(node)
-        if isinstance(node, (ast.Expr, ast.Assign, ast.AnnAssign, ast.AugAssign, ast.Break, ast.If, ast.IfExp, ast.comprehension)):
+        if isinstance(node, STATEMENTS):
             yield from self.of_statement(node)
         elif isinstance(node, (ast.Constant, ast.JoinedStr, ast.Name, ast.Attribute)):
             yield from self.of_word(node, around or node)
@@ -225,11 +226,12 @@ class Walk:
                 yield Edit(start, end, self.said(second) + middle + self.said(first), (start, end), texts)
 
     def of_statement(self, node: ast.AST) -> Iterator[Edit]:
-        """A statement is left out, or a case is always or never taken."""
+        """A statement is left out, a case is always or never taken, or a loop takes its first item alone, or all but that."""
         if isinstance(node, (ast.If, ast.IfExp)):
             yield from (self.other(node.test, put) for put in ("True", "False"))
-        elif isinstance(node, ast.comprehension):
-            yield from (self.other(test, "True") for test in node.ifs)
+        elif isinstance(node, (ast.comprehension, ast.For)):
+            yield from (self.other(test, "True") for test in getattr(node, "ifs", ()))
+            yield from (self.other(node.iter, f"list({self.said(node.iter)}){part}") for part in ("[:1]", "[1:]"))
         elif isinstance(node, (ast.Assign, ast.AnnAssign)):
             target = node.targets[0] if isinstance(node, ast.Assign) else node.target
             if isinstance(target, (ast.Attribute, ast.Subscript)):
@@ -252,6 +254,8 @@ class Walk:
             for family in (VERDICTS if is_verdict else CLAIMS, BODIES):
                 others = [other for other in family if other != name and name in family]
                 yield from (self.other(node, self.said(node)[: -len(name)] + other, around) for other in others)
+            if self.is_number(node):
+                yield from (self.other(node, other, around) for other in sorted(self.numbers - {name}))
 
     def of_constant(self, node: ast.Constant, around: ast.expr) -> Iterator[Edit]:
         """The other truth, a number one up or down, or a text with a mark behind one of its words."""
@@ -311,13 +315,17 @@ class Walk:
                 yield self.other(node, opening + rest.rstrip() + closing, around)
 
     def of_call(self, node: ast.Call) -> Iterator[Edit]:
-        """Another function of the kind, or two numbers that change places."""
+        """Another function of the kind, no order of its own, or two numbers that change places."""
         if isinstance(node.func, ast.Name) and node.func.id in OTHER_CALLS:
             yield self.other(node.func, OTHER_CALLS[node.func.id], node)
         for left, right in zip(node.args, node.args[1:]):
             if self.is_number(left) and self.is_number(right) and self.said(left) != self.said(right):
                 start, end = self.span(left)[0], self.span(right)[1]
                 yield Edit(start, end, f"{self.said(right)}, {self.said(left)}", self.span(node))
+        for keyword in node.keywords:
+            if keyword.arg == "key":
+                start, end = self.span(node.args[-1])[1], self.span(keyword.value)[1]
+                yield Edit(start, end, "", self.span(node))
 
     def is_number(self, node: ast.expr) -> bool:
         """Whether a part is a name that stands for a number."""

@@ -157,4 +157,36 @@ pub const PLACEMENTS: &[(&str, &str, &str)] = &[
         "boot c1@h 0\ntick c1@h 4000\ntick c1@h 3999\ntick c1@h 4000\n",
         "booted 1 op 1\nheld\nrefused 8 MomentBack\nheld\n",
     ),
+    // `infinity` waits without end for a mandatory node, and for an optional one. Once both are up the start gate opens.
+    (
+        "[{kernel,[{distributed,[{a,[c1@h,c2@h]}]},{sync_nodes_mandatory,[c2@h]},{sync_nodes_optional,[c3@h]},{sync_nodes_timeout,infinity}]}].\n",
+        "boot c1@h 0\nboot c2@h 0\nstart c1@h a c1@h\ntick c1@h 4611686018427387904\nshare\ntick c1@h 4611686018427387904\nboot c3@h 0\nshare\ntick c1@h 4611686018427387904\n",
+        "booted 1 op 1\nbooted 1 op 2\nissued 3 c1@h 1 2\nheld\nshared 2\nheld\nbooted 1 op 4\nshared 6\nticked\nclaim 5 a term 1 normal\n",
+    ),
+    // Without `sync_nodes_timeout` no node waits for others, not even for mandatory ones.
+    (
+        "[{kernel,[{distributed,[{a,[c1@h,c2@h]}]},{sync_nodes_mandatory,[c2@h]}]}].\n",
+        "boot c1@h 0\nstart c1@h a c1@h\ntick c1@h 0\n",
+        "booted 1 op 1\nissued 2 c1@h 1 2\nticked\nclaim 3 a term 1 normal\n",
+    ),
+    // A takeover by hand is refused at a node outside the application's list, and done by one whose name is below the holder's.
+    // An application runs nowhere once its holder has booted again, until that claims it, and once it is stopped.
+    (
+        "[{kernel,[{distributed,[{a,[c1@h,c2@h]},{b,[{c2@h,c3@h}]}]}]}].\n",
+        "boot c1@h 0\nboot c2@h 0\nboot c3@h 0\nstart c2@h b c2@h\nstart c3@h b c3@h\ntakeover c1@h b\ntick c3@h 0\nshare\ntakeover c2@h b\nshare\npage c1@h\ncrash c2@h\nboot c2@h 5\nstart c2@h b c2@h\nshare\ntakeover c3@h b\ntick c2@h 5\nshare\nstop c3@h b c2@h\ntakeover c3@h b\npage c3@h\n",
+        "booted 1 op 1\nbooted 1 op 2\nbooted 1 op 3\nissued 4 c2@h 1 2\nissued 5 c3@h 1 2\nrefused 7 NotInList\nticked\nclaim 6 b term 1 normal\nshared 6\nissued 7 c2@h 1 3\nshared 6\nnode c1@h 1\nheard 7 known 7\nnode c1@h up 1\nnode c2@h up 1\nnode c3@h up 1\napp a holder none verdict nobody\nlist c1@h=idle c2@h=idle\napp b holder c2@h 1 term 2 takeover from c3@h verdict kept c2@h\nlist c2@h=ok c3@h=ok\ncrashed\nbooted 2 op 8\nissued 9 c2@h 2 2\nshared 6\nrefused 12 NotRunning\nticked\nclaim 10 b term 3 failover from c2@h\nshared 6\nissued 11 c3@h 1 4\nrefused 12 NotRunning\nnode c3@h 1\nheard 11 known 11\nnode c1@h up 1\nnode c2@h up 2\nnode c3@h up 1\napp a holder none verdict nobody\nlist c1@h=idle c2@h=idle\napp b holder c2@h 2 term 3 failover from c2@h verdict halted c2@h\nlist c2@h=idle c3@h=ok\n",
+    ),
+    // A failover to a node of the group whose name is below the lost one's waits too.
+    (
+        "[{kernel,[{distributed,[{a,1000,[{c1@h,c2@h}]}]}]}].\n",
+        "boot c2@h 0\nstart c2@h a c2@h\ntick c2@h 0\nboot c1@h 0\nstart c1@h a c1@h\nshare\ncrash c2@h\ndown c1@h c2@h\ntick c1@h 100\ntick c1@h 1099\ntick c1@h 1100\n",
+        "booted 1 op 1\nissued 2 c2@h 1 2\nticked\nclaim 3 a term 1 normal\nbooted 1 op 4\nissued 5 c1@h 1 2\nshared 2\ncrashed\nissued 6 c1@h 1 3\nticked\nticked\nticked\nclaim 7 a term 2 failover from c2@h\n",
+    ),
+    // The file forbids the second application alone. The first one moves once it is forbidden where it runs: a page says so, and
+    // the next tick there claims it.
+    (
+        "[{kernel,[{distributed,[{a,[c1@h,c2@h]},{b,[c1@h]}]},{permissions,[{b,false}]}]}].\n",
+        "boot c1@h 0\nboot c2@h 0\nshare\nstart c1@h a c1@h\nstart c1@h b c1@h\nstart c1@h a c2@h\ntick c1@h 0\npermit c1@h a c1@h false\npage c1@h\nshare\ntick c2@h 0\npage c2@h\n",
+        "booted 1 op 1\nbooted 1 op 2\nshared 2\nissued 3 c1@h 1 2\nissued 4 c1@h 1 3\nissued 5 c1@h 1 4\nticked\nclaim 6 a term 1 normal\nissued 7 c1@h 1 6\nnode c1@h 1\nheard 7 known 7\nnode c1@h up 1\nnode c2@h up 1\napp a holder c1@h 1 term 1 normal verdict move c2@h\nlist c1@h=barred c2@h=ok\napp b holder none verdict nobody\nlist c1@h=barred\nshared 2\nticked\nclaim 8 a term 2 normal\nnode c2@h 1\nheard 8 known 8\nnode c1@h up 1\nnode c2@h up 1\napp a holder c2@h 1 term 2 normal verdict kept c2@h\nlist c1@h=barred c2@h=ok\napp b holder none verdict nobody\nlist c1@h=barred\n",
+    ),
 ];
