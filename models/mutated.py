@@ -79,7 +79,8 @@ def source_of(module: str) -> str:
 @lru_cache(None)
 def code_of(module: str) -> types.CodeType:
     """The code of a module as it stands."""
-    return compile(source_of(module), f"{module}.py", "exec")
+    code: types.CodeType = compile(source_of(module), f"{module}.py", "exec")
+    return code
 
 
 def all_mutations() -> list[Mutation]:

@@ -283,7 +283,7 @@ class Walk:
                 yield from self.without_each(right, node)
         elif isinstance(node, ast.BoolOp):
             old, put = ("and", "or") if isinstance(node.op, ast.And) else ("or", "and")
-            for at, (left, right) in enumerate(zip(node.values, node.values[1:])):
+            for left, right in zip(node.values, node.values[1:]):
                 yield self.between(left, right, f"{old} ", f"{put} ", node)
             for at in range(len(node.values)):
                 rest = node.values[:at] + node.values[at + 1 :]
