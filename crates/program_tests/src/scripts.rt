@@ -229,6 +229,27 @@ pub const SCRIPTS: &[(&str, &str, &str)] = &[
         "boot '' 0\nboot x 0\nshare\nstart '' '' ''\ntick '' 0\npage ''\ndown x ''\n",
         "booted 1 op 1\nbooted 1 op 2\nshared 2\nissued 3 '' 1 2\nticked\nclaim 4 '' term 1 normal\nnode '' 1\nheard 4 known 4\nnode '' up 1\nnode x up 1\napp '' holder '' 1 term 1 normal verdict kept ''\nlist ''=ok x=idle\nissued 5 x 1 2\n",
     ),
+    // A start replaces the one before it, so the second alone tells that the first is known, and a stop of the second leaves
+    // none. The first start, which comes last, doesn't count.
+    (
+        "[{kernel,[{distributed,[{a,[x,y]}]}]}].\n",
+        "boot x 0\nboot y 0\nstart x a x\nstart x a x\nhand y 1\nhand y 4\npage y\nstop y a x\nhand y 3\npage y\n",
+        "booted 1 op 1\nbooted 1 op 2\nissued 3 x 1 2\nissued 4 x 1 3\nheard new\nheard new\nnode y 1\nheard 3 known 4\nnode x up 1\nnode y up 1\napp a holder none verdict start x\nlist x=ok y=idle\nissued 5 y 1 2\nheard new\nnode y 1\nheard 5 known 5\nnode x up 1\nnode y up 1\napp a holder none verdict nobody\nlist x=idle y=idle\n",
+    ),
+    // Two starts stand that don't know of each other. A start replaces both, which is known where it alone is heard. A stop ends
+    // both.
+    (
+        "[{kernel,[{distributed,[{a,[x,y,z]}]}]}].\n",
+        "boot x 0\nboot y 0\nboot z 0\nshare\nstart x a x\nstart y a x\nshare\nstart z a x\ncrash y\nboot y 1\nhand y 6\npage y\nshare\nstart x a z\nstart y a z\nshare\nstop x a z\npage x\n",
+        "booted 1 op 1\nbooted 1 op 2\nbooted 1 op 3\nshared 6\nissued 4 x 1 2\nissued 5 y 1 2\nshared 6\nissued 6 z 1 2\ncrashed\nbooted 2 op 7\nheard new\nnode y 2\nheard 2 known 4\nnode x unknown\nnode y up 2\nnode z unknown\napp a holder none verdict nobody\nlist x=down y=idle z=down\nshared 6\nissued 8 x 1 3\nissued 9 y 2 2\nshared 6\nissued 10 x 1 4\nnode x 1\nheard 10 known 10\nnode x up 1\nnode y up 2\nnode z up 1\napp a holder none verdict start x\nlist x=ok y=idle z=idle\n",
+    ),
+    // What is handed asks for no answer, and what is known already brings nothing. An older acknowledgement, which comes late,
+    // takes nothing back.
+    (
+        "[{kernel,[{distributed,[{a,[x,y]}]}]}].\n",
+        "boot x 0\nboot y 0\nship y x\nhear x 1\nship x y\nhear y 2\nship y x\nstart x a x\nship x y\nhear y 4\nship y x\nhear x 5\nhear x 3\nship x y\nhear y 6\nship y x\nhand y 1\nship y x\n",
+        "booted 1 op 1\nbooted 1 op 2\nshipped 1 whole 1\nheard new\nshipped 2 whole 2\nheard new\nshipped 3 interval 2\nissued 3 x 1 2\nshipped 4 whole 3\nheard new\nshipped 5 interval 3\nheard nothing new\nheard nothing new\nshipped 6 nothing\nheard nothing new\nrefused 16 UpToDate\nheard nothing new\nrefused 16 UpToDate\n",
+    ),
     // Nothing is played.
     (TWO, "", ""),
     // Nobody runs who could share.
