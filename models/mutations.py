@@ -315,9 +315,10 @@ class Walk:
                 yield self.other(node, opening + rest.rstrip() + closing, around)
 
     def of_call(self, node: ast.Call) -> Iterator[Edit]:
-        """Another function of the kind, no order of its own, or two numbers that change places."""
+        """Another function of the kind, one of several values alone, no order of its own, or two numbers that change places."""
         if isinstance(node.func, ast.Name) and node.func.id in OTHER_CALLS:
             yield self.other(node.func, OTHER_CALLS[node.func.id], node)
+            yield from (self.other(node, self.said(value)) for value in node.args if len(node.args) > 1)
         for left, right in zip(node.args, node.args[1:]):
             if self.is_number(left) and self.is_number(right) and self.said(left) != self.said(right):
                 start, end = self.span(left)[0], self.span(right)[1]
