@@ -5,6 +5,7 @@ import io
 import os
 import pathlib
 import runpy
+import sys
 import tempfile
 import unittest
 from typing import Dict, Iterator, List, Sequence, Tuple
@@ -26,6 +27,13 @@ from tools.rounds import Round, is_readable, name_of, refused_in, rests_of, roun
 from tools.tables import cells_of, line_of
 from tools.verdicts import Record, checksums
 from tools.views import Views
+
+sys.path.insert(0, str(HERE / "models"))
+
+import mutated  # noqa: E402
+from gate_rows import Row, all_rows  # noqa: E402
+from mutated import LEFT, TESTED, BadReasons, Reason  # noqa: E402
+from mutations import Mutation, mutations_of  # noqa: E402
 
 MODULE = """-- What the module has.
 use Rattle.std.specs.Prelude.{ℕ}
@@ -601,6 +609,75 @@ class JudgingTest(unittest.TestCase):
         for text in ("", f"{mid}new: a", "file: src/../specs/Mid.antt\nold: mid\nnew: a", f"{mid}old: x\nnew: a"):
             edit.write_text(text, encoding="utf-8")
             self.assertRaises(BadEdit, texts_with, edit, folder)
+
+
+class MutatedModelTest(unittest.TestCase):
+    """What changes the model, and what sees it."""
+
+    mutants: Dict[str, Mutation]
+    rows: List[Row]
+
+    @classmethod
+    def setUpClass(cls) -> None:
+        cls.mutants = {str(mutation): mutation for mutation in mutated.all_mutations()}
+        cls.rows = all_rows(HERE)
+
+    def mutant(self, name: str) -> Mutation:
+        """The mutant that reads so."""
+        return self.mutants[name]
+
+    def test_changes(self) -> None:
+        text = "def least(now: int, since: int) -> bool:\n    return now >= since + 1\n"
+        found = [str(mutation).partition(": ")[2] for mutation in mutations_of("small.py", text)]
+        compared = [f"now >= since + 1 -> {one}" for one in ("now > since + 1", "now < since + 1", "since >= since + 1")]
+        added = [f"since + 1 -> {one}" for one in ("since - 1", "1", "now + 1", "since + 2", "since + 0")]
+        self.assertEqual(found, compared + added)
+
+    def test_each_reads_otherwise(self) -> None:
+        self.assertEqual(len(self.mutants), len(mutated.all_mutations()))
+        for mutation in self.mutants.values():
+            text = mutated.source_of(mutation.file[: -len(".py")])
+            self.assertNotEqual(mutation.applied(text), text, str(mutation))
+
+    def test_the_model_prints_each_row(self) -> None:
+        import sim
+
+        self.assertEqual([row.name for row in self.rows if sim.simulate(row.source) != (row.output, row.status)], [])
+
+    def test_a_row_sees_a_mutant(self) -> None:
+        mutant = self.mutant("world.py World.takeover: source == node -> source >= node")
+        seen = mutated.seen_by(mutant, self.rows)
+        self.assertIsNotNone(seen)
+        self.assertIsNone(mutated.seen_by(mutant, [row for row in self.rows if b"takeover" not in row.source]))
+        import world
+
+        self.assertEqual(len(world.REFUSALS), 17)
+
+    def test_what_fails_or_has_no_end_is_seen(self) -> None:
+        row = Row("one", b"[].\n--\n", b"config fault 5 NoDistributed at 4\n", 1)
+        with mock.patch.object(mutated, "MOST_SECONDS", 0.3):
+            self.assertEqual(mutated.seen_by(self.mutant("sim.py parted: past + 1 -> past + 0 (2)"), [row]), "one, by TooSlow")
+        self.assertEqual(mutated.seen_by(self.mutant("sim.py parted: source[:at] -> source[:]"), [row]), "one")
+
+    def test_reasons(self) -> None:
+        reasons = mutated.read_reasons("% a comment\nleft because of this\n  a -> b\ntested by a::b::c because of that\n  c -> d\n")
+        self.assertEqual(reasons, {"a -> b": Reason(LEFT, "of this"), "c -> d": Reason(f"{TESTED}a::b::c", "of that")})
+        for text in ("forgotten because of this", "left", "left because of this\n  a -> b\n  a -> b"):
+            self.assertRaises(BadReasons, mutated.read_reasons, text)
+
+    def test_a_stale_reason_is_told(self) -> None:
+        first, second = list(self.mutants.values())[:2]
+        reasons = {str(first): Reason(LEFT, "x"), str(second): Reason(f"{TESTED}a::b::c", "x"), "gone": Reason(LEFT, "x")}
+        said = [f"listed, but a row sees it: {second}", "listed, but no mutant: gone", "no test: a::b::c"]
+        self.assertEqual(list(mutated.faults_of(reasons, [first, second], [first])), said)
+        with contextlib.redirect_stdout(io.StringIO()) as printed:
+            self.assertEqual(mutated.report([first, second], [first], reasons), 1)
+        self.assertEqual(printed.getvalue().splitlines()[-1], "2 mutants, 1 fall, 1 survive")
+
+    def test_each_reason_names_a_mutant(self) -> None:
+        reasons = mutated.read_reasons(mutated.REASONS.read_text(encoding="utf-8"))
+        unseen = [self.mutants[name] for name in reasons if name in self.mutants]
+        self.assertEqual(list(mutated.faults_of(reasons, unseen, unseen)), [])
 
 
 class ScriptChecksTest(unittest.TestCase):

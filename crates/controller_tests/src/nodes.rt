@@ -148,9 +148,9 @@ pub fn hears_starts(alloc: Global, config: &Config, node: &mut Node, end: u64) -
     true
 }
 
-/// Whether the node hears a permit by each of 1,025 operations of the first node.
-fn hears_permits(alloc: Global, config: &Config, node: &mut Node) -> bool {
-    for n in 2..1_027 {
+/// Whether the node hears a permit by each operation of the first node from the second one on, below this counter.
+fn hears_permits(alloc: Global, config: &Config, node: &mut Node, end: u64) -> bool {
+    for n in 2..end {
         if !hears(config, node, dot(0, 1, n), permit(alloc)) {
             return false;
         }
@@ -187,13 +187,15 @@ fn too_many_starts(rt: HostRuntime) {
     assert!(rt; starts_are_too_many(rt.alloc()) == Some(true));
 }
 
-/// Whether 1,025 permits are too many to be replaced.
+/// Whether 1,024 permits are replaced by another, and one more is too many.
 fn permits_are_too_many(alloc: Global) -> Option<bool> {
     let config = read_config(alloc, ONE).ok()?;
     let mut node = boot_second(alloc, &config)?;
-    let more = hears_permits(alloc, &config, &mut node);
+    let most = hears_permits(alloc, &config, &mut node, 1_026) && accepts(&config, &node, PERMIT);
+    let more = hears(&config, &mut node, dot(0, 1, 1_026), permit(alloc));
     Some(
-        more && refuses(&config, &node, PERMIT, Refusal::TooManyDots)
+        most && more
+            && refuses(&config, &node, PERMIT, Refusal::TooManyDots)
             && accepts(&config, &node, START),
     )
 }

@@ -78,6 +78,7 @@ pub const SCRIPT_FAULTS: &[(&str, &str)] = &[
         "script fault 1 4 BadNumber\n",
     ),
     ("boot cp1@cave 0x", "script fault 1 4 BadNumber\n"),
+    ("boot cp1@cave +1", "script fault 1 4 BadNumber\n"),
     (
         "permit cp1@cave myapp cp1@cave",
         "script fault 1 2 BadCount\n",
@@ -119,8 +120,22 @@ pub const SCRIPT_FAULTS: &[(&str, &str)] = &[
     ("feed 444", "script fault 1 6 BadHex\n"),
     ("feed 4A", "script fault 1 6 BadHex\n"),
     ("feed 4g", "script fault 1 6 BadHex\n"),
+    ("feed g4", "script fault 1 6 BadHex\n"),
+    ("feed 4!", "script fault 1 6 BadHex\n"),
     ("feed 0x44", "script fault 1 6 BadHex\n"),
     ("feeds 44", "script fault 1 1 BadWord\n"),
+    // Quotes that stand alone, or don't close a name, and bytes that no name has. The empty name and others are names.
+    ("boot ' 0", "script fault 1 3 BadName\n"),
+    ("boot '' 0", "script fault 1 5 UnknownActor\n"),
+    ("boot \"x' 0", "script fault 1 3 BadName\n"),
+    ("boot x' 0", "script fault 1 3 BadName\n"),
+    ("boot 'x 0", "script fault 1 3 BadName\n"),
+    ("boot 'x\" 0", "script fault 1 3 BadName\n"),
+    ("boot 'x'y' 0", "script fault 1 3 BadName\n"),
+    ("boot '\\xy' 0", "script fault 1 3 BadName\n"),
+    ("boot 'x\x1fy' 0", "script fault 1 3 BadName\n"),
+    ("boot 'x\x7fy' 0", "script fault 1 3 BadName\n"),
+    ("boot 'x!y' 0", "script fault 1 5 UnknownActor\n"),
     // Carriage returns belong to words.
     (
         "% it stands in a comment\r\n\r\n",
@@ -137,6 +152,7 @@ pub const INPUT_FAULTS: &[(&str, &str)] = &[
     ("", "input fault 2 NoScript\n"),
     ("[].\n--x\n --\n", "input fault 2 NoScript\n"),
     ("[].\r\n--\r\n", "input fault 2 NoScript\n"),
+    ("\n--\n", "config fault 4 BadShape at 1\n"),
     ("[].\n--\njump", "config fault 5 NoDistributed at 4\n"),
     ("--", "config fault 4 BadShape at 0\n"),
     (

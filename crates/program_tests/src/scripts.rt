@@ -195,6 +195,61 @@ pub const SCRIPTS: &[(&str, &str, &str)] = &[
         "boot c1@h 0\nboot c2@h 0\nshare\nstart c1@h a c1@h\nshare\nshare\nstop c1@h a c1@h\nship c1@h c2@h\n",
         "booted 1 op 1\nbooted 1 op 2\nshared 2\nissued 3 c1@h 1 2\nshared 2\nshared 1\nissued 4 c1@h 1 3\nshipped 6 interval 1\n",
     ),
+    // Each node has acknowledged what was shipped, and the deltas are dropped. The next incarnation hears an old message alone
+    // and acknowledges that, so it gets the whole state.
+    (
+        "[{kernel,[{distributed,[{a,[c1@h,c2@h]}]}]}].\n",
+        "boot c2@h 0\ncrash c2@h\nboot c2@h 0\nboot c1@h 0\nship c1@h c2@h\nhear c2@h 1\nship c2@h c1@h\nhear c1@h 2\nstart c1@h a c1@h\nship c1@h c2@h\nhear c2@h 3\nship c2@h c1@h\nhear c1@h 4\ncrash c2@h\nboot c2@h 1\nhear c2@h 1\nship c2@h c1@h\nhear c1@h 5\nship c1@h c2@h\n",
+        "booted 1 op 1\ncrashed\nbooted 2 op 2\nbooted 1 op 3\nshipped 1 whole 1\nheard new\nshipped 2 whole 2\nheard new\nissued 4 c1@h 1 2\nshipped 3 interval 3\nheard new\nshipped 4 interval 3\nheard nothing new\ncrashed\nbooted 3 op 5\nheard new\nshipped 5 whole 2\nheard new\nshipped 6 whole 4\n",
+    ),
+    // What all others have acknowledged is dropped, and no more: what the first node lacks is kept, and shipped to it as an
+    // interval. Once both have acknowledged all it is dropped, so the next incarnation of the first, which received an old
+    // message alone, is sent the whole state. A message for the third node is refused by the second.
+    (
+        "[{kernel,[{distributed,[{a,[c1@h,c2@h,c3@h]}]}]}].\n",
+        "boot c1@h 0\nboot c2@h 0\nboot c3@h 0\nship c1@h c3@h\nhear c2@h 1\nshare\nshare\nstart c2@h a c2@h\nship c2@h c3@h\nhear c3@h 14\nship c3@h c2@h\nhear c2@h 15\nship c2@h c1@h\nhear c1@h 16\nship c1@h c2@h\nhear c2@h 17\ncrash c1@h\nboot c1@h 1\nhear c1@h 4\nship c1@h c2@h\nhear c2@h 18\nship c2@h c1@h\n",
+        "booted 1 op 1\nbooted 1 op 2\nbooted 1 op 3\nshipped 1 whole 1\nrefused 15 NotForMe\nshared 6\nshared 6\nissued 4 c2@h 1 2\nshipped 14 interval 1\nheard new\nshipped 15 interval 1\nheard nothing new\nshipped 16 interval 4\nheard new\nshipped 17 interval 4\nheard nothing new\ncrashed\nbooted 2 op 5\nheard new\nshipped 18 whole 3\nheard new\nshipped 19 whole 5\n",
+    ),
+    // An acknowledgement of an earlier incarnation's deltas is none of this one's, so the whole state is shipped.
+    (
+        "[{kernel,[{distributed,[{a,[c1@h,c2@h]}]}]}].\n",
+        "boot c1@h 0\nboot c2@h 0\nship c1@h c2@h\nhear c2@h 1\nship c2@h c1@h\ncrash c1@h\nboot c1@h 1\nhear c1@h 2\nship c1@h c2@h\n",
+        "booted 1 op 1\nbooted 1 op 2\nshipped 1 whole 1\nheard new\nshipped 2 whole 2\ncrashed\nbooted 2 op 3\nheard new\nshipped 3 whole 3\n",
+    ),
+    // A command goes by what its own node has heard: a stop at the first node ends a start that the second one hasn't heard of.
+    // A node that is off counts as up where nobody has said otherwise.
+    (
+        "[{kernel,[{distributed,[{a,[c1@h,c2@h]}]}]}].\n",
+        "boot c1@h 0\nboot c2@h 0\nshare\nstart c1@h a c2@h\nstop c1@h a c2@h\ndrain c1@h c2@h true\ndrain c1@h c2@h false\npage c1@h\nsame c1@h c2@h\nsame c2@h c1@h\ncrash c2@h\npermit c1@h a c2@h false\ndrain c1@h c2@h true\npage c1@h\n",
+        "booted 1 op 1\nbooted 1 op 2\nshared 2\nissued 3 c1@h 1 2\nissued 4 c1@h 1 3\nissued 5 c1@h 1 4\nissued 6 c1@h 1 5\nnode c1@h 1\nheard 6 known 6\nnode c1@h up 1\nnode c2@h up 1\napp a holder none verdict nobody\nlist c1@h=idle c2@h=idle\ndiffer\ndiffer\ncrashed\nissued 7 c1@h 1 6\nissued 8 c1@h 1 7\nnode c1@h 1\nheard 8 known 8\nnode c1@h up 1\nnode c2@h up 1 drained\napp a holder none verdict nobody\nlist c1@h=idle c2@h=barred\n",
+    ),
+    // A name may be empty.
+    (
+        "[{kernel,[{distributed,[{'',['',x]}]}]}].\n",
+        "boot '' 0\nboot x 0\nshare\nstart '' '' ''\ntick '' 0\npage ''\ndown x ''\n",
+        "booted 1 op 1\nbooted 1 op 2\nshared 2\nissued 3 '' 1 2\nticked\nclaim 4 '' term 1 normal\nnode '' 1\nheard 4 known 4\nnode '' up 1\nnode x up 1\napp '' holder '' 1 term 1 normal verdict kept ''\nlist ''=ok x=idle\nissued 5 x 1 2\n",
+    ),
+    // A start replaces the one before it, so the second alone tells that the first is known, and a stop of the second leaves
+    // none. The first start, which comes last, doesn't count.
+    (
+        "[{kernel,[{distributed,[{a,[x,y]}]}]}].\n",
+        "boot x 0\nboot y 0\nstart x a x\nstart x a x\nhand y 1\nhand y 4\npage y\nstop y a x\nhand y 3\npage y\n",
+        "booted 1 op 1\nbooted 1 op 2\nissued 3 x 1 2\nissued 4 x 1 3\nheard new\nheard new\nnode y 1\nheard 3 known 4\nnode x up 1\nnode y up 1\napp a holder none verdict start x\nlist x=ok y=idle\nissued 5 y 1 2\nheard new\nnode y 1\nheard 5 known 5\nnode x up 1\nnode y up 1\napp a holder none verdict nobody\nlist x=idle y=idle\n",
+    ),
+    // Two starts stand that don't know of each other. A start replaces both, which is known where it alone is heard. A stop ends
+    // both.
+    (
+        "[{kernel,[{distributed,[{a,[x,y,z]}]}]}].\n",
+        "boot x 0\nboot y 0\nboot z 0\nshare\nstart x a x\nstart y a x\nshare\nstart z a x\ncrash y\nboot y 1\nhand y 6\npage y\nshare\nstart x a z\nstart y a z\nshare\nstop x a z\npage x\n",
+        "booted 1 op 1\nbooted 1 op 2\nbooted 1 op 3\nshared 6\nissued 4 x 1 2\nissued 5 y 1 2\nshared 6\nissued 6 z 1 2\ncrashed\nbooted 2 op 7\nheard new\nnode y 2\nheard 2 known 4\nnode x unknown\nnode y up 2\nnode z unknown\napp a holder none verdict nobody\nlist x=down y=idle z=down\nshared 6\nissued 8 x 1 3\nissued 9 y 2 2\nshared 6\nissued 10 x 1 4\nnode x 1\nheard 10 known 10\nnode x up 1\nnode y up 2\nnode z up 1\napp a holder none verdict start x\nlist x=ok y=idle z=idle\n",
+    ),
+    // What is handed asks for no answer, and what is known already brings nothing. An older acknowledgement, which comes late,
+    // takes nothing back.
+    (
+        "[{kernel,[{distributed,[{a,[x,y]}]}]}].\n",
+        "boot x 0\nboot y 0\nship y x\nhear x 1\nship x y\nhear y 2\nship y x\nstart x a x\nship x y\nhear y 4\nship y x\nhear x 5\nhear x 3\nship x y\nhear y 6\nship y x\nhand y 1\nship y x\n",
+        "booted 1 op 1\nbooted 1 op 2\nshipped 1 whole 1\nheard new\nshipped 2 whole 2\nheard new\nshipped 3 interval 2\nissued 3 x 1 2\nshipped 4 whole 3\nheard new\nshipped 5 interval 3\nheard nothing new\nheard nothing new\nshipped 6 nothing\nheard nothing new\nrefused 16 UpToDate\nheard nothing new\nrefused 16 UpToDate\n",
+    ),
     // Nothing is played.
     (TWO, "", ""),
     // Nobody runs who could share.

@@ -1,0 +1,238 @@
+#!/usr/bin/env python3
+"""Changes the model of `distac sim` in one place at a time, and lists the changes that no row of the gate sees.
+
+Usage: python3 mutated.py [--rows FOLDER] [--jobs J] [--list]
+
+A mutant is one change of world.py, placement.py, meaning.py or sim.py: see mutations.py. It is a wrong definition, as an operator
+would see it. It falls if a row of the gate or an example prints something else by it (see gate_rows.py), if it fails, or if it
+takes more than some seconds. The texts of configurations (check.py) and the bytes (wire.py) aren't changed, because rows and tests
+of their own compare them, nor is what runs from the command line.
+
+unseen.txt lists the mutants that no row sees, each with a reason. By those that are equivalent nothing is printed otherwise. Those
+that another test of the gate refuses name it, and fall. All others are left. An entry that names no mutant, one that a row sees, or
+no test, is a fault.
+
+Each survivor is printed with its place, and as it reads before and after the change. The last line is `N mutants, K fall, S
+survive`, without those that are equivalent. The status is 0 if there is a reason for each survivor, and no entry is a fault.
+"""
+
+from __future__ import annotations
+
+import argparse
+import importlib
+import signal
+import sys
+import types
+from collections import Counter
+from collections.abc import Iterator
+from concurrent.futures import ProcessPoolExecutor
+from contextlib import contextmanager
+from dataclasses import dataclass
+from functools import lru_cache
+from pathlib import Path
+from typing import Optional
+
+from arguments import at_least
+from gate_rows import TOP, Row, all_rows
+from mutations import Mutation, mutations_of
+
+MODELS = Path(__file__).resolve().parent
+REASONS = MODELS / "unseen.txt"
+# Each module behind those that it imports.
+MODULES = ("check", "meaning", "wire", "placement", "world", "sim")
+CHANGED = ("world", "placement", "meaning", "sim")
+MOST_SECONDS = 10.0
+BATCH = 20
+EQUIVALENT, LEFT, TESTED = "equivalent", "left", "tested by "
+
+
+class TooSlow(BaseException):
+    """A mutant took too long."""
+
+
+class BadReasons(Exception):
+    """The list of reasons can't be read."""
+
+
+@dataclass(frozen=True)
+class Reason:
+    """Why no row sees a mutant: it is equivalent, left, or tested by a test that is named."""
+
+    kind: str
+    text: str
+
+    @property
+    def test(self) -> str:
+        """The test that refuses the mutant, by its crate, its module and its name, or nothing."""
+        return self.kind[len(TESTED) :] if self.kind.startswith(TESTED) else ""
+
+
+# Playing
+
+
+@lru_cache(None)
+def source_of(module: str) -> str:
+    """The text of a module of the model."""
+    return (MODELS / f"{module}.py").read_text(encoding="utf-8")
+
+
+@lru_cache(None)
+def code_of(module: str) -> types.CodeType:
+    """The code of a module as it stands."""
+    code: types.CodeType = compile(source_of(module), f"{module}.py", "exec")
+    return code
+
+
+def all_mutations() -> list[Mutation]:
+    """All mutants."""
+    return [mutation for module in CHANGED for mutation in mutations_of(f"{module}.py", source_of(module))]
+
+
+@contextmanager
+def loaded(mutation: Mutation) -> Iterator[types.ModuleType]:
+    """The model with a change. While it is used, the changed module and those behind it stand in the place of the others."""
+    first = [f"{name}.py" for name in MODULES].index(mutation.file)
+    kept = {name: importlib.import_module(name) for name in MODULES}
+    try:
+        for name in MODULES[first:]:
+            is_changed = name == MODULES[first]
+            code = compile(mutation.applied(source_of(name)), f"{name}.py", "exec") if is_changed else code_of(name)
+            sys.modules[name] = module = types.ModuleType(name)
+            exec(code, module.__dict__)
+        yield sys.modules["sim"]
+    finally:
+        sys.modules.update(kept)
+
+
+def give_up(_number: int, _frame: Optional[types.FrameType]) -> None:
+    """The time is up."""
+    raise TooSlow
+
+
+@contextmanager
+def limited(seconds: float) -> Iterator[None]:
+    """Ends what takes longer than so many seconds of the processor."""
+    before = signal.signal(signal.SIGVTALRM, give_up)
+    signal.setitimer(signal.ITIMER_VIRTUAL, seconds)
+    try:
+        yield
+    finally:
+        signal.setitimer(signal.ITIMER_VIRTUAL, 0)
+        signal.signal(signal.SIGVTALRM, before)
+
+
+def seen_by(mutation: Mutation, rows: list[Row]) -> Optional[str]:
+    """What sees a mutant: the first row that it prints otherwise, or how it ends. None if nothing does."""
+    name = "nothing yet"
+    try:
+        with limited(MOST_SECONDS), loaded(mutation) as model:
+            for row in rows:
+                name = row.name
+                if model.simulate(row.source) != (row.output, row.status):
+                    return name
+    except (Exception, TooSlow) as fault:
+        return f"{name}, by {type(fault).__name__}"
+    return None
+
+
+def seen_in(mutations: list[Mutation], rows: list[Row]) -> list[Optional[str]]:
+    """What sees each of some mutants."""
+    return [seen_by(mutation, rows) for mutation in mutations]
+
+
+def survivors_of(mutations: list[Mutation], rows: list[Row], jobs: int) -> list[Mutation]:
+    """The mutants that nothing sees, found by several processes at once."""
+    with ProcessPoolExecutor(jobs) as pool:
+        batches = [mutations[at : at + BATCH] for at in range(0, len(mutations), BATCH)]
+        tasks = [pool.submit(seen_in, batch, rows) for batch in batches]
+        seen = [one for task in tasks for one in task.result()]
+    return [mutation for mutation, name in zip(mutations, seen) if name is None]
+
+
+# Reasons
+
+
+def read_reasons(text: str) -> dict[str, Reason]:
+    """The reason for each listed mutant. A reason is a line, and each indented line behind it is a mutant."""
+    found: dict[str, Reason] = {}
+    reason: Optional[Reason] = None
+    for line in text.splitlines():
+        if line.startswith("  ") and reason is not None:
+            if line.strip() in found:
+                raise BadReasons(f"listed twice: {line.strip()}")
+            found[line.strip()] = reason
+        elif line and not line.startswith("%"):
+            kind, _, why = line.partition(" because ")
+            if not why or not (kind in (EQUIVALENT, LEFT) or kind.startswith(TESTED)):
+                raise BadReasons(f"neither equivalent, nor left, nor tested by a test, because of something: {line}")
+            reason = Reason(kind, why)
+    return found
+
+
+def is_test(top: Path, name: str) -> bool:
+    """Whether there is a test of this crate, module and name."""
+    crate, module, function = name.split("::")
+    path = top / "crates" / crate / "src" / f"{module}.rt"
+    return path.exists() and f"#[test]\nfn {function}(" in path.read_text(encoding="utf-8")
+
+
+def faults_of(reasons: dict[str, Reason], mutations: list[Mutation], survivors: list[Mutation]) -> Iterator[str]:
+    """The entries that name no mutant, one that a row sees, or no test."""
+    names, surviving = set(map(str, mutations)), set(map(str, survivors))
+    for name, reason in reasons.items():
+        if name not in names:
+            yield f"listed, but no mutant: {name}"
+        elif name not in surviving:
+            yield f"listed, but a row sees it: {name}"
+    yield from (f"no test: {test}" for test in sorted({one.test for one in reasons.values()} - {""}) if not is_test(TOP, test))
+
+
+# Printing
+
+
+def shown(mutation: Mutation, reason: Optional[Reason]) -> str:
+    """A mutant with its place, and why it is left, if that is known."""
+    text = f"{mutation.file}:{mutation.line}: {mutation.function}: {mutation.old} -> {mutation.new}"
+    return f"{text}\n    left because {reason.text}" if reason else text
+
+
+def report(mutations: list[Mutation], survivors: list[Mutation], reasons: dict[str, Reason]) -> int:
+    """Prints the survivors, the faults of the list and the counts. The exit status."""
+    faults = list(faults_of(reasons, mutations, survivors))
+    known = {one: reasons[str(one)] for one in survivors if str(one) in reasons}
+    equivalent = [one for one, reason in known.items() if reason.kind == EQUIVALENT]
+    tested = [one for one, reason in known.items() if reason.test]
+    left = [one for one in survivors if one not in equivalent and one not in tested]
+    for mutation in left:
+        print(shown(mutation, known.get(mutation)))
+    for fault in faults:
+        print(fault)
+    count = len(mutations) - len(equivalent)
+    print(f"{len(equivalent)} more are equivalent, {len(tested)} fall by other tests of the gate, {len(faults)} faults of {REASONS.name}")
+    print(f"{count} mutants, {count - len(left)} fall, {len(left)} survive")
+    return 1 if faults or any(mutation not in known for mutation in left) else 0
+
+
+def arguments() -> argparse.Namespace:
+    """The words of the command line."""
+    parser = argparse.ArgumentParser(description="Lists the changes of the model of `distac sim` that no row of the gate sees.")
+    parser.add_argument("--rows", type=Path, default=TOP, help="the clone whose rows and examples are played, this one if not given")
+    parser.add_argument("--jobs", type=at_least(1), default=2)
+    parser.add_argument("--list", action="store_true", help="list all mutants, and play none")
+    return parser.parse_args()
+
+
+def main() -> int:
+    """Lists the mutants, or tries them."""
+    words = arguments()
+    mutations = all_mutations()
+    if words.list:
+        print("\n".join(shown(mutation, None) for mutation in mutations))
+        print(", ".join(f"{count} of {file}" for file, count in Counter(mutation.file for mutation in mutations).items()))
+        return 0
+    rows = all_rows(words.rows)
+    return report(mutations, survivors_of(mutations, rows, words.jobs), read_reasons(REASONS.read_text(encoding="utf-8")))
+
+
+if __name__ == "__main__":
+    sys.exit(main())
