@@ -3,7 +3,7 @@
 
 Usage: python3 mutated.py [--rows FOLDER] [--jobs J] [--list]
 
-A mutant is one change of world.py, placement.py, meaning.py or sim.py: see mutations.py. It is a wrong definition, as an operator
+A mutant is one change of world.py, placement.py, meaning.py or simulator.py: see mutations.py. It is a wrong definition, as an operator
 would see it. It falls if a row of the gate or an example prints something else by it (see gate_rows.py), if it fails, or if it
 takes more than some seconds. The texts of configurations (check.py) and the bytes (wire.py) aren't changed, because rows and tests
 of their own compare them, nor is what runs from the command line.
@@ -39,8 +39,8 @@ from mutations import Mutation, mutations_of
 MODELS = Path(__file__).resolve().parent
 REASONS = MODELS / "unseen.txt"
 # Each module behind those that it imports.
-MODULES = ("check", "meaning", "wire", "placement", "world", "sim")
-CHANGED = ("world", "placement", "meaning", "sim")
+MODULES = ("check", "meaning", "wire", "placement", "world", "simulator")
+CHANGED = ("world", "placement", "meaning", "simulator")
 MOST_SECONDS = 10.0
 BATCH = 20
 EQUIVALENT, LEFT, TESTED = "equivalent", "left", "tested by "
@@ -99,7 +99,7 @@ def loaded(mutation: Mutation) -> Iterator[types.ModuleType]:
             code = compile(mutation.applied(source_of(name)), f"{name}.py", "exec") if is_changed else code_of(name)
             sys.modules[name] = module = types.ModuleType(name)
             exec(code, module.__dict__)
-        yield sys.modules["sim"]
+        yield sys.modules["simulator"]
     finally:
         sys.modules.update(kept)
 

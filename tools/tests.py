@@ -640,9 +640,9 @@ class MutatedModelTest(unittest.TestCase):
             self.assertNotEqual(mutation.applied(text), text, str(mutation))
 
     def test_the_model_prints_each_row(self) -> None:
-        import sim
+        import simulator
 
-        self.assertEqual([row.name for row in self.rows if sim.simulate(row.source) != (row.output, row.status)], [])
+        self.assertEqual([row.name for row in self.rows if simulator.simulate(row.source) != (row.output, row.status)], [])
 
     def test_a_row_sees_a_mutant(self) -> None:
         mutant = self.mutant("world.py World.takeover: source == node -> source >= node")
@@ -656,8 +656,8 @@ class MutatedModelTest(unittest.TestCase):
     def test_what_fails_or_has_no_end_is_seen(self) -> None:
         row = Row("one", b"[].\n--\n", b"config fault 5 NoDistributed at 4\n", 1)
         with mock.patch.object(mutated, "MOST_SECONDS", 0.3):
-            self.assertEqual(mutated.seen_by(self.mutant("sim.py parted: past + 1 -> past + 0 (2)"), [row]), "one, by TooSlow")
-        self.assertEqual(mutated.seen_by(self.mutant("sim.py parted: source[:at] -> source[:]"), [row]), "one")
+            self.assertEqual(mutated.seen_by(self.mutant("simulator.py parted: past + 1 -> past + 0 (2)"), [row]), "one, by TooSlow")
+        self.assertEqual(mutated.seen_by(self.mutant("simulator.py parted: source[:at] -> source[:]"), [row]), "one")
 
     def test_reasons(self) -> None:
         reasons = mutated.read_reasons("% a comment\nleft because of this\n  a -> b\ntested by a::b::c because of that\n  c -> d\n")
