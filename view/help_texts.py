@@ -28,10 +28,14 @@ EXAMPLES = {
                                                  one configuration from the files of two nodes
   distac-view gather shop1@10.0.0.1=common.config,shop1.config shop2@10.0.0.2=common.config,shop2.config
                                                  later files win, as with erl -config common -config shop1
+  distac-view gather shop1/sys.config.src,shop1/vm.args.src --env prod.env --env FAILOVER_MS=5000 --root image
+                                                 before a node runs: -name tells the node, --root where /etc is
   distac-view gather --print-command | erl_call -name shop1@10.0.0.1 -c COOKIE -fetch_stdout -e > shop1.answer
                                                  what a running node has: gather takes the answer as its FILE
   bin/shop rpc "$(distac-view gather --print-command elixir)" > shop1.answer
                                                  the same of a release that mix made
+  elixir -e "$(distac-view gather --print-command elixir-config)" > shop1.answer
+                                                 what config/runtime.exs makes of the variables of this shell
   distac-view gather --print-command now | erl_call -name shop1@10.0.0.1 -c COOKIE -fetch_stdout -e >> now.txt
                                                  what runs at a node, for --now of the other subcommands""",
     "play": """\
