@@ -9,6 +9,7 @@ from typing import IO, Callable
 from view.check import check
 from view.completion import bash_completion
 from view.distac import MODELS, Distac, found_distac, nobody
+from view.expect import add_expect, expect
 from view.gather import LINES, gather
 from view.help_texts import epilog_of
 from view.loading import Faulty, Loaded, answers_of, load_script
@@ -180,6 +181,12 @@ def gather_words(parser: argparse.ArgumentParser) -> None:
     add_json(parser)
 
 
+def expect_words(parser: argparse.ArgumentParser) -> None:
+    """The words of `expect`, which reads command lines itself."""
+    parser.set_defaults(parser_of_words=parser_of_words)
+    add_expect(parser)
+
+
 SUBCOMMANDS: "list[tuple[str, str, Subcommand, Callable[[argparse.ArgumentParser], None]]]" = [
     ("check", "Prints the canonical text of a configuration, or where its first fault is.", check, check_words),
     ("gather", "Writes one configuration from the files of all nodes.", gather, gather_words),
@@ -188,6 +195,7 @@ SUBCOMMANDS: "list[tuple[str, str, Subcommand, Callable[[argparse.ArgumentParser
     ("what-if", "Says where each application goes if a node goes down, and once the node is back.", what_if, add_what_if),
     ("rolling", "Says what moves in each step of a rolling restart, and finds the best order.", rolling, add_rolling),
     ("load", "Says how many applications each node has if a node goes down, and what is lost then.", load, add_load),
+    ("expect", "Asks the questions of a folder, and says which answers aren't as they are stored.", expect, expect_words),
 ]
 
 

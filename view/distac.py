@@ -108,7 +108,7 @@ def runnable(path: str) -> str:
         raise Problem(f"no program distac at {path}: name one by --distac PATH or by the environment variable DISTAC")
     if not os.access(program, os.X_OK):
         raise Problem(f"{path} can't be run: it isn't executable")
-    return program
+    return os.path.abspath(program)
 
 
 def program_beside() -> str:

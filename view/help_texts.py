@@ -8,13 +8,14 @@ proved one, else one without proof, which is compiled first if there is none. --
 A FILE that is a dash is standard input."""
 
 NO = {
-    "": "the answer is no: --strict warns, --fail-on fails, --then changes something, or rolling is barred",
+    "": "the answer is no: --strict warns, --fail-on fails, --then changes something, rolling is barred, or expect finds a change",
     "check": "with --strict, a warning that --allow doesn't name",
     "gather": "with --strict, a warning that --allow doesn't name",
     "play": "with --strict, a warning that --allow doesn't name",
     "what-if": "--then changes something",
     "rolling": "a step can't go on, or --fail-on fails",
     "load": "--fail-on fails",
+    "expect": "an answer isn't as it is stored",
 }
 
 EXAMPLES = {
@@ -68,6 +69,10 @@ EXAMPLES = {
   distac-view load sys.config --pairs            applications on each node if one or two nodes are down
   distac-view load sys.config --most 4 --fail-on lost,load
                                                  a budget for CI: lost applications or more than 4 at a node end it with 1""",
+    "expect": """\
+  distac-view expect questions                   the questions of a folder: what differs from the stored answers
+  distac-view expect questions --write           store the answers of today
+  distac-view expect questions budget --json     one of them, for another program""",
 }
 
 
