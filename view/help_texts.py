@@ -58,6 +58,8 @@ EXAMPLES = {
                                                  from where a script ends, for another program
   distac-view what-if sys.config --now billing=shop1@rack1 mail=shop2@rack1
                                                  from where applications run now
+  distac-view what-if sys.config --split shop1 shop2 / shop3
+                                                 what each side of a split runs, and once it is healed
   distac-view what-if sys.config --then new.config
                                                  what a new configuration changes""",
     "rolling": """\
