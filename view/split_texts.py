@@ -24,8 +24,8 @@ HEALED = (
 )
 KEPT_BOTH = "Healed, in OTP: nothing stops any copy, and all run on until somebody stops them, or restarts their nodes."
 OVERLAPPING = (
-    "OTP since 25 may break more connections, by prevent_overlapping_partitions, if those between the sides don't break at once: "
-    "the sides are smaller then, down to single nodes."
+    "OTP since 25 may break more connections than a split does, by prevent_overlapping_partitions: "
+    "the sides may be smaller then, down to single nodes."
 )
 
 

@@ -140,40 +140,48 @@ def run_split(scenario: Scenario, sides: "tuple[str, ...]", way: Way, counts: "C
         cut(cluster, sides, True, way.at_once)
         time.sleep(longest / 1000 + LATE_SECONDS)
         during, heard = cluster.where(names), hearing(cluster)
+        formed = sides_formed(heard)
+        if sorted(formed) != sorted(" ".join(sorted(side.split())) for side in sides):
+            answer = expected_of(config, formed, now)
         cut(cluster, sides, False, True)
         time.sleep(LATE_SECONDS)
         healed, heard_again = cluster.where(names), hearing(cluster)
-        others = [f"{name}@{HOST}" for side in sides[1:] for name in side.split()]
+        others = [f"{name}@{HOST}" for side in formed[1:] for name in side.split()]
         for node in others:
             cluster.nodes[node].kill()
         time.sleep(longest / 1000 + LATE_SECONDS)
         boot(cluster, others, names)
         back = cluster.where(names)
-    tell(scenario, sides, way, answer, {"during": during, "healed": healed, "back": back}, (heard, heard_again), counts)
+    print(f"{scenario.name}, {' / '.join(sides)}, {way.name}: formed {' / '.join(formed)}, then {' / '.join(sides_formed(heard_again))}", flush=True)
+    tell(way, answer, {"during": during, "healed": healed, "back": back}, counts)
 
 
-def hearing(cluster: Cluster) -> str:
-    """Which nodes hear which, as text."""
-    found = []
+def hearing(cluster: Cluster) -> "dict[str, list[str]]":
+    """Which nodes each node hears, itself among them."""
+    found = {}
     for name, node in zip(SHORT, NODES):
         nodes = cluster.nodes[node].ask("nodes") or []
-        found.append(f"{name}:{''.join(sorted(other.split('@')[0][2:] for other in nodes))}")
-    return " ".join(found)
+        found[name] = sorted([name, *(other.split("@")[0] for other in nodes)])
+    return found
 
 
-def tell(scenario: Scenario, sides: "tuple[str, ...]", way: Way, answer: Any, seen: "dict[str, Places]", heard: "tuple[str, str]", counts: "Counter[str]") -> None:
-    """Counts what agrees, and prints a line for what doesn't."""
-    head = f"{scenario.name}, {' / '.join(sides)}, {way.name}"
-    print(f"{head}: heard {heard[0]}; again {heard[1]}", flush=True)
+def sides_formed(heard: "dict[str, list[str]]") -> "tuple[str, ...]":
+    """The sides of a split as nodes hear each other. Each node of a side has to hear all others of it."""
+    if any(heard[other] != nodes for nodes in heard.values() for other in nodes):
+        raise SystemExit(f"nodes hear each other in part: {heard}")
+    return tuple(dict.fromkeys(" ".join(nodes) for nodes in heard.values()))
+
+
+def tell(way: Way, answer: Any, seen: "dict[str, Places]", counts: "Counter[str]") -> None:
+    """Counts what agrees, and prints a line for what doesn't. After the restart one copy is expected if one was left."""
     for each in answer["healed"]:
-        app = each["application"]
+        app, left = each["application"], seen["healed"][each["application"]]
         wanted = {"during": sorted(each["copies"]), "healed": sorted(each["copies"]), "back": [each["back"]] if each["back"] else []}
         for moment, nodes in wanted.items():
             found = sorted(seen[moment][app])
-            kind = f"{moment} {'agree' if found == nodes else 'differ'}, {way.name}"
-            counts[kind] += 1
+            counts[f"{moment} {'agree' if found == nodes else 'differ'}, {way.name}"] += 1
             if found != nodes:
-                print(f"  {app} {moment}: {short(nodes)}, and OTP has {short(found)}", flush=True)
+                print(f"  {app} {moment}: {short(nodes)}, and OTP has {short(found)}, behind {short(left)}", flush=True)
 
 
 def short(nodes: "list[str]") -> str:
