@@ -10,6 +10,7 @@ from view.asked import asked_by
 from view.check import check
 from view.completion import bash_completion
 from view.distac import MODELS, Distac, found_distac, nobody
+from view.expect import add_expect, expect
 from view.gather import LINES, gather
 from view.help_texts import epilog_of
 from view.loading import Faulty, Loaded, answers_of, load_script
@@ -166,16 +167,26 @@ def count_from_one(word: str) -> int:
 def gather_words(parser: argparse.ArgumentParser) -> None:
     """The words of `gather`."""
     parser.set_defaults(version=VERSION)
-    about_files = "a node and its files, in the order of erl -config; - is standard input"
+    about_files = "a node and its files, in the order of erl -config: configurations, vm.args, and NAME.env with variables; - is standard input"
     parser.add_argument("nodes", metavar="NODE=FILE[,FILE..]", nargs="*", help=about_files)
     parser.add_argument("-o", "--output", metavar="CONFIG", default="-", help="the configuration that is written, standard output if absent")
     more = "write a script too, in which all nodes come up: it says permissions that hold at some nodes alone"
     parser.add_argument("-s", "--script", metavar="SCRIPT", help=more)
+    about_env = "what ${NAME} stands for in all files, or a file of lines NAME=VALUE"
+    parser.add_argument("--env", metavar="NAME=VALUE|FILE", action="append", default=[], help=about_env)
+    about_root = "the folder in which files with absolute names are looked for: of one node, or of all"
+    parser.add_argument("--root", metavar="[NODE=]DIR", action="append", default=[], help=about_root)
     parser.add_argument("--reader", choices=("erl", "own"), help="read by Erlang or by distac-view: Erlang if escript is in PATH")
     about_line = "print a line for a node's remote shell, whose answer is taken as a FILE, or with now as that of --now"
     parser.add_argument("--print-command", choices=tuple(LINES), nargs="?", const="erlang", help=about_line)
     add_strict(parser)
     add_json(parser)
+
+
+def expect_words(parser: argparse.ArgumentParser) -> None:
+    """The words of `expect`, which reads command lines itself."""
+    parser.set_defaults(parser_of_words=parser_of_words)
+    add_expect(parser)
 
 
 SUBCOMMANDS: "list[tuple[str, str, Subcommand, Callable[[argparse.ArgumentParser], None]]]" = [
@@ -186,6 +197,7 @@ SUBCOMMANDS: "list[tuple[str, str, Subcommand, Callable[[argparse.ArgumentParser
     ("what-if", "Says where each application goes if a node goes down, and once the node is back.", what_if, add_what_if),
     ("rolling", "Says what moves in each step of a rolling restart, and finds the best order.", rolling, add_rolling),
     ("load", "Says how many applications each node has if a node goes down, and what is lost then.", load, add_load),
+    ("expect", "Asks the questions of a folder, and says which answers aren't as they are stored.", expect, expect_words),
 ]
 
 

@@ -10,6 +10,7 @@ from view.forbidden import unknown_in
 from view.loading import Checked
 from view.near_names import looks_misspelt, near_to
 from view.places import Remark, place_of
+from view.templates import FILLED_IN, TEMPLATE
 from view.texts import cut, listed, shown
 from view.tokens import Kind, Token, bare_name, name_of, tokens_of
 
@@ -67,6 +68,7 @@ def warnings_on(checked: Checked, path: str) -> list[Remark]:
         *sync_without_time(checked, source),
         *single_nodes(checked, source),
         *near_names(checked, source),
+        *templates_left(checked, source),
         *unknown_in(checked),
         *boot_warnings(checked, path),
     ]
@@ -122,10 +124,18 @@ def near_names(checked: Checked, source: Source) -> Iterator[Remark]:
     configuration = checked.configuration
     for is_app, names in enumerate((configuration.nodes, configuration.names)):
         for one, other in combinations(names, 2):
-            if looks_misspelt(one, other):
+            if looks_misspelt(one, other) and not TEMPLATE.search(one + other):
                 token = max(first_token(source, one), first_token(source, other), key=lambda found: found.start)
                 sentence = f"{listed([shown(bare_name(one)), shown(bare_name(other))])} differ by one change: are they two?"
                 yield source.remark(token, "NearName", sentence, *((one, other) if is_app else ()))
+
+
+def templates_left(checked: Checked, source: Source) -> Iterator[Remark]:
+    """The first name that a release fills in when it starts."""
+    configuration = checked.configuration
+    name = next((name for name in (*configuration.nodes, *configuration.names) if TEMPLATE.search(name)), None)
+    if name is not None:
+        yield source.remark(first_token(source, name), "Template", f"{cut(shown(name), 60)} is left of {FILLED_IN}")
 
 
 def first_token(source: Source, name: str) -> Token:

@@ -112,7 +112,7 @@ def runnable(path: str) -> str:
         raise Problem(f"no program distac at {path}: {more}")
     if not os.access(program, os.X_OK):
         raise Problem(f"{path} can't be run: it isn't executable")
-    return program
+    return os.path.abspath(program)
 
 
 def program_beside() -> tuple[str, str]:

@@ -3,20 +3,24 @@
 from __future__ import annotations
 
 import argparse
+import os
 
 from view.configuration import Configuration
 from view.distac import Distac
 from view.erlang_reader import Reader, reader_named
 from view.forbidden import comment_of
-from view.gathering import Gathered, gathered, node_named
+from view.gathering import Gathered, gathered
 from view.json_answers import Fields, json_of
 from view.loading import check_config
-from view.node_files import ANSWER_MARK, Library, NodeSettings, path_text, settings_of
+from view.node_files import ANSWER_MARK, Library, NodeSettings, path_text
+from view.node_flags import input_of, node_named, settings_with_flags
 from view.output import Output
 from view.placements import Placement, placement_of
 from view.problems import Problem, Status
 from view.remarks import warned, warnings_fields
+from view.surroundings import EachSurroundings
 from view.texts import bytes_of, shown
+from view.variables import ENDING
 from view.writing import PIPE, write_whole
 
 ERLANG_LINE = (
@@ -38,7 +42,19 @@ ELIXIR_NOW_LINE = (
     ':io.format(~c"~n~tw~ts~n", [node(), (for {a, _, _} <- :application.which_applications(), '
     ':lists.keymember(a, 1, d), do: [" ", :io_lib.format(~c"~tw", [a])])])'
 )
-LINES = {"erlang": ERLANG_LINE, "elixir": ELIXIR_LINE, "now": NOW_LINE, "elixir-now": ELIXIR_NOW_LINE}
+ELIXIR_CONFIG_LINE = (
+    "[k] = [[:distributed, :permissions, :sync_nodes_mandatory, :sync_nodes_optional, :sync_nodes_timeout, :net_ticktime]]; "
+    'c = for f <- ["config/config.exs", "config/runtime.exs"], File.exists?(f), reduce: [], do: '
+    "(a -> Config.Reader.merge(a, Config.Reader.read!(f, env: :prod, target: :host))); "
+    f':io.format(~c"~n{ANSWER_MARK}~tw~n~tw.~n", [node(), [kernel: Keyword.take(Keyword.get(c, :kernel, []), k)]])'
+)
+LINES = {
+    "erlang": ERLANG_LINE,
+    "elixir": ELIXIR_LINE,
+    "elixir-config": ELIXIR_CONFIG_LINE,
+    "now": NOW_LINE,
+    "elixir-now": ELIXIR_NOW_LINE,
+}
 
 
 def gather(distac: Distac, words: argparse.Namespace, output: Output) -> Status:
@@ -48,7 +64,8 @@ def gather(distac: Distac, words: argparse.Namespace, output: Output) -> Status:
         return Status.FINE
     if not words.nodes:
         raise Problem("gather wants the files of each node: NODE=FILE[,FILE..], or --print-command")
-    placements = [placement_of(settings) for settings in settings_by_node(words.nodes, reader_named(words.reader))]
+    each = EachSurroundings(words.env, words.root)
+    placements = [placement_of(settings) for settings in settings_by_node(words.nodes, each, reader_named(words.reader))]
     found = gathered(placements)
     checked = check_config(distac, "the gathered configuration", bytes_of(found.text))
     text = "".join(line + "\n" for line in (*head_of(words.version, placements, found), checked.canonical))
@@ -62,18 +79,31 @@ def gather(distac: Distac, words: argparse.Namespace, output: Output) -> Status:
     return warned(words, found.warnings)
 
 
-def settings_by_node(words: list[str], reader: Reader) -> list[NodeSettings]:
+def settings_by_node(words: list[str], each: EachSurroundings, reader: Reader) -> list[NodeSettings]:
     """What the files of each node say. A node that is named again has further files."""
-    named: dict[str, list[str]] = {}
+    named: "dict[str, tuple[str, list[str]]]" = {}
     for word in words:
-        node, sign, paths = word.partition("=")
-        files = [path for path in paths.split(",") if path]
-        if not (node and sign and files):
-            raise Problem(f"{shown(word)} isn't NODE=FILE[,FILE..]: write the node's name, =, and its files in the order of -config")
-        named.setdefault(node_named(node), []).extend(files)
-    library = Library(reader)
-    library.read([path for paths in named.values() for path in paths])
-    return [settings_of(node, paths, library) for node, paths in named.items()]
+        node, paths = node_and_files(word)
+        named.setdefault(node or word, (node, []))[1].extend(paths)
+    each.want_known(node for node, _ in named.values())
+    library, inputs = Library(reader), []
+    for node, paths in named.values():
+        variable_files = [path for path in paths if path.endswith(ENDING)]
+        others = [path for path in paths if not path.endswith(ENDING)]
+        inputs.append(input_of(node, others, each.of(node, variable_files), library))
+    library.read(text for given in inputs for text in given.texts)
+    return [settings_with_flags(given, library) for given in inputs]
+
+
+def node_and_files(word: str) -> "tuple[str, list[str]]":
+    """A node and its files, by a word of the command line. Files of arguments may tell the node's name."""
+    node, sign, paths = word.partition("=")
+    if not sign and any(os.path.exists(path) for path in word.split(",")):
+        return "", [path for path in word.split(",") if path]
+    files = [path for path in paths.split(",") if path]
+    if not (node and files):
+        raise Problem(f"{shown(word)} isn't NODE=FILE[,FILE..]: write the node's name, =, and its files in the order of -config")
+    return node_named(node), files
 
 
 def head_of(version: str, placements: list[Placement], found: Gathered) -> list[str]:
@@ -84,6 +114,8 @@ def head_of(version: str, placements: list[Placement], found: Gathered) -> list[
         lines += [f"%% {shown(placement.node)} {path_text(file.path)} sha256 {file.mark}" for file in placement.settings.files]
     if found.tick_time is not None:
         lines.append(f"%% net_ticktime {found.tick_time}")
+    names = sorted({name for placement in placements for file in placement.settings.files for name in file.filled.names})
+    lines += [f"%% variables {' '.join(names)}"] if names else []
     return [*lines, *(comment_of(app, node) for node, app in found.barred_at)]
 
 

@@ -8,11 +8,11 @@ from typing import Iterable
 from view.configuration import name_order
 from view.naming import node_meant
 from view.node_files import NO_NAME, Setting
+from view.node_flags import node_named
 from view.placements import SYNC_LISTS, Entry, Placement
 from view.places import Told
 from view.problems import Problem
 from view.texts import cut, listed, shown
-from view.tokens import name_of
 
 
 @dataclass
@@ -238,8 +238,3 @@ def coverage_warnings(found: Gathered, placements: list[Placement]) -> list[Told
     if any(found.sync.values()) and found.sync_time is None:
         warnings.append(Told("NoSyncTime", "no node waits for those of the sync lists, because sync_nodes_timeout is in no file"))
     return warnings
-
-
-def node_named(word: str) -> str:
-    """A node of the command line as `distac` spells it."""
-    return name_of(word if word.startswith("'") else f"'{word}'")

@@ -8,13 +8,14 @@ proved one, else one without proof, which is compiled first if there is none. --
 A FILE that is a dash is standard input."""
 
 NO = {
-    "": "the answer is no: --strict warns, --fail-on fails, --then changes something, or rolling is barred",
+    "": "the answer is no: --strict warns, --fail-on fails, --then changes something, rolling is barred, or expect finds a change",
     "check": "with --strict, a warning that --allow doesn't name",
     "gather": "with --strict, a warning that --allow doesn't name",
     "play": "with --strict, a warning that --allow doesn't name",
     "what-if": "--then changes something",
     "rolling": "a step can't go on, or --fail-on fails",
     "load": "--fail-on fails",
+    "expect": "an answer isn't as it is stored",
 }
 
 EXAMPLES = {
@@ -28,10 +29,14 @@ EXAMPLES = {
                                                  one configuration from the files of two nodes
   distac-view gather shop1@10.0.0.1=common.config,shop1.config shop2@10.0.0.2=common.config,shop2.config
                                                  later files win, as with erl -config common -config shop1
+  distac-view gather shop1/sys.config.src,shop1/vm.args.src --env prod.env --env FAILOVER_MS=5000 --root image
+                                                 before a node runs: -name tells the node, --root where /etc is
   distac-view gather --print-command | erl_call -name shop1@10.0.0.1 -c COOKIE -fetch_stdout -e > shop1.answer
                                                  what a running node has: gather takes the answer as its FILE
   bin/shop rpc "$(distac-view gather --print-command elixir)" > shop1.answer
                                                  the same of a release that mix made
+  elixir -e "$(distac-view gather --print-command elixir-config)" > shop1.answer
+                                                 what config/runtime.exs makes of the variables of this shell
   distac-view gather --print-command now | erl_call -name shop1@10.0.0.1 -c COOKIE -fetch_stdout -e >> now.txt
                                                  what runs at a node, for --now of the other subcommands""",
     "play": """\
@@ -53,6 +58,8 @@ EXAMPLES = {
                                                  from where a script ends, for another program
   distac-view what-if sys.config --now billing=shop1@rack1 mail=shop2@rack1
                                                  from where applications run now
+  distac-view what-if sys.config --split shop1 shop2 / shop3
+                                                 what each side of a split runs, and once it is healed
   distac-view what-if sys.config --then new.config
                                                  what a new configuration changes""",
     "rolling": """\
@@ -66,6 +73,10 @@ EXAMPLES = {
   distac-view load sys.config --pairs            applications on each node if one or two nodes are down
   distac-view load sys.config --most 4 --fail-on lost,load
                                                  a budget for CI: lost applications or more than 4 at a node end it with 1""",
+    "expect": """\
+  distac-view expect questions                   the questions of a folder: what differs from the stored answers
+  distac-view expect questions --write           store the answers of today
+  distac-view expect questions budget --json     one of them, for another program""",
 }
 
 

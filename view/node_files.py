@@ -8,31 +8,49 @@ import re
 from dataclasses import dataclass, field
 from typing import Iterable, Iterator, TypeVar
 
+from view.arguments import COMMENT as ARGUMENT_COMMENT
+from view.arguments import are_arguments
 from view.distac import MOST_INPUT
-from view.erlang_reader import Reader, decoded, is_latin
+from view.erlang_reader import Read, Reader, decoded, is_latin
 from view.erlang_terms import Atom, Term
 from view.erlang_tokens import Misread, Sort, lexemes_of
 from view.loading import Faulty
 from view.places import Remark, Told, place_of
 from view.problems import Problem
 from view.script import read_bytes
-from view.templates import FILLED_IN, template_in
+from view.surroundings import Surroundings
+from view.templates import COMMENT, FILLED_IN, Filled, filled_in, template_in
 from view.texts import bytes_of, cut, shown
+from view.variables import Variables
 
 Name = TypeVar("Name")
 
 ANSWER_MARK = "%% distac-view: kernel of "
 NO_NAME = "nonode@nohost"
-NO_TERMS = (".exs", ".args", ".src")
+NO_TERMS = ".exs"
+SYS_CONFIG = ("sys.config", "sys.config.src")
 
 
 @dataclass(frozen=True)
 class NodeFile:
-    """A file: its path, its bytes, and its text, in which all but a remote shell's answer is blank where there is one."""
+    """A file: its path, its bytes, and its text, in which all but a remote shell's answer is blank where there is one.
+
+    Variables are filled in there, if any were given.
+    """
 
     path: str
     source: bytes
-    text: str
+    filled: Filled
+
+    @property
+    def text(self) -> str:
+        """What is read of it."""
+        return self.filled.text
+
+    @property
+    def has_arguments(self) -> bool:
+        """Whether it holds words of a command line, and no terms."""
+        return are_arguments(self.path, self.text)
 
     @property
     def answered_by(self) -> str:
@@ -46,8 +64,8 @@ class NodeFile:
         return hashlib.sha256(self.source).hexdigest()
 
     def remark(self, place: int, name: str, sentence: str) -> Remark:
-        """A fault or a warning at a character."""
-        before = decoded(self.source)[:place]
+        """A fault or a warning at a character of the text."""
+        before = decoded(self.source)[: self.filled.source_place(place)]
         offset = len(before.encode("latin-1" if is_latin(self.source) else "utf-8"))
         return Remark(place_of(self.source, offset), name, sentence)
 
@@ -91,7 +109,7 @@ class NodeSettings:
     warnings: list[Told] = field(default_factory=list)
 
 
-def file_at(path: str) -> NodeFile:
+def file_at(path: str, variables: Variables) -> NodeFile:
     """A file by its path. As OTP does it, `.config` is added where the file isn't there without."""
     if path != "-" and not os.path.exists(path) and os.path.exists(f"{path}.config"):
         path = f"{path}.config"
@@ -99,10 +117,20 @@ def file_at(path: str) -> NodeFile:
     if len(source) > MOST_INPUT:
         raise Problem(f"{path} has more than 2,097,152 bytes: move what isn't kernel's to another file")
     try:
-        return NodeFile(path, source, answer_in(decoded(source)))
+        file = NodeFile(path, source, Filled(answer_in(decoded(source))))
     except Misread as misread:
         place = len(source.decode("utf-8", "replace")[: misread.place].encode("utf-8", "replace"))
         raise Faulty(path, Remark(place_of(source, place), "BadEncoding", misread.sentence)) from misread
+    return with_variables(file, variables) if variables.are_given else file
+
+
+def with_variables(file: NodeFile, variables: Variables) -> NodeFile:
+    """A file with its variables filled in, if it has any."""
+    comment = ARGUMENT_COMMENT if file.has_arguments else COMMENT
+    try:
+        return NodeFile(file.path, file.source, filled_in(file.text, variables.values(), comment))
+    except Misread as misread:
+        raise file.fault(misread.place, "NoValue", misread.sentence) from misread
 
 
 def answer_in(text: str) -> str:
@@ -117,30 +145,37 @@ def answer_in(text: str) -> str:
 
 
 class Library:
-    """Files that were read, each once, by one reader."""
+    """Files that were read, each once with the same variables, and their terms by one reader."""
 
     def __init__(self, reader: Reader) -> None:
         self.reader = reader
-        self.files: dict[str, NodeFile] = {}
-        self.terms: dict[str, Term] = {}
+        self.files: "dict[tuple[str, Variables], NodeFile]" = {}
+        self.terms: "dict[str, Read]" = {}
 
-    def read(self, paths: Iterable[str]) -> None:
-        """Reads files. The first one with a fault raises it."""
-        new = [path for path in dict.fromkeys(paths) if path not in self.files]
-        for path in new:
-            self.files[path] = file_at(path)
-        if not new:
-            return
-        for path, term in zip(new, self.reader([self.files[path].text for path in new])):
-            if isinstance(term, Misread):
-                raise fault_of_syntax(self.files[path], term)
-            self.terms[path] = term
+    def file(self, path: str, variables: Variables) -> NodeFile:
+        """A file by its path."""
+        if (path, variables) not in self.files:
+            self.files[path, variables] = file_at(path, variables)
+        return self.files[path, variables]
 
-    def sections(self, path: str) -> list[Term]:
+    def read(self, texts: Iterable[str]) -> None:
+        """Reads texts: many at once, because a reader may take long to begin."""
+        new = [text for text in dict.fromkeys(texts) if text not in self.terms]
+        if new:
+            self.terms.update(zip(new, self.reader(new)))
+
+    def term(self, text: str) -> Read:
+        """The term of a text, or what is wrong with it."""
+        self.read([text])
+        return self.terms[text]
+
+    def sections(self, file: NodeFile) -> list[Term]:
         """The outer list of a file."""
-        term = self.terms[path]
+        term = self.term(file.text)
+        if isinstance(term, Misread):
+            raise fault_of_syntax(file, term)
         if not isinstance(term, list):
-            raise self.files[path].fault(0, "NoList", "a configuration is a list of sections: [{kernel,[..]}].")
+            raise file.fault(0, "NoList", "a configuration is a list of sections: [{kernel,[..]}].")
         return term
 
 
@@ -155,19 +190,20 @@ def fault_of_syntax(file: NodeFile, misread: Misread) -> Faulty:
     return file.fault(misread.place, "Syntax", misread.sentence)
 
 
-def settings_of(node: str, paths: list[str], library: Library) -> NodeSettings:
+def settings_of(node: str, files: list[NodeFile], surroundings: Surroundings, library: Library) -> NodeSettings:
     """What the files of a node say, in the order of `-config`. Names of other files in their outer lists are followed."""
     settings = NodeSettings(node)
-    library.read(paths)
-    library.read([inner for path in paths for inner in names_in(path, library)])
-    for path in paths:
-        add_file(settings, path, library)
+    library.read(inner.text for file in files for inner in named_in(file, surroundings, library))
+    for file in files:
+        add_file(settings, file, named_in(file, surroundings, library), library)
     return settings
 
 
-def names_in(path: str, library: Library) -> list[str]:
+def named_in(file: NodeFile, surroundings: Surroundings, library: Library) -> list[NodeFile]:
     """The files that a file names in its outer list."""
-    return [followed(path, item) for item in library.sections(path) if is_name(item)]
+    names = ["".join(map(chr, item)) for item in library.sections(file) if is_name(item)]
+    paths = [surroundings.config_of(name, os.path.dirname(file.path)) for name in names]
+    return [library.file(path, surroundings.variables) for path in paths]
 
 
 def is_name(item: Term) -> bool:
@@ -175,37 +211,27 @@ def is_name(item: Term) -> bool:
     return isinstance(item, list) and bool(item) and all(type(sign) is int and 0 < sign <= 0x10FFFF for sign in item)
 
 
-def followed(path: str, item: list[int]) -> str:
-    """The path of a file that another one names: beside that one if it is there, else as it is written."""
-    name = "".join(chr(sign) for sign in item)
-    name = name if name.endswith(".config") else f"{name}.config"
-    beside = os.path.normpath(os.path.join(os.path.dirname(path), name))
-    return beside if os.path.exists(beside) else name
-
-
-def add_file(settings: NodeSettings, path: str, library: Library) -> None:
+def add_file(settings: NodeSettings, file: NodeFile, named: list[NodeFile], library: Library) -> None:
     """A file of `-config`, with those that it names."""
-    file = library.files[path]
     settings.files.append(file)
     places = Places(file.text)
-    for item in library.sections(path):
+    inner = iter(named)
+    for item in library.sections(file):
         if is_name(item):
-            inner = followed(path, item)
-            follow(settings, file, inner, library)
+            follow(settings, file, next(inner), library)
         else:
             add_section(settings, file, item, places)
-    if names_in(path, library) and os.path.basename(file.path) != "sys.config":
+    if named and os.path.basename(file.path) not in SYS_CONFIG:
         sentence = "OTP follows names of files in sys.config alone, and refuses this file under another name"
         settings.warnings.append(file.remark(places.first_string, "NotSysConfig", sentence).told(file.path))
     warn_of_twice(settings, file, places)
 
 
-def follow(settings: NodeSettings, file: NodeFile, inner: str, library: Library) -> None:
+def follow(settings: NodeSettings, file: NodeFile, named: NodeFile, library: Library) -> None:
     """A file that another one names. OTP follows no name in it."""
-    named = library.files[inner]
     settings.files.append(named)
     places = Places(named.text)
-    for item in library.sections(inner):
+    for item in library.sections(named):
         if is_name(item):
             raise named.fault(places.first_string, "NamedTwice", f"{file.path} names this file, and in such a one OTP follows no name")
         add_section(settings, named, item, places)
@@ -228,7 +254,7 @@ def add_section(settings: NodeSettings, file: NodeFile, item: Term, places: Plac
 def warn_of_twice(settings: NodeSettings, file: NodeFile, places: Places) -> None:
     """Sections and parameters that stand twice in one file: OTP boots with no such file."""
     for section, place in places.twice_sections():
-        if os.path.basename(file.path) != "sys.config":
+        if os.path.basename(file.path) not in SYS_CONFIG:
             sentence = f"the section {cut(shown(section), 60)} stands twice: OTP boots with that in sys.config alone; put both into one"
             settings.warnings.append(file.remark(place, "TwiceSection", sentence).told(file.path))
     for parameter, place in places.twice_parameters():

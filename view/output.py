@@ -87,7 +87,8 @@ class Progress:
         self.start = time.monotonic()
         self.is_over = threading.Event()
         self.thread: threading.Thread | None = None
-        if sys.stderr.isatty():
+        self.stream = sys.stderr
+        if self.stream.isatty():
             self.thread = threading.Thread(target=self.show, daemon=True)
             self.thread.start()
 
@@ -108,11 +109,11 @@ class Progress:
             seconds = time.monotonic() - self.start
             if seconds > SILENT_SECONDS:
                 has_shown = True
-                sys.stderr.write(f"\r\033[Kdistac-view: {self.what}, {seconds:.0f} s")
-                sys.stderr.flush()
+                self.stream.write(f"\r\033[Kdistac-view: {self.what}, {seconds:.0f} s")
+                self.stream.flush()
         if has_shown:
-            sys.stderr.write("\r\033[K")
-            sys.stderr.flush()
+            self.stream.write("\r\033[K")
+            self.stream.flush()
 
     def end(self) -> None:
         """Nothing is shown any more."""

@@ -26,6 +26,10 @@ from view.rolling import rolling_of
 from view.rolling_texts import drain_notes, hang_faults
 from view.rolling_texts import lines_of as rolling_lines
 from view.running_now import names_a_file
+from view.split_texts import lines_of as split_lines
+from view.split_texts import notes_on as split_notes
+from view.split_texts import split_answer
+from view.splits import split_reply
 from view.texts import listed, shown
 from view.verbs import Role, fits
 from view.what_if import Question, reply_to
@@ -55,12 +59,27 @@ def put_page(distac: Distac, words: argparse.Namespace, output: Output, page: Ca
 
 def what_if(distac: Distac, words: argparse.Namespace, output: Output) -> Status:
     """Prints what becomes of each application if nodes go down, or what a new configuration changes."""
-    question = Question(words.config, words.down, words.not_started, words.after, words.back, words.now, takes=words.takes)
+    question = Question(words.config, words.down, words.not_started, words.after, words.back, words.now, takes=words.takes, split=words.split)
+    if words.split:
+        return in_split(distac, question, words, output)
     if words.then:
         return what_changes(distac, question, words, output)
     reply = reply_to(distac, question)
     put_page(distac, words, output, lambda asked: what_if_page(reply, notes_on(reply), words.all, asked))
     answer(words, output, lambda: what_if_answer(reply, notes_on(reply)), lambda: table_of(reply, words.all))
+    return Status.FINE
+
+
+def in_split(distac: Distac, question: Question, words: argparse.Namespace, output: Output) -> Status:
+    """Prints what becomes of each application in a split, and once it is healed."""
+    for name in ("down", "back", "after", "takes", "then"):
+        if getattr(words, name):
+            raise Problem(f"--split can't stand beside --{name}: it says itself who hears whom, and lasts longer than all waits")
+    if words.output:
+        raise Problem("--split can't stand beside -o: its answer has no page")
+    reply = split_reply(distac, question)
+    notes = split_notes(reply)
+    answer(words, output, lambda: split_answer(reply, notes), lambda: split_lines(reply, notes, words.all))
     return Status.FINE
 
 
@@ -123,6 +142,8 @@ def add_what_if(parser: argparse.ArgumentParser) -> None:
     back = "those of --down that come back: all, if this is absent"
     parser.add_argument("--back", metavar="NODE", nargs="+", action="extend", default=[], help=back)
     add_takes(parser)
+    split = "nodes that are cut off from each other, a slash between the sides: what each side runs, and once it is healed"
+    parser.add_argument("--split", metavar="NODE", nargs="+", action="extend", default=[], help=split)
     then = "say what this configuration changes in place of CONFIG: the exit status is 1 if it changes anything"
     parser.add_argument("--then", metavar="NEW.config", help=then)
     parser.add_argument("--all", action="store_true", help="show the rows of applications that stay too")

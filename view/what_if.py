@@ -45,6 +45,7 @@ class Question:
     now: list[str] = field(default_factory=list)
     placed: Placed | None = None
     takes: int | None = None
+    split: list[str] = field(default_factory=list)
 
 
 @dataclass(frozen=True)

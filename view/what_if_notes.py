@@ -28,7 +28,7 @@ TEXTS = {
     "StopMoves": "A stopped application fails over with its node. "
     "In OTP it stays stopped; here, stop it at every node.",
     "NoSplit": "These nodes are down. "
-    "Were they cut off alone, both sides might run an application until they hear each other.",
+    "Were they cut off alone, both sides might run an application: --split says what.",
 }
 
 
@@ -124,7 +124,7 @@ def otp_notes(reply: Reply) -> Iterator[Note]:
     fates = [fate for case in reply.cases for fate in case.fates]
     yield from hang_notes((case.down, case.may_hang) for case in reply.cases)
     yield from idle_notes(fates)
-    if any(is_of_tuple(reply, fate) for fate in fates):
+    if any(is_in_tuple(reply.configuration, fate) for fate in fates):
         yield Note("TupleLoad", TEXTS["TupleLoad"])
     if any(fate.back != fate.then for fate in fates):
         yield Note("StartedAgain", TEXTS["StartedAgain"])
@@ -153,7 +153,7 @@ def few_of(names: list[str]) -> str:
     return listed(names if more <= 0 else [*names[:MOST_NAMED], f"{more} more"])
 
 
-def is_of_tuple(reply: Reply, fate: Fate) -> bool:
+def is_in_tuple(configuration: Configuration, fate: Fate) -> bool:
     """Whether an application came to a node of a tuple."""
-    application = next(each for each in reply.configuration.applications if each.name == fate.app)
+    application = next(each for each in configuration.applications if each.name == fate.app)
     return fate.milliseconds is not None and any(fate.then in group and len(group) > 1 for group in application.groups)

@@ -4,6 +4,8 @@ from __future__ import annotations
 
 import hashlib
 import os
+import shutil
+import subprocess
 import tempfile
 import unittest
 from pathlib import Path
@@ -33,8 +35,13 @@ REFUSED = (
     ("template.config.src", "4:27: Template"),
     ("names.config.src", "1:13: Template"),
     ("runtime.exs", "1:8: NoTerms"),
-    ("vm.args", "1:2: NoTerms"),
 )
+ELIXIR_CONFIG = """\
+import Config
+IO.puts("some noise")
+ms = String.to_integer(System.fetch_env!("FAILOVER_MS"))
+config :kernel, distributed: [{:shop, ms, [:"a@h", :"b@h"]}], logger: [{:handler, :default, :logger_std_h, %{}}]
+"""
 PLACEMENT = "{distributed,[{a,500,[x@h,{y@h,z@h}]},{b,700,[y@h,x@h]}]}"
 SYNC = ",{sync_nodes_mandatory,[%s]},{sync_nodes_optional,[%s]},{sync_nodes_timeout,%s}"
 
@@ -292,6 +299,21 @@ class Use(unittest.TestCase):
         self.assertIn("application:get_env(kernel,P)", line)
         self.assertEqual((line.count("\n"), line.count("'")), (1, 0))
         self.assertIn(":application.get_env(:kernel, p)", view("gather", "--print-command", "elixir").output)
+
+    def test_the_line_for_elixir_configurations(self) -> None:
+        line = view("gather", "--print-command", "elixir-config").output
+        self.assertEqual((line.count("\n"), line.count("'")), (1, 0))
+        if not shutil.which("elixir"):
+            self.skipTest("elixir isn't in PATH")
+        with tempfile.TemporaryDirectory() as room:
+            (Path(room) / "config").mkdir()
+            (Path(room) / "config" / "runtime.exs").write_text(ELIXIR_CONFIG)
+            words = ["elixir", "-e", line]
+            done = subprocess.run(words, cwd=room, env={**os.environ, "FAILOVER_MS": "700"}, capture_output=True, timeout=60, check=True)
+            (Path(room) / "answer").write_bytes(done.stdout)
+            said = view("gather", *(f"{node}@h={room}/answer" for node in "ab"))
+            self.assertEqual(said.errors, "")
+            self.assertIn("{distributed,[{shop,700,[a@h,b@h]}]}", said.output)
 
     def test_standard_input(self) -> None:
         said = run_view("gather", "a@h=-", source=b"[{kernel,[{distributed,[{a,[a@h]}]}]}].")
