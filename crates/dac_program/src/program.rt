@@ -17,8 +17,7 @@ use clap::error::ErrorKind;
 use dac_live_play::dac_play::{OUT_OF_MEMORY, check, simulate};
 use dac_live_play::{live, record_reader};
 use std::alloc::Global;
-use std::io::ErrorKind as IoErrorKind;
-use std::io::{Eprint, Print, Read, Write};
+use std::io::{Eprint, ErrorKind as IoErrorKind, Print, Read, Write};
 use std::sync::Wait;
 use std::thread::Threads;
 

@@ -102,8 +102,7 @@ fn is_recorded<R: Wait>(rt: &R, alloc: Global) -> Option<bool> {
     let config = read_config(alloc, TWO).ok()?;
     let blank: Result<SiteBlank, OpenFault> = blank_site(rt, alloc, &config, NodeId(0), 0, 2, 0);
     let mut desk: Desk = blank.ok()?.into_desk();
-    let added: Result<Recorded, LiveFault> =
-        add_record(rt, &mut desk, 1, Event::Boot { now: 0 });
+    let added: Result<Recorded, LiveFault> = add_record(rt, &mut desk, 1, Event::Boot { now: 0 });
     let (journal, _page) = desk.end(rt);
     Some(added.is_ok() && same_calls(journal.records(), 2, &[]).is_none())
 }
