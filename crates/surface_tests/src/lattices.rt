@@ -53,7 +53,6 @@ fn is_row_read(alloc: Global) -> Result<bool, NoMemory> {
             origin == ORIGIN
                 && upto == 3
                 && further.get(0) == Some(5u64)
-                && further.iter().count() == 1
                 && further.list(alloc)?.as_slice() == [5u64].as_slice()
         }
         None => false,
