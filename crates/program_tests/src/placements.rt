@@ -74,6 +74,10 @@ pub const PLACEMENTS: &[(&str, &str, &str)] = &[
         "boot c1@h 0\nboot c2@h 0\nstart c1@h a c1@h\nstart c2@h a c2@h\nshare\ntick c1@h 0\nstop c1@h a c1@h\nstop c1@h a c1@h\nshare\ntick c2@h 0\npage c2@h\ncrash c1@h\ndown c2@h c1@h\ntick c2@h 20\n",
         "booted 1 op 1\nbooted 1 op 2\nissued 3 c1@h 1 2\nissued 4 c2@h 1 2\nshared 2\nticked\nclaim 5 a term 1 normal\nissued 6 c1@h 1 4\nrefused 10 NotStarted\nshared 2\nticked\nnode c2@h 1\nheard 6 known 6\nnode c1@h up 1\nnode c2@h up 1\nnode c3@h unknown\napp a holder c1@h 1 term 1 normal verdict halted c1@h\nlist c1@h=idle c2@h=ok c3@h=down\ncrashed\nissued 7 c2@h 1 3\nticked\nclaim 8 a term 2 failover from c1@h\n",
     ),
+];
+
+/// More of them: a longer list takes a proof more steps than it may have.
+pub const MORE_PLACEMENTS: &[(&str, &str, &str)] = &[
     // What was stopped stays where it is, also once its node is drained, or forbidden to run it: nobody starts it elsewhere.
     (
         PLAIN,
@@ -163,6 +167,10 @@ pub const PLACEMENTS: &[(&str, &str, &str)] = &[
         "boot c1@h 0\nboot c2@h 0\nstart c1@h a c1@h\ntick c1@h 4611686018427387904\nshare\ntick c1@h 4611686018427387904\nboot c3@h 0\nshare\ntick c1@h 4611686018427387904\n",
         "booted 1 op 1\nbooted 1 op 2\nissued 3 c1@h 1 2\nheld\nshared 2\nheld\nbooted 1 op 4\nshared 6\nticked\nclaim 5 a term 1 normal\n",
     ),
+];
+
+/// The rest of them.
+pub const FURTHER_PLACEMENTS: &[(&str, &str, &str)] = &[
     // Without `sync_nodes_timeout` no node waits for others, not even for mandatory ones.
     (
         "[{kernel,[{distributed,[{a,[c1@h,c2@h]}]},{sync_nodes_mandatory,[c2@h]}]}].\n",

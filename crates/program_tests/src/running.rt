@@ -2,9 +2,9 @@
 use crate::configs::CASES;
 use crate::faults::{CONFIG_FAULTS, INPUT_FAULTS, SCRIPT_FAULTS};
 use crate::lives::{LIVES, PHASES, PHASES_PRINTED};
-use crate::placements::PLACEMENTS;
+use crate::placements::{FURTHER_PLACEMENTS, MORE_PLACEMENTS, PLACEMENTS};
 use crate::records::{PHASES_LAST, RECORDS};
-use crate::scripts::{EXAMPLE, SCRIPTS};
+use crate::scripts::{EXAMPLE, MORE_SCRIPTS, SCRIPTS};
 use crate::wires::WIRES;
 use dac_program::run;
 use std::alloc::{AllocError, Global};
@@ -146,8 +146,38 @@ fn plays_scripts(rt: HostRuntime) {
 }
 
 #[test]
+fn plays_more_scripts(rt: HostRuntime) {
+    for (config, script, printed) in MORE_SCRIPTS {
+        assert!(rt;
+            plays(&rt, rt.alloc(), config, script, 0, printed),
+            "{script}"
+        );
+    }
+}
+
+#[test]
 fn plays_scripts_of_placements(rt: HostRuntime) {
     for (config, script, printed) in PLACEMENTS {
+        assert!(rt;
+            plays(&rt, rt.alloc(), config, script, 0, printed),
+            "{script}"
+        );
+    }
+}
+
+#[test]
+fn plays_scripts_of_more_placements(rt: HostRuntime) {
+    for (config, script, printed) in MORE_PLACEMENTS {
+        assert!(rt;
+            plays(&rt, rt.alloc(), config, script, 0, printed),
+            "{script}"
+        );
+    }
+}
+
+#[test]
+fn plays_scripts_of_further_placements(rt: HostRuntime) {
+    for (config, script, printed) in FURTHER_PLACEMENTS {
         assert!(rt;
             plays(&rt, rt.alloc(), config, script, 0, printed),
             "{script}"

@@ -170,6 +170,10 @@ pub const SCRIPTS: &[(&str, &str, &str)] = &[
         "boot cp1@cave 0\nboot cp2@cave 0\nhand cp2@cave 1\ndrain cp1@cave cp1@cave false\ndrain cp2@cave cp1@cave true\nship cp1@cave cp2@cave\nship cp2@cave cp1@cave\nhear cp2@cave 1\nhear cp1@cave 2\nsame cp1@cave cp2@cave\npage cp1@cave\n",
         "booted 1 op 1\nbooted 1 op 2\nheard new\nissued 3 cp1@cave 1 2\nissued 4 cp2@cave 1 2\nshipped 1 whole 2\nshipped 2 whole 3\nheard new\nheard new\nsame\nnode cp1@cave 1\nheard 4 known 4\nnode cp1@cave up 1 drained\nnode cp2@cave up 1\nnode cp3@cave unknown\napp myapp holder none verdict nobody\nlist cp1@cave=drained cp2@cave=idle cp3@cave=down\n",
     ),
+];
+
+/// More of them: a longer list takes a proof more steps than it may have.
+pub const MORE_SCRIPTS: &[(&str, &str, &str)] = &[
     // A drain replaces all that stand.
     (
         EXAMPLE,
