@@ -9,6 +9,7 @@ from typing import List, Sequence
 from tools.believed import Asked, BelievedPage, wrapped
 from tools.contracts import Function, Sources, is_within
 from tools.definition_page import Page
+from tools.definition_sources import DefinitionSources
 from tools.modules import Definition, Modules
 from tools.promises import Promises
 from tools.resting import Resting
@@ -40,14 +41,15 @@ def parser() -> argparse.ArgumentParser:
     made.add_argument("clause", nargs="?", default="", metavar="CLAUSE", help="one clause of it, as converges")
     made.add_argument("--count", action="store_true", help="print the last line alone")
     made.add_argument(
-        "--write",
+        "--all",
         action="store_true",
-        help="write the lists of docs/DEFINITIONS.md from the comments above the definitions, and what each promise rests on",
+        help="print a page of all definitions that contracts name, by crates and modules, each with its comment and its source",
     )
+    made.add_argument("--write", action="store_true", help="write into docs/PROMISES.md how many definitions each promise rests on")
     made.add_argument(
         "--check",
         action="store_true",
-        help="say which rows of both documents are stale, and which contracts and clauses no promise names",
+        help="list the stale rows of docs/PROMISES.md and docs/sources.txt, and the contracts and clauses that no promise names",
     )
     return made
 
@@ -113,11 +115,11 @@ def listed(title: str, items: Sequence[str]) -> None:
 
 
 def check() -> int:
-    """Compares the documents with the definitions and the contracts. The status is 1 if a row is stale."""
+    """Compares docs/PROMISES.md and docs/sources.txt with the contracts and the definitions. The status is 1 if a row is stale."""
     modules, sources = Modules(), Sources()
     resting = Resting(modules)
     promises = Promises(modules, sources, resting)
-    faults = [*Page(modules, sources, resting).faults(), *promises.faults()]
+    faults = [*DefinitionSources(modules.root).faults(modules), *promises.faults()]
     listed("public functions have clauses and no row in docs/PROMISES.md", list(promises.without_row()))
     listed("functions have rows there, and clauses that none of these names", list(promises.unnamed_clauses()))
     for fault in faults:
@@ -127,22 +129,29 @@ def check() -> int:
 
 
 def write() -> int:
-    """Writes the lists of docs/DEFINITIONS.md and the last column of docs/PROMISES.md anew. The status is 1 if a tag or a name is
-    wrong, which no writing mends."""
+    """Writes the last column of docs/PROMISES.md anew. The status is 1 if a row names what isn't there, which no writing mends."""
     modules, sources = Modules(), Sources()
     resting = Resting(modules)
-    page, promises = Page(modules, sources, resting), Promises(modules, sources, resting)
-    page.file.write_text(page.written(page.file.read_text(encoding="utf-8")), encoding="utf-8")
+    promises = Promises(modules, sources, resting)
     promises.file.write_text(promises.written(), encoding="utf-8")
-    faults = [*page.faults(), *Promises(modules, sources, resting).faults()]
-    print("\n".join([*faults, page.counts()]))
+    faults = list(Promises(modules, sources, resting).faults())
+    print("\n".join([*faults, f"{len(promises.rows)} promises, {len(faults)} faults"]))
     return 1 if faults else 0
+
+
+def print_all() -> int:
+    """Prints the page of all definitions that contracts name."""
+    modules, sources = Modules(), Sources()
+    print("\n".join(Page(modules, sources, Resting(modules)).lines()))
+    return 0
 
 
 def ran(asked: argparse.Namespace) -> int:
     """Runs what was asked for."""
     if asked.write:
         return write()
+    if asked.all:
+        return print_all()
     return check() if asked.check else believe(asked)
 
 

@@ -7,7 +7,7 @@ from typing import Callable, Iterator, List, NamedTuple, Sequence
 from tools import crate_checks, document_checks, edit_checks, script_checks, tests
 from tools.contracts import Sources
 from tools.crates import HERE, read_crates
-from tools.definition_page import Page
+from tools.definition_sources import DefinitionSources
 from tools.modules import Modules
 from tools.promises import Promises
 from tools.resting import Resting
@@ -39,7 +39,7 @@ def document_list() -> List[Check]:
         Check("names in backticks stand in some file", lambda: document_checks.name_faults(documents)),
         Check("paths lead somewhere", lambda: document_checks.path_faults(documents)),
         Check("promised clauses are there, with what they rest on", Promises(modules, sources, resting).faults),
-        Check("tables of definitions are as ./believe --write makes them", Page(modules, sources, resting).faults),
+        Check("docs/sources.txt names definitions that are there", lambda: DefinitionSources(HERE).faults(modules)),
         Check("pages CALLING.md name each public call", lambda: document_checks.calling_faults(HERE, sources)),
         Check("the index of decisions has their titles", lambda: document_checks.decision_faults(documents)),
     ]

@@ -1,19 +1,17 @@
-"""Writes the lists of docs/DEFINITIONS.md from the comments that stand above the definitions."""
+"""Makes the page of all definitions that contracts name, of the comments above the definitions."""
 
 import re
 import textwrap
-from typing import Dict, Iterator, List, NamedTuple, Optional, Set, Tuple
+from typing import Iterator, List, NamedTuple, Optional, Set, Tuple
 
 from tools.contracts import Sources
 from tools.definition_sources import DefinitionSources
+from tools.definition_texts import INTRODUCTION, NAMES, OF_CRATES
 from tools.modules import Definition, Module, Modules
 from tools.resting import Resting
 
 # the definition whose rests are marked
 HEADLINE = ("dac_model_world", "EachIsMeaning")
-COUNTS = re.compile(r"^The lists have .*$", re.MULTILINE)
-# the line above the rows of a module
-MODULE = re.compile(r"^`[\w.]+`:$")
 # a comment that begins so, and says hardly more, is no row of its own
 SAME = re.compile(r"^the same, ")
 FEW_WORDS = 6
@@ -133,21 +131,20 @@ def list_of(rows: List[Row], marked: Set[Definition]) -> Iterator[str]:
 
 
 class Page:
-    """docs/DEFINITIONS.md: what is written by hand, with the lists anew."""
+    """The page of definitions, by layers, crates and modules."""
 
     def __init__(self, modules: Modules, sources: Sources, resting: Resting) -> None:
         """Reads what the lists are made of."""
-        self.file = modules.root / "docs" / "DEFINITIONS.md"
         self.modules = modules
         self.tags = DefinitionSources(modules.root)
         self.chosen = chosen_of(modules, sources, resting)
 
-    def _rows(self, crate: str) -> List[Row]:
-        """The rows of a crate: its modules in reading order."""
-        chosen = set(self.chosen.definitions)
-        paths = dict.fromkeys(one.module for one in self.chosen.definitions if one.crate == crate)
-        by_path = {module.path: module for module in self.modules.all_of(crate)}
-        return [row for path in paths for row in rows_of(by_path[path], chosen, self.tags)]
+    def lines(self) -> Iterator[str]:
+        """All that is printed."""
+        yield from (*INTRODUCTION.strip().replace("COUNTS", self.counts()).split("\n"), "", *NAMES.strip().split("\n"))
+        for layer, crates in self.modules.crates.layers.items():
+            parts = [line for crate in crates for line in self._of_crate(crate)]
+            yield from ("", f"## {layer}", *parts) if parts else ()
 
     def counts(self) -> str:
         """The sentence that counts."""
@@ -156,48 +153,12 @@ class Page:
         few = f"{len(self.chosen.definitions):,} of the {every:,} definitions"
         return f"The lists have {few}. In bold are the {len(self.chosen.marked)} that the headline rests on."
 
-    def written(self, text: str) -> str:
-        """The document with its lists as they have to be."""
-        hand = by_hand(text, list(self.modules.crates.layers))
-        lines = [COUNTS.sub(self.counts().replace("\\", r"\\"), hand[""]).rstrip(), ""]
-        for layer, crates in self.modules.crates.layers.items():
-            parts: List[str] = []
-            for crate in crates:
-                rows = self._rows(crate)
-                said = hand.get(f"### `{crate}`", "").strip()
-                if rows or said:
-                    lists = list(list_of(rows, self.chosen.marked))
-                    parts += [f"### `{crate}`", ""] + ([said, ""] if said else []) + lists + ([""] if lists else [])
-            said = hand.get(f"## {layer}", "").strip()
-            if parts:
-                lines += [f"## {layer}", ""] + ([said, ""] if said else []) + parts
-        return "\n".join(lines).rstrip() + "\n"
-
-    def faults(self) -> Iterator[str]:
-        """The lines of the document that aren't as they have to be."""
-        there = self.file.read_text(encoding="utf-8")
-        made = self.written(there)
-        if there != made:
-            old, new = there.split("\n"), made.split("\n")
-            gone, come = sorted(set(old) - set(new), key=old.index), sorted(set(new) - set(old), key=new.index)
-            for line in gone:
-                yield f"docs/DEFINITIONS.md:{old.index(line) + 1}: stale: {line}"
-            for line in come:
-                yield f"docs/DEFINITIONS.md: lacks {line}"
-            yield "docs/DEFINITIONS.md isn't as ./believe --write writes it"
-        yield from self.tags.faults(self.modules)
-
-
-def by_hand(text: str, layers: List[str]) -> Dict[str, str]:
-    """What is written by hand in the document, by the heading of a layer or of a crate. What stands before them has no heading."""
-    found: Dict[str, List[str]] = {"": []}
-    heading, is_hand = "", True
-    for line in text.split("\n"):
-        if line.startswith("## ") and line[3:] in layers or line.startswith("### ") and heading:
-            heading, is_hand = line, True
-            found.setdefault(heading, [])
-            continue
-        is_hand = is_hand and not (heading and MODULE.match(line))
-        if is_hand:
-            found[heading].append(line)
-    return {heading: "\n".join(lines) for heading, lines in found.items()}
+    def _of_crate(self, crate: str) -> List[str]:
+        """The part of a crate, if it has rows or a text of its own: its modules in reading order."""
+        chosen = set(self.chosen.definitions)
+        paths = dict.fromkeys(one.module for one in self.chosen.definitions if one.crate == crate)
+        by_path = {module.path: module for module in self.modules.all_of(crate)}
+        rows = [row for path in paths for row in rows_of(by_path[path], chosen, self.tags)]
+        says, lists = OF_CRATES.get(crate, "").strip(), list(list_of(rows, self.chosen.marked))
+        above = [line for part in (says.split("\n") if says else [], lists) if part for line in ("", *part)]
+        return ["", f"### `{crate}`", *above] if above else []

@@ -16,8 +16,9 @@ from tools.bodies import Body, Code, Edit, edit_in
 from tools.code_types import declarations_in
 from tools.contracts import Sources, clauses_of, head_of
 from tools.crates import HERE, read_crates
-from tools.definition_page import by_hand, equations_of, list_of, rows_of
+from tools.definition_page import Page, equations_of, list_of, rows_of
 from tools.definition_sources import DefinitionSources, tags_of
+from tools.definition_texts import OF_CRATES
 from tools.joint_checks import KIT_PARTS, LAST_PART, JointChecks, Toolchain, whole
 from tools.judging import BadEdit, judged, texts_with
 from tools.modules import Definition, Module, Modules
@@ -103,13 +104,6 @@ class Reading(unittest.TestCase):
         self.assertEqual(list(list_of(rows, marked)), lines)
         self.assertEqual(equations_of(module.definitions["IsThing"]), "")
 
-    def test_by_hand(self) -> None:
-        first = "# Top\n\n## Names\n\nx\n\n## Texts\n\nsaid\n\n"
-        parts = by_hand(first + "### `dac_a`\n\nkept\n\n`Things`:\n\n- `a`: b\n\n### `dac_b`\n\n`C`:\n\n- d", ["Texts"])
-        del parts[""]
-        said = {heading: part.strip() for heading, part in parts.items()}
-        self.assertEqual(said, {"## Texts": "said", "### `dac_a`": "kept", "### `dac_b`": ""})
-
     def test_tags(self) -> None:
         found = [(one.crate, one.name, one.source) for one in tags_of("# a\n\nthe manual\n    dac_a: x y\nown\n    dac_b: z\n")]
         self.assertEqual(found, [("dac_a", "x", "the manual"), ("dac_a", "y", "the manual"), ("dac_b", "z", "own")])
@@ -160,6 +154,14 @@ class Here(unittest.TestCase):
     def test_the_headline(self) -> None:
         names = {one.name for one in self.under("World::run")}
         self.assertLessEqual({"EachIsMeaning", "Agrees", "meaning_of", "Converges", "Settles", "verdict_of"}, names)
+
+    def test_the_page_of_definitions(self) -> None:
+        page = Page(self.modules, self.sources, self.resting)
+        lines = list(page.lines())
+        self.assertIn(page.counts(), lines)
+        self.assertEqual({f"### `{crate}`" for crate in OF_CRATES} - set(lines), set())
+        first_names = [line.partition(":")[0] for line in lines if line.startswith("- ")]
+        self.assertIn("- **`EachIsMeaning`**", first_names)
 
     def test_views(self) -> None:
         views = Views(self.resting)
