@@ -1,8 +1,8 @@
-"""The record of what came of mutants: a file crates/NAME/mutants/verdicts.tsv for each crate, which `./mutants --record` writes.
+"""The record of verdicts on mutants: a file out/mutants/NAME.tsv for each crate, which `./mutants --record` writes.
 
-A row has a mutant's name, the checksum of what its verdict rests on, and the verdict as the toolchain said it, with the number of
-others that it was tried with, if any. The rows of several runs, on several machines, add up as long as nothing that they rest on
-changes. A row is the word of whoever committed it.
+A row has a mutant's name, the checksum of what its verdict rests on, and the verdict as the toolchain printed it, with the number
+of others that it was tried with, if any. Git ignores these files, so each clone has its own. A row counts as long as nothing that
+it rests on changes, so the rows of several runs add up.
 """
 
 import hashlib
@@ -13,7 +13,7 @@ from typing import Dict, Iterable, Iterator, List, Mapping, NamedTuple, Tuple
 from tools.contracts import SourceFile, without_comments
 from tools.crates import read_crates
 
-FILE = "verdicts.tsv"
+FOLDER = pathlib.Path("out", "mutants")
 HEAD = "# by ./mutants --record: each mutant, the checksum of what its verdict rests on, and the verdict\n"
 PARTS = ("src", "specs", "proofs")
 # What a line of a comment begins with.
@@ -42,9 +42,13 @@ class Record:
         """The folder of a crate's mutants."""
         return self.root / "crates" / crate / "mutants"
 
+    def file(self, crate: str) -> pathlib.Path:
+        """The file with the rows of a crate, which may not be there yet."""
+        return self.root / FOLDER / f"{crate}.tsv"
+
     def rows(self, crate: str) -> Dict[str, Row]:
         """The rows of a crate, by the mutants' names."""
-        file = self.folder(crate) / FILE
+        file = self.file(crate)
         lines = file.read_text(encoding="utf-8").splitlines() if file.exists() else []
         cells = [line.split("\t") for line in lines]
         return {row[0]: Row(row[1], row[2]) for row in cells if len(row) == 3}
@@ -62,7 +66,8 @@ class Record:
         rows = {**self.rows(crate), **{name: Row(of_copy[name], verdict.strip()) for name, verdict in found.items()}}
         kept = sorted(name for name in rows if (self.folder(crate) / name).is_file())
         lines = ["\t".join((name, *rows[name])) + "\n" for name in kept]
-        (self.folder(crate) / FILE).write_text(HEAD + "".join(lines), encoding="utf-8")
+        self.file(crate).parent.mkdir(parents=True, exist_ok=True)
+        self.file(crate).write_text(HEAD + "".join(lines), encoding="utf-8")
 
 
 def checksums(root: pathlib.Path, crate: str, toolchain: str, mutants: Iterable[pathlib.Path]) -> Dict[str, str]:

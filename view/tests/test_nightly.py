@@ -44,7 +44,6 @@ class Nightly(unittest.TestCase):
         self.write("crates.txt", CRATES)
         for crate in ("low", "other", "distac", "growths"):
             self.write(f"crates/{crate}/src/lib.rt", "")
-            self.write(f"crates/{crate}/mutants/verdicts.tsv", "")
         self.write(".gitignore", "out/\n__pycache__/\n")
         self.toolchain("kit-1")
         self.git("init", "-q")
@@ -112,7 +111,7 @@ class Nightly(unittest.TestCase):
 
     def test_what_is_older(self) -> None:
         self.run_it()
-        self.write("crates/other/mutants/verdicts.tsv", "recorded")
+        self.write("out/mutants/other.tsv", "recorded")
         self.assertEqual(self.older(), [])
         self.write("crates/other/src/lib.rt", "changed")
         self.assertEqual(self.older(), ["mutants"])
