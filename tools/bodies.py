@@ -49,10 +49,10 @@ class Body(NamedTuple):
         return self.line <= line <= self.last
 
 
-def changes_in(file: pathlib.Path) -> Iterator[Tuple[str, Change]]:
-    """The changes that the file of an edit has, in turn, each with the file that it is of."""
+def changes_in(text: str) -> Iterator[Tuple[str, Change]]:
+    """The changes that the text of an edit has, in turn, each with the file that it is of."""
     name, old = "", ""
-    for line in file.read_text(encoding="utf-8").split("\n"):
+    for line in text.split("\n"):
         if line.startswith("file: "):
             name = line[len("file: ") :].strip()
         elif line.startswith("old: "):
@@ -62,12 +62,12 @@ def changes_in(file: pathlib.Path) -> Iterator[Tuple[str, Change]]:
             old = ""
 
 
-def edit_in(file: pathlib.Path) -> Optional[Edit]:
-    """The edit that a file has, if it changes one file of code."""
-    found = list(changes_in(file))
+def edit_in(name: str, text: str) -> Optional[Edit]:
+    """The edit of this name that a text has, if it changes one file of code."""
+    found = list(changes_in(text))
     names = sorted({name for name, _ in found})
     is_code = len(names) == 1 and names[0].startswith("src/") and names[0].endswith(".rt")
-    return Edit(file.name, names[0], tuple(change for _, change in found)) if is_code else None
+    return Edit(name, names[0], tuple(change for _, change in found)) if is_code else None
 
 
 def applied(edit: Edit, text: str) -> Optional[str]:

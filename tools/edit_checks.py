@@ -1,19 +1,16 @@
-"""Checks that each edit of must-fail/ and mutants/ applies to exactly one place."""
+"""Checks that each must-fail edit and each mutant applies to exactly one place."""
 
 import pathlib
-from typing import Dict, Iterator, List
+from typing import Dict, Iterator
+
+from tools.mutant_files import FILE, faults_of_form, sections_of
 
 
-def edits_of(root: pathlib.Path) -> List[pathlib.Path]:
-    """All edits."""
-    return [one for folder in ("must-fail", "mutants") for one in sorted(root.glob(f"crates/*/{folder}/*.edit"))]
-
-
-def faults_of_edit(edit: pathlib.Path, crate: pathlib.Path) -> Iterator[str]:
-    """What is wrong with an edit. Its changes apply in turn, each over what the earlier ones made."""
+def faults_of_edit(edit: str, crate: pathlib.Path) -> Iterator[str]:
+    """What is wrong with the text of an edit. Its changes apply in turn, each over what the earlier ones made."""
     texts: Dict[str, str] = {}
     name, old = "", ""
-    for line in edit.read_text(encoding="utf-8").split("\n"):
+    for line in edit.split("\n"):
         word, _, rest = line.partition(": ")
         if word == "file":
             name = rest.strip()
@@ -24,15 +21,25 @@ def faults_of_edit(edit: pathlib.Path, crate: pathlib.Path) -> Iterator[str]:
         elif word == "old":
             old = rest
         elif word.rstrip(":") == "new" and old:
-            count = texts[name].count(old)
+            count = texts.get(name, "").count(old)
             if count != 1:
-                yield f"{count} places of {name} have {old}"
-            texts[name] = texts[name].replace(old, rest, 1)
+                yield f"{count} places of {name or 'no file'} have {old}"
+            texts[name] = texts.get(name, "").replace(old, rest, 1)
             old = ""
+
+
+def mutant_faults(crate: pathlib.Path) -> Iterator[str]:
+    """What is wrong with the mutants of a crate, by their lines."""
+    sections = sections_of(crate)
+    yield from faults_of_form(sections)
+    for one in sections:
+        yield from (f"{one.line}: {one.name}: {fault}" for fault in faults_of_edit(one.text(), crate) if one.name)
 
 
 def edit_faults(root: pathlib.Path) -> Iterator[str]:
     """The edits that don't apply."""
-    for edit in edits_of(root):
-        for fault in faults_of_edit(edit, edit.parent.parent):
+    for edit in sorted(root.glob("crates/*/must-fail/*.edit")):
+        for fault in faults_of_edit(edit.read_text(encoding="utf-8"), edit.parent.parent):
             yield f"{edit.relative_to(root)}: {fault}"
+    for file in sorted(root.glob(f"crates/*/{FILE}")):
+        yield from (f"{file.relative_to(root)}:{fault}" for fault in mutant_faults(file.parent))

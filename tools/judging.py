@@ -32,8 +32,8 @@ class BadEdit(Exception):
     """An edit that doesn't apply."""
 
 
-def verdict_on(edit: pathlib.Path, checks: JointChecks, is_from_nothing: bool) -> str:
-    """The verdict on an edit of a crate. What isn't refused over what earlier checks have kept is tried from nothing too."""
+def verdict_on(edit: str, checks: JointChecks, is_from_nothing: bool) -> str:
+    """The verdict on the text of an edit of a crate. What isn't refused over what earlier checks have kept is tried from nothing too."""
     try:
         texts = texts_with(edit, checks.folder)
     except (BadEdit, OSError, UnicodeDecodeError) as fault:
@@ -42,8 +42,8 @@ def verdict_on(edit: pathlib.Path, checks: JointChecks, is_from_nothing: bool) -
     return verdict if verdict.startswith(REFUSED) else judged(texts, *checks.check(texts, is_from_nothing=True))
 
 
-def texts_with(edit: pathlib.Path, folder: pathlib.Path) -> Dict[str, str]:
-    """The texts of the files of a crate that an edit changes, with its changes in turn."""
+def texts_with(edit: str, folder: pathlib.Path) -> Dict[str, str]:
+    """The texts of the files of a crate that the text of an edit changes, with its changes in turn."""
     texts: Dict[str, str] = {}
     for name, change in changes_in(edit):
         if not name.startswith(FOLDERS) or ".." in name:

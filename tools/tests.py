@@ -19,9 +19,11 @@ from tools.crates import HERE, read_crates
 from tools.definition_page import Page, equations_of, list_of, rows_of
 from tools.definition_sources import DefinitionSources, tags_of
 from tools.definition_texts import OF_CRATES
+from tools.edit_checks import edit_faults
 from tools.joint_checks import KIT_PARTS, LAST_PART, JointChecks, Toolchain, whole
 from tools.judging import BadEdit, judged, texts_with
 from tools.modules import Definition, Module, Modules
+from tools.mutant_files import faults_of_form, mutants_in, sections_in
 from tools.promises import Cited, Promises, promises_of
 from tools.resting import Resting
 from tools.rounds import Round, is_readable, name_of, refused_in, rests_of, rounds_of
@@ -191,12 +193,12 @@ class MutantsTest(unittest.TestCase):
 
     def test_verdicts(self) -> None:
         script = runpy.run_path(str(HERE / "mutants"), run_name="mutants")
-        names = ["at_a_goal.edit", "by_a_limit.edit", "by_a_name.edit", "left_out.edit", "the_same.edit"]
+        names = ["at_a_goal", "by_a_limit", "by_a_name", "left_out", "the_same"]
         tried = script["Tried"]("dac_a", script["verdicts_in"](SAID_BY_THE_GATE, names), 0)
         self.assertEqual(tried.refused(), [f"dac_a/{name}" for name in names[:3]])
-        self.assertEqual(tried.refused_by("name"), ["dac_a/by_a_name.edit"])
-        self.assertEqual(tried.refused_by("limit"), ["dac_a/by_a_limit.edit"])
-        self.assertEqual((tried.lost(), tried.verdicts["left_out.edit"]), (2, "NOT TRIED"))
+        self.assertEqual(tried.refused_by("name"), ["dac_a/by_a_name"])
+        self.assertEqual(tried.refused_by("limit"), ["dac_a/by_a_limit"])
+        self.assertEqual((tried.lost(), tried.verdicts["left_out"]), (2, "NOT TRIED"))
 
 
 # A repository of three crates, of which the last names the second alone.
@@ -210,8 +212,7 @@ FILES = {
     "crates/dac_mid/src/lib.rt": "pub fn f() -> u8\n    // why\n    ensures { A }\n{\n    1\n}\n",
     "crates/dac_top/src/lib.rt": "code",
     "crates/dac_top/proofs/Proof.antt": "proof",
-    "crates/dac_top/mutants/first.edit": "old: a",
-    "crates/dac_top/mutants/second.edit": "old: b",
+    "crates/dac_top/mutants.edits": "# two\n\nmutant: first\nold: a\n\nmutant: second\nold: b\n",
 }
 # What a verdict on a mutant of the last crate doesn't rest on, and what it rests on: a file, and its new text.
 UNSEEN: Sequence[Tuple[str, str]] = (
@@ -222,6 +223,7 @@ UNSEEN: Sequence[Tuple[str, str]] = (
     ("crates/dac_mid/specs/Mid.antt", "-- what it is\n\nmid"),
     ("crates/dac_top/src/lib.rt", "// why\ncode\n"),
     ("crates/dac_mid/src/lib.rt", "fn g() {\n    0\n}\n\npub fn f() -> u8\n    ensures { A }\n{\n    2\n}\n"),
+    ("crates/dac_top/mutants.edits", "mutant: zeroth\nold: z\n\n\nmutant: first\n# why\nold: a"),
 )
 SEEN: Sequence[Tuple[str, str]] = (
     ("crates.txt", FILES["crates.txt"].replace("dac_top: dac_mid", "dac_top: dac_mid dac_low")),
@@ -230,7 +232,7 @@ SEEN: Sequence[Tuple[str, str]] = (
     ("crates/dac_top/src/lib.rt", "changed"),
     ("crates/dac_top/proofs/Proof.antt", "changed"),
     ("crates/dac_top/specs/New.antt", "new"),
-    ("crates/dac_top/mutants/first.edit", "old: c"),
+    ("crates/dac_top/mutants.edits", "mutant: first\nold: c\n"),
 )
 REFUSED, MISSED = "refused, as it must be: note: src/lib.rt:3:1", "NOT REFUSED: the crate is still proved"
 
@@ -245,8 +247,17 @@ class RecordTest(unittest.TestCase):
         self.copy = pathlib.Path(room.name) / "copy"
         for name, text in FILES.items():
             self.write(self.root, name, text)
-            self.write(self.copy, name.replace("/mutants/", "/must-fail/"), text)
+            self.write(self.copy, name, text)
         self.record = Record(self.root, "a toolchain")
+
+    def add(self, found: Dict[str, str], toolchain: str = "a toolchain") -> None:
+        """Adds verdicts on mutants of the last crate of the copy."""
+        Record(self.root, toolchain).add("dac_top", self.copy, mutants_in(self.copy / "crates/dac_top"), found)
+
+    def write_mutants(self, **texts: str) -> None:
+        """Writes the mutants of the last crate anew."""
+        sections = [f"mutant: {name}\nold: {text}\n" for name, text in texts.items()]
+        self.write(self.root, "crates/dac_top/mutants.edits", "\n".join(sections))
 
     def write(self, root: pathlib.Path, name: str, text: str) -> None:
         """Writes a file."""
@@ -255,26 +266,27 @@ class RecordTest(unittest.TestCase):
 
     def test_what_is_added_is_known(self) -> None:
         self.assertEqual(self.record.known("dac_top"), {})
-        self.record.add("dac_top", self.copy, {"first.edit": REFUSED + " "})
-        self.record.add("dac_top", self.copy, {"second.edit": MISSED})
-        self.assertEqual(self.record.known("dac_top"), {"first.edit": REFUSED, "second.edit": MISSED})
+        self.add({"first": REFUSED + " "})
+        self.add({"second": MISSED})
+        self.assertEqual(self.record.known("dac_top"), {"first": REFUSED, "second": MISSED})
         self.assertEqual(Record(self.root, "another one").known("dac_top"), {})
+        self.assertTrue((self.root / "out/mutants/dac_top.tsv").is_file())
 
     def test_what_is_added_is_known_where_the_logic_is_the_same(self) -> None:
-        Record(self.root, "kit-1 logic 0a1b").add("dac_top", self.copy, {"first.edit": REFUSED})
-        for toolchain, found in (("kit-2 logic 0a1b", {"first.edit": REFUSED}), ("kit-1 logic 0a1c", {}), ("kit-1", {})):
+        self.add({"first": REFUSED}, "kit-1 logic 0a1b")
+        for toolchain, found in (("kit-2 logic 0a1b", {"first": REFUSED}), ("kit-1 logic 0a1c", {}), ("kit-1", {})):
             self.assertEqual(Record(self.root, toolchain).known("dac_top"), found, toolchain)
 
     def test_rows_of_other_texts_are_not_known(self) -> None:
         self.write(self.copy, "crates/dac_top/src/lib.rt", "as it was when the copy was made")
-        self.record.add("dac_top", self.copy, {"first.edit": REFUSED})
-        self.assertEqual((self.record.known("dac_top"), list(self.record.rows("dac_top"))), ({}, ["first.edit"]))
+        self.add({"first": REFUSED})
+        self.assertEqual((self.record.known("dac_top"), list(self.record.rows("dac_top"))), ({}, ["first"]))
 
     def test_rows_go_with_their_mutants(self) -> None:
-        self.record.add("dac_top", self.copy, {"first.edit": REFUSED})
-        (self.root / "crates/dac_top/mutants/first.edit").unlink()
-        self.record.add("dac_top", self.copy, {"second.edit": REFUSED})
-        self.assertEqual(list(self.record.rows("dac_top")), ["second.edit"])
+        self.add({"first": REFUSED})
+        self.write_mutants(second="b")
+        self.add({"second": REFUSED})
+        self.assertEqual(list(self.record.rows("dac_top")), ["second"])
 
     def test_what_a_verdict_rests_on(self) -> None:
         before = self.checksum()
@@ -290,20 +302,31 @@ class RecordTest(unittest.TestCase):
 
     def checksum(self) -> str:
         """The checksum of what the first mutant rests on."""
-        mutant = self.root / "crates/dac_top/mutants/first.edit"
-        return checksums(self.root, "dac_top", "a toolchain", [mutant])["first.edit"]
+        return checksums(self.root, "dac_top", "a toolchain", mutants_in(self.root / "crates/dac_top"))["first"]
 
     def test_counts(self) -> None:
         script = runpy.run_path(str(HERE / "mutants"), run_name="mutants")
         states_of = script["states_of"]
         states_of.__globals__["HERE"] = self.root
-        self.record.add("dac_top", self.copy, {"first.edit": REFUSED, "second.edit": MISSED})
-        self.write(self.root, "crates/dac_top/mutants/third.edit", "old: c")
+        self.add({"first": REFUSED, "second": MISSED})
+        self.write_mutants(first="a", second="b", third="c")
         said = script["counted"](states_of("dac_top", self.record))
         self.assertEqual(said, "1 refused, 1 not refused, 0 tried on an older text, 1 never tried")
         self.write(self.root, "crates/dac_top/src/lib.rt", "changed")
         said = script["counted"](states_of("dac_top", self.record))
         self.assertEqual(said, "0 refused, 0 not refused, 2 tried on an older text, 1 never tried")
+
+    def test_a_file_of_mutants(self) -> None:
+        self.write(self.root, "crates/dac_top/src/lib.rt", "a a b")
+        self.assertEqual(mutants_in(self.root / "crates/dac_low"), {})
+        whole = "# why\n\nmutant: late\nfile: src/lib.rt\nold: b\nnew:\n\nmutant: early\nfile: src/lib.rt\nold: a\nnew: c\n"
+        self.write(self.root, "crates/dac_top/mutants.edits", whole)
+        texts = {"early": "file: src/lib.rt\nold: a\nnew: c\n", "late": "file: src/lib.rt\nold: b\nnew:\n"}
+        self.assertEqual(list(mutants_in(self.root / "crates/dac_top").items()), list(texts.items()))
+        self.assertEqual(list(edit_faults(self.root)), ["crates/dac_top/mutants.edits:8: early: 2 places of src/lib.rt have a"])
+        bad = "old: x\nmutant: a b\nmutant: one\nolds: y\nmutant: one\nold: z\nnew: y"
+        said = [fault.partition(":")[0] for fault in faults_of_form(list(sections_in(bad)))]
+        self.assertEqual(said, ["1", "2", "2", "3", "3", "5"])
 
     def test_portions(self) -> None:
         portions = runpy.run_path(str(HERE / "mutants"), run_name="mutants")["portions"]
@@ -321,13 +344,13 @@ class RecordTest(unittest.TestCase):
 
         script["try_crate"].__globals__.update(HERE=self.root, said_of=said_of)
         self.write(self.root, "HANDLES", "Handles allowed: none.")
-        self.record.add("dac_top", self.copy, {"first.edit": MISSED})
-        self.write(self.root, "crates/dac_top/mutants/third.edit", "old: c")
+        self.add({"first": MISSED})
+        self.write_mutants(first="a", second="b", third="c")
         with contextlib.redirect_stdout(io.StringIO()) as said:
             found = script["try_crate"]("dac_top", script["How"](1, self.record, 0))
         self.assertEqual(tried, [["second.edit", "third.edit"]])
-        self.assertEqual(found.verdicts, {"first.edit": MISSED, "second.edit": REFUSED, "third.edit": "NOT TRIED"})
-        self.assertEqual(self.record.known("dac_top"), {"first.edit": MISSED, "second.edit": REFUSED})
+        self.assertEqual(found.verdicts, {"first": MISSED, "second": REFUSED, "third": "NOT TRIED"})
+        self.assertEqual(self.record.known("dac_top"), {"first": MISSED, "second": REFUSED})
         last = said.getvalue().splitlines()[-1]
         self.assertEqual(last, "dac_top ends: 1 refused, 2 not refused; 1 were tried by an earlier run")
 
@@ -404,16 +427,15 @@ class RoundsTest(unittest.TestCase):
         self.addCleanup(room.cleanup)
         self.root = pathlib.Path(room.name)
         crate = self.root / "crates" / "dac_a"
-        for folder in ("src", "mutants"):
-            (crate / folder).mkdir(parents=True)
+        (crate / "src").mkdir(parents=True)
         (crate / "src" / "lib.rt").write_text(CODE, encoding="utf-8")
-        for name, (text, _) in EDITS.items():
-            (crate / "mutants" / f"{name}.edit").write_text(f"file: src/lib.rt\n{text}\n", encoding="utf-8")
-        self.folder, self.code = crate, Code(crate)
+        sections = [f"mutant: {name}\nfile: src/lib.rt\n{text}\n" for name, (text, _) in EDITS.items()]
+        (crate / "mutants.edits").write_text("\n".join(sections), encoding="utf-8")
+        self.mutants, self.code = mutants_in(crate), Code(crate)
 
     def edits(self, *names: str) -> List[Edit]:
         """Edits by their names."""
-        found = [edit_in(self.folder / "mutants" / f"{name}.edit") for name in names]
+        found = [edit_in(name, self.mutants[name]) for name in names]
         return [edit for edit in found if edit is not None]
 
     def round(self, *names: str) -> Round:
@@ -425,8 +447,7 @@ class RoundsTest(unittest.TestCase):
         for name, (_, function) in EDITS.items():
             body = self.code.body_of(self.edits(name)[0])
             self.assertEqual(body.name if body is not None else "", function, name)
-        (self.folder / "mutants" / "spec.edit").write_text("file: specs/A.antt\nold: a\nnew: b", encoding="utf-8")
-        self.assertEqual(self.edits("spec"), [])
+        self.assertIsNone(edit_in("spec", "file: specs/A.antt\nold: a\nnew: b"))
 
     def test_lines_of_bodies(self) -> None:
         found = [(one.of, one.trait, one.name, one.line, one.first, one.last) for one in self.code.bodies["src/lib.rt"]]
@@ -435,7 +456,7 @@ class RoundsTest(unittest.TestCase):
 
     def test_rounds(self) -> None:
         rounds = rounds_of(self.code, self.edits(*EDITS))
-        names = [["early.edit", "from.edit", "same_text.edit"], ["late.edit", "second.edit"]]
+        names = [["early", "from", "same_text"], ["late", "second"]]
         self.assertEqual([one.names() for one in rounds], names)
         first = CODE.replace("b + 1", "b + 2").replace("made(n)", "made(n + 1)").replace("self.left * 2", "b + 1")
         self.assertEqual(rounds[0].texts, {"src/lib.rt": first})
@@ -443,28 +464,28 @@ class RoundsTest(unittest.TestCase):
     def test_what_is_left_of_a_round_that_says_nothing(self) -> None:
         one = self.round("early", "from", "second")
         halves = [half.names() for half in rests_of(self.code, one, ["rattle: no verdict"])]
-        self.assertEqual(halves, [["early.edit"], ["from.edit", "second.edit"]])
+        self.assertEqual(halves, [["early"], ["from", "second"]])
         (rest,) = rests_of(self.code, one, ["src/lib.rt:28:9: error[unknown-name]: cannot find value"])
-        self.assertEqual((rest.names(), rest.texts), (["early.edit", "second.edit"], self.round("early", "second").texts))
+        self.assertEqual((rest.names(), rest.texts), (["early", "second"], self.round("early", "second").texts))
         unread: List[List[str]] = [[], ["src/lib.rt:14:9: error[unknown-name]: cannot find value"]]
         for said in unread:
             self.assertEqual(rests_of(self.code, self.round("early"), said), [])
 
     def test_an_edit_waits_for_another_that_has_its_text(self) -> None:
         rounds = rounds_of(self.code, self.edits("same_text", "early"))
-        self.assertEqual([one.names() for one in rounds], [["same_text.edit"], ["early.edit"]])
+        self.assertEqual([one.names() for one in rounds], [["same_text"], ["early"]])
 
     def test_goals_of_edited_functions(self) -> None:
         found = refused_in(self.round("early", "from", "second"), "dac_a", SAID_OF_A_ROUND)
         start = "refused, as it must be, tried with 2 others: "
-        self.assertEqual(found, {"early.edit": start + SAID_OF_A_ROUND[3], "from.edit": start + SAID_OF_A_ROUND[1]})
+        self.assertEqual(found, {"early": start + SAID_OF_A_ROUND[3], "from": start + SAID_OF_A_ROUND[1]})
 
     def test_a_goal_of_another_function(self) -> None:
         self.assertIsNone(refused_in(self.round("early", "second"), "dac_a", SAID_OF_A_ROUND))
 
     def test_a_goal_of_a_function_that_calls_itself(self) -> None:
         said = [line.replace("PairFrom/from/", "PairFrom/+from/") for line in SAID_OF_A_ROUND]
-        self.assertEqual(sorted(refused_in(self.round("early", "from"), "dac_a", said) or {}), ["early.edit", "from.edit"])
+        self.assertEqual(sorted(refused_in(self.round("early", "from"), "dac_a", said) or {}), ["early", "from"])
         said = [line.replace("PairFrom/from/", "PairFrom/+caller/") for line in SAID_OF_A_ROUND]
         self.assertIsNone(refused_in(self.round("early", "from"), "dac_a", said))
 
@@ -480,11 +501,11 @@ class RoundsTest(unittest.TestCase):
         one = self.round("early", "from")
         for words in ("has no field `left`", "`x` is not in scope", "antt ran out of stack"):
             said = [SAID_OF_A_ROUND[1].replace("no proof of", words), *SAID_OF_A_ROUND[2:]]
-            self.assertEqual(list(refused_in(one, "dac_a", said) or {}), ["early.edit"], words)
+            self.assertEqual(list(refused_in(one, "dac_a", said) or {}), ["early"], words)
         unread = SAID_OF_A_ROUND[1].replace("no proof of", "was not admitted:")
-        self.assertEqual(list(refused_in(one, "dac_a", [*SAID_OF_A_ROUND, unread]) or {}), ["early.edit"])
+        self.assertEqual(list(refused_in(one, "dac_a", [*SAID_OF_A_ROUND, unread]) or {}), ["early"])
         said = [line.replace("first: no proof", "first: could not tell") for line in SAID_OF_A_ROUND]
-        self.assertEqual(list(refused_in(one, "dac_a", said) or {}), ["from.edit"])
+        self.assertEqual(list(refused_in(one, "dac_a", said) or {}), ["from"])
         self.assertIsNone(refused_in(one, "dac_a", ["src/lib.rt:12:5: error: `b` is not in scope", *SAID_OF_A_ROUND]))
         self.assertEqual(refused_in(one, "dac_a", ["logic=proved functions=4"]), {})
 
@@ -516,9 +537,9 @@ class RoundsTest(unittest.TestCase):
             how = script["How"](1, Record(self.root, "a toolchain"), 0, Toolchain(pathlib.Path("/kit"), run, 1), self.root)
             found = script["try_crate"]("dac_a", how).verdicts
         bad = "BAD EDIT: an 'old:' text is in src/lib.rt 0 times, and not once"
-        others = {"use.edit": judging.MISSED, "none.edit": bad, "early.edit": found["early.edit"], "from.edit": found["from.edit"]}
-        self.assertIn("tried with 2 others", found["early.edit"])
-        self.assertEqual(found, {f"{name}.edit": others.get(f"{name}.edit", SINGLY) for name in EDITS})
+        others = {"use": judging.MISSED, "none": bad, "early": found["early"], "from": found["from"]}
+        self.assertIn("tried with 2 others", found["early"])
+        self.assertEqual(found, {name: others.get(name, SINGLY) for name in EDITS})
         self.assertEqual(how.record.known("dac_a"), found)
         self.assertEqual({words[0] for words in commands}, {str(pathlib.Path("/kit") / KIT_PARTS[0])})
         self.assertEqual((texts[0], texts[-1]), (CODE, CODE))
@@ -604,13 +625,12 @@ class JudgingTest(unittest.TestCase):
         self.assertEqual(said, [NAMED, "logic=not-proved"])
 
     def test_texts(self) -> None:
-        edit, folder = self.root / "one.edit", self.root / "crates" / "dac_mid"
+        folder = self.root / "crates" / "dac_mid"
         mid, proof = "file: specs/Mid.antt\n", "file: proofs/Proof.antt\n"
-        edit.write_text(f"{mid}old: mid\nnew: mud\nold: mud\nnew:\n{proof}old: oo\nnew: o", encoding="utf-8")
+        edit = f"{mid}old: mid\nnew: mud\nold: mud\nnew:\n{proof}old: oo\nnew: o"
         self.assertEqual(texts_with(edit, folder), {"specs/Mid.antt": "", "proofs/Proof.antt": "prof"})
         for text in ("", f"{mid}new: a", "file: src/../specs/Mid.antt\nold: mid\nnew: a", f"{mid}old: x\nnew: a"):
-            edit.write_text(text, encoding="utf-8")
-            self.assertRaises(BadEdit, texts_with, edit, folder)
+            self.assertRaises(BadEdit, texts_with, text, folder)
 
 
 class MutatedModelTest(unittest.TestCase):

@@ -12,6 +12,7 @@ from typing import Dict, Iterable, Iterator, List, Mapping, NamedTuple, Tuple
 
 from tools.contracts import SourceFile, without_comments
 from tools.crates import read_crates
+from tools.mutant_files import mutants_in
 
 FOLDER = pathlib.Path("out", "mutants")
 HEAD = "# by ./mutants --record: each mutant, the checksum of what its verdict rests on, and the verdict\n"
@@ -38,9 +39,9 @@ class Record:
         """Nothing is read before it is asked for."""
         self.root, self.toolchain = root, toolchain
 
-    def folder(self, crate: str) -> pathlib.Path:
-        """The folder of a crate's mutants."""
-        return self.root / "crates" / crate / "mutants"
+    def mutants(self, crate: str) -> Dict[str, str]:
+        """The texts of a crate's mutants, by their names."""
+        return mutants_in(self.root / "crates" / crate)
 
     def file(self, crate: str) -> pathlib.Path:
         """The file with the rows of a crate, which may not be there yet."""
@@ -55,23 +56,22 @@ class Record:
 
     def known(self, crate: str) -> Dict[str, str]:
         """The verdicts of a crate that are of the text of today, by the mutants' names."""
-        today = checksums(self.root, crate, self.toolchain, self.folder(crate).glob("*.edit"))
+        today = checksums(self.root, crate, self.toolchain, self.mutants(crate))
         return {name: row.verdict for name, row in self.rows(crate).items() if today.get(name) == row.rests_on}
 
-    def add(self, crate: str, copy: pathlib.Path, found: Mapping[str, str]) -> None:
-        """Adds what came of mutants in a copy of the repository, where they stand in the place of must-fail edits. A row whose
-        mutant is gone goes too."""
-        tried = [copy / "crates" / crate / "must-fail" / name for name in found]
-        of_copy = checksums(copy, crate, self.toolchain, tried)
+    def add(self, crate: str, copy: pathlib.Path, mutants: Mapping[str, str], found: Mapping[str, str]) -> None:
+        """Adds verdicts on mutants that were tried as these texts in a copy of the repository. A row whose mutant is gone goes
+        too."""
+        of_copy = checksums(copy, crate, self.toolchain, {name: mutants[name] for name in found})
         rows = {**self.rows(crate), **{name: Row(of_copy[name], verdict.strip()) for name, verdict in found.items()}}
-        kept = sorted(name for name in rows if (self.folder(crate) / name).is_file())
+        kept = sorted(rows.keys() & self.mutants(crate).keys())
         lines = ["\t".join((name, *rows[name])) + "\n" for name in kept]
         self.file(crate).parent.mkdir(parents=True, exist_ok=True)
         self.file(crate).write_text(HEAD + "".join(lines), encoding="utf-8")
 
 
-def checksums(root: pathlib.Path, crate: str, toolchain: str, mutants: Iterable[pathlib.Path]) -> Dict[str, str]:
-    """The checksums of what the verdicts on a crate's mutants rest on, by the mutants' names.
+def checksums(root: pathlib.Path, crate: str, toolchain: str, mutants: Mapping[str, str]) -> Dict[str, str]:
+    """The checksums of what the verdicts on these mutants of a crate rest on, by their names.
 
     They are of the mutant itself, its crate's code, definitions and proofs, the toolchain's logic, and the definitions and
     public contracts of the crates that crates.txt lists for it. So neither a new proof further down makes a row old, nor a
@@ -80,10 +80,10 @@ def checksums(root: pathlib.Path, crate: str, toolchain: str, mutants: Iterable[
     """
     basis = hashlib.sha256(repr((logic_of(toolchain), list(basis_of(root, crate)))).encode("utf-8"))
     found = {}
-    for mutant in mutants:
+    for name, text in mutants.items():
         whole = basis.copy()
-        whole.update(mutant.read_bytes())
-        found[mutant.name] = whole.hexdigest()[:16]
+        whole.update(text.encode("utf-8"))
+        found[name] = whole.hexdigest()[:16]
     return found
 
 
