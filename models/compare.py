@@ -9,7 +9,7 @@ is added to it. A live run that hasn't ended after some minutes is a difference 
 What racing live scripts print hangs on the order of the threads. It is checked by what has to hold of each run: see racing.py.
 Such scripts and those with one outcome are recorded too: see recorded.py.
 Of long scripts some have many ticks at which nothing changes, some many reboots, and some maps of many keys: see random_long.py.
-The inputs that ./fuzz found are played too, all of them: see found.py.
+The inputs that checks/fuzz found are played too, all of them: see found.py.
 The last line counts, and says whether PROGRAM is the proved program. Of a program elsewhere, as a copy, it says that it isn't.
 """
 

@@ -1,5 +1,5 @@
-/* Makes a script of the bytes that AFL++ tries: the text FEEDING_HEAD of the environment, their digits, and a line feed. ./fuzz has
-   AFL++ load it, so that what AFL++ changes are the bytes of a packet, and not their digits. */
+/* Makes a script of the bytes that AFL++ tries: the text FEEDING_HEAD of the environment, their digits, and a line feed. checks/fuzz
+   has AFL++ load it, so that what AFL++ changes are the bytes of a packet, and not their digits. */
 #include <stdint.h>
 #include <stdlib.h>
 #include <string.h>

@@ -1,4 +1,4 @@
-"""Inputs that ./fuzz found, in the folder `found`. Each reaches code of the program that no seed reaches.
+"""Inputs that checks/fuzz found, in the folder `found`. Each reaches code of the program that no seed reaches.
 
 A command has a file with a line for each input: the digits of its bytes, the shortest input first. Those of `feed` are the
 bytes of packets. A script feeds them under the configuration of models/seeds.py. An input of `live` is kept only if no order

@@ -14,7 +14,7 @@ from pathlib import Path
 from support import TOP
 
 PARTS = ("examples", "races", "compare", "growths", "stacks", "mutants")
-SCRIPTS = ("races", "growths", "stacks", "mutants", "fuzz", "examples/check")
+SCRIPTS = (*(f"checks/{name}" for name in ("races", "growths", "stacks", "mutants", "fuzz")), "examples/check")
 MODELS = ("processes.py", "arguments.py", "instrumented.py")
 # A crate that no program uses, and those that the programs are made of.
 CRATES = "# all\nlow: core\nother: core\ndistac: low\ngrowths: low\n"
@@ -34,7 +34,7 @@ class Nightly(unittest.TestCase):
         room = tempfile.TemporaryDirectory()
         self.addCleanup(room.cleanup)
         self.top = Path(room.name).resolve() / "top"
-        for name in ("nightly", *(f"models/{name}" for name in MODELS)):
+        for name in ("checks/nightly", *(f"models/{name}" for name in MODELS)):
             (self.top / name).parent.mkdir(parents=True, exist_ok=True)
             shutil.copy(TOP / name, self.top / name)
         for name in SCRIPTS:
@@ -74,7 +74,7 @@ class Nightly(unittest.TestCase):
         """Starts the script."""
         surroundings = {**os.environ, "PATH": f"{self.top.parent / 'bin'}:{os.environ['PATH']}"}
         pipe = subprocess.PIPE
-        line = [str(self.top / "nightly"), *words]
+        line = [str(self.top / "checks" / "nightly"), *words]
         return subprocess.Popen(line, env=surroundings, text=True, stdin=subprocess.DEVNULL, stdout=pipe, stderr=pipe)
 
     def run_it(self, *words: str) -> "tuple[int, list[str]]":
@@ -103,7 +103,7 @@ class Nightly(unittest.TestCase):
         rows = self.rows()
         self.assertEqual(list(rows), [*PARTS, "fuzz"])
         self.assertEqual(rows["fuzz"], ["", "", "", "not run", ""])
-        self.assertEqual(rows["stacks"], ["`./stacks`", commit, "0:00:00", "status 0", "`stacks ! right`"])
+        self.assertEqual(rows["stacks"], ["`checks/stacks`", commit, "0:00:00", "status 0", "`checks/stacks ! right`"])
         self.assertEqual({rows[name][3] for name in PARTS}, {"status 0"})
         self.assertEqual(self.run_it("--only", "fuzz")[0], 0)
         self.assertEqual(self.run_it("--record")[0], 0)
@@ -134,7 +134,7 @@ class Nightly(unittest.TestCase):
             (self.top / "out" / "program").unlink()
 
     def test_another_toolchain_and_a_failure(self) -> None:
-        self.script("stacks", "echo wrong; exit 3")
+        self.script("checks/stacks", "echo wrong; exit 3")
         self.assertEqual(self.run_it("--only", "stacks", "examples")[0], 1)
         self.toolchain("kit-2")
         rows = self.rows()
@@ -142,7 +142,7 @@ class Nightly(unittest.TestCase):
         self.assertEqual(self.run_it("--record")[0], 1)
 
     def test_a_change_while_a_part_runs(self) -> None:
-        self.script("stacks", f"echo changed >{self.top}/crates/low/src/lib.rt")
+        self.script("checks/stacks", f"echo changed >{self.top}/crates/low/src/lib.rt")
         self.run_it("--only", "stacks")
         self.assertEqual(self.older(), ["stacks"])
 
@@ -161,7 +161,7 @@ class Nightly(unittest.TestCase):
         self.run_it("--only", "stacks", "examples")
         before = self.rows()
         begun = self.top / "out" / "begun"
-        self.script("stacks", f"echo $$ >{begun}; exec sleep 60")
+        self.script("checks/stacks", f"echo $$ >{begun}; exec sleep 60")
         for number in (signal.SIGTERM, signal.SIGINT, signal.SIGHUP):
             self.assertEqual(self.ended_by(number, begun), 128 + number)
             self.assertFalse(Path("/proc", begun.read_text().strip()).exists(), number)

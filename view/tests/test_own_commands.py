@@ -24,27 +24,27 @@ def say(*words: str) -> "tuple[int, str, str]":
 
 # Words that a command doesn't take, and a part of what it says.
 REFUSED = (
-    (("growths", "nosuch"), "no call and no example begins with nosuch"),
-    (("growths", "State", "nosuch"), "no call and no example begins with nosuch"),
-    (("growths", "--counts", "State"), "takes no names"),
+    (("checks/growths", "nosuch"), "no call and no example begins with nosuch"),
+    (("checks/growths", "State", "nosuch"), "no call and no example begins with nosuch"),
+    (("checks/growths", "--counts", "State"), "takes no names"),
     (("tests", "--wrong"), "no words are taken"),
     (("tests", "dac_status"), "no words are taken"),
     (("examples/check", "--wrong"), "may follow"),
     (("examples/check", "--proved", "x"), "may follow"),
-    (("mutants", "nosuch"), "no crate is called nosuch"),
-    (("nightly", "--only", "nosuch"), "no part is called nosuch"),
-    (("fuzz", "nosuch"), "no command is called nosuch"),
-    (("fuzz", "--jobs", "0"), "'0' isn't a number of 1 or more"),
-    (("fuzz", "--minutes", "-1"), "'-1' isn't a number of 0 or more"),
-    (("races", "--jobs", "0"), "'0' isn't a number of 1 or more"),
-    (("growths", "--states", "-1"), "'-1' isn't a number of 0 or more"),
+    (("checks/mutants", "nosuch"), "no crate is called nosuch"),
+    (("checks/nightly", "--only", "nosuch"), "no part is called nosuch"),
+    (("checks/fuzz", "nosuch"), "no command is called nosuch"),
+    (("checks/fuzz", "--jobs", "0"), "'0' isn't a number of 1 or more"),
+    (("checks/fuzz", "--minutes", "-1"), "'-1' isn't a number of 0 or more"),
+    (("checks/races", "--jobs", "0"), "'0' isn't a number of 1 or more"),
+    (("checks/growths", "--states", "-1"), "'-1' isn't a number of 0 or more"),
 )
 # Those whose first comment is their help.
-COMMENTED = ("growths", "mutants", "races", "fuzz", "stacks", "nightly")
-HELPED = ("tests", "examples/check", "check-documents", *COMMENTED)
+COMMENTED = tuple(f"checks/{name}" for name in ("growths", "mutants", "races", "fuzz", "stacks", "nightly"))
+HELPED = ("tests", "examples/check", "checks/check-documents", *COMMENTED)
 
 # Those that a reader runs first. A Python that is too old prints a sentence, so it has to be able to read them.
-PLAIN = ("believe", "check-documents", "models/sim.py")
+PLAIN = ("believe", "checks/check-documents", "models/sim.py")
 OLD_PYTHONS = ("python2", "python2.7", "python3.5", "python3.6", "python3.7")
 # What such a Python can't read.
 NEWER = (ast.AnnAssign, ast.AsyncFunctionDef, ast.FunctionDef, ast.JoinedStr, ast.NamedExpr, ast.Starred)
@@ -103,14 +103,14 @@ class OwnCommands(unittest.TestCase):
                 self.assertIn(first_line, output, command)
 
     def test_beginnings_of_names(self) -> None:
-        unknown = runpy.run_path(str(TOP / "growths"), run_name="growths")["unknown"]
+        unknown = runpy.run_path(str(TOP / "checks" / "growths"), run_name="growths")["unknown"]
         known = ("State", "Node::step:ship-again", "first-path", "live-failover", "take")
         self.assertEqual(unknown((*known, "nosuch", "first-path.distac")), ["nosuch", "first-path.distac"])
 
     @unittest.skipUnless(shutil.which("prlimit"), "prlimit sets the stacks")
     def test_stacks_of_a_program_that_answers_nothing(self) -> None:
         for program in (shutil.which("true"), shutil.which("cat"), "/no/such/program"):
-            status, output, errors = say("stacks", str(program))
+            status, output, errors = say("checks/stacks", str(program))
             self.assertEqual((status, output), (1, ""), errors)
             self.assertIn(f"stacks: {program} check isn't right with 8192 KiB on manual, which the model answers otherwise\n", errors)
 

@@ -5,7 +5,7 @@
 //! - `call NAME`, as `call Config::copy`: one call of the table;
 //! - `state` and the bytes of a state, which is borne as any other.
 //!
-//! Without any all calls are made. A line for each says what came of it. `./growths` runs this program with growths refused.
+//! Without any all calls are made. A line for each says what came of it. `checks/growths` runs this program with growths refused.
 #![tactic(auto)]
 
 mod calls;

@@ -3,7 +3,7 @@
 import pathlib
 from typing import Dict, FrozenSet, Iterator, List, NamedTuple, Tuple
 
-HERE = pathlib.Path(__file__).resolve().parent.parent
+HERE = pathlib.Path(__file__).resolve().parent.parent.parent
 
 
 class Crates(NamedTuple):

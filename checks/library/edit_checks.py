@@ -3,7 +3,7 @@
 import pathlib
 from typing import Dict, Iterator
 
-from tools.mutant_files import FILE, faults_of_form, sections_of
+from checks.library.mutant_files import FILE, faults_of_form, sections_of
 
 
 def faults_of_edit(edit: str, crate: pathlib.Path) -> Iterator[str]:

@@ -5,8 +5,8 @@ import pathlib
 import re
 from typing import Dict, Iterator, List, NamedTuple, Optional, Sequence, Tuple
 
-from tools.contracts import Function, SourceFile
-from tools.modules import depth_of
+from checks.library.contracts import Function, SourceFile
+from checks.library.modules import depth_of
 
 CYCLE = re.compile(r"#\[cycle\b")
 # What a line of a body can't begin with: it would say something to others than this function.

@@ -10,8 +10,8 @@ import pathlib
 import shutil
 from typing import Callable, Dict, List, Mapping, NamedTuple, Optional, Sequence, Tuple
 
-from tools.crates import Crates, read_crates
-from tools.verdicts import PARTS, files_in
+from checks.library.crates import Crates, read_crates
+from checks.library.verdicts import PARTS, files_in
 
 # How a command ends that is run in a folder, and the lines that it says.
 Run = Callable[[Sequence[str], pathlib.Path], Tuple[int, List[str]]]

@@ -1,4 +1,4 @@
-"""The record of verdicts on mutants: a file out/mutants/NAME.tsv for each crate, which `./mutants --record` writes.
+"""The record of verdicts on mutants: a file out/mutants/NAME.tsv for each crate, which `checks/mutants --record` writes.
 
 A row has a mutant's name, the checksum of what its verdict rests on, and the verdict as the toolchain printed it, with the number
 of others that it was tried with, if any. Git ignores these files, so each clone has its own. A row counts as long as nothing that
@@ -10,12 +10,12 @@ import pathlib
 import re
 from typing import Dict, Iterable, Iterator, List, Mapping, NamedTuple, Tuple
 
-from tools.contracts import SourceFile, without_comments
-from tools.crates import read_crates
-from tools.mutant_files import mutants_in
+from checks.library.contracts import SourceFile, without_comments
+from checks.library.crates import read_crates
+from checks.library.mutant_files import mutants_in
 
 FOLDER = pathlib.Path("out", "mutants")
-HEAD = "# by ./mutants --record: each mutant, the checksum of what its verdict rests on, and the verdict\n"
+HEAD = "# by checks/mutants --record: each mutant, the checksum of what its verdict rests on, and the verdict\n"
 PARTS = ("src", "specs", "proofs")
 # What a line of a comment begins with.
 COMMENTS = {".rt": "//", ".antt": "--"}

@@ -3,7 +3,7 @@
 import pathlib
 from typing import Dict, Iterator, List, NamedTuple, Tuple
 
-from tools.modules import Definition, Modules
+from checks.library.modules import Definition, Modules
 
 
 class Tag(NamedTuple):

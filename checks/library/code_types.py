@@ -4,7 +4,7 @@ import pathlib
 import re
 from typing import Dict, Iterator, List, NamedTuple, Optional, Tuple
 
-from tools.modules import CodeType, depth_of
+from checks.library.modules import CodeType, depth_of
 
 DECLARATION = re.compile(r"^\s*(?:pub(?:\(\w+\))? )?(?:struct|enum|const) (?P<name>\w+)")
 

@@ -4,8 +4,8 @@ import pathlib
 import re
 from typing import Dict, FrozenSet, Iterator, List, Tuple
 
-from tools.crates import Crates
-from tools.tables import SPAN, cells_of
+from checks.library.crates import Crates
+from checks.library.tables import SPAN, cells_of
 
 CODE_PATH = re.compile(r"(?<![\w:.])(\w+)::")
 DEFINITION_PATH = re.compile(r"\bRattle\.(\w+)\b")

@@ -5,8 +5,8 @@ import re
 import subprocess
 from typing import Dict, FrozenSet, Iterator, List, NamedTuple, Set
 
-from tools.contracts import Sources
-from tools.tables import SPAN
+from checks.library.contracts import Sources
+from checks.library.tables import SPAN
 
 NAME = re.compile(r"(?<![\\\w])[A-Za-z_][A-Za-z0-9_]{3,}")
 PATH = re.compile(r"(?<![\w/:.-])(?:\.\/)?((?:[\w.-]+/)+[\w.-]*|[\w-]+\.(?:md|py|rt|antt|txt))(?![\w/])")
@@ -98,7 +98,8 @@ def is_there(documents: Documents, line: Line, path: str) -> bool:
         return True
     crates = root / "crates"
     below = [one for pattern in ("*", "*/src", "*/specs") for one in crates.glob(pattern)]
-    return any((one / path).exists() for one in below) or any((root / one / path).exists() for one in ("view", "models", "tools"))
+    folders = (root / one for one in ("view", "models", "checks/library"))
+    return any((one / path).exists() for one in (*below, *folders))
 
 
 def path_faults(documents: Documents) -> Iterator[str]:

@@ -6,14 +6,14 @@ import os
 import sys
 from typing import List, Sequence
 
-from tools.believed import Asked, BelievedPage, wrapped
-from tools.contracts import Function, Sources, is_within
-from tools.definition_page import Page
-from tools.definition_sources import DefinitionSources
-from tools.modules import Definition, Modules
-from tools.promises import Promises
-from tools.resting import Resting
-from tools.views import Views
+from checks.library.believed import Asked, BelievedPage, wrapped
+from checks.library.contracts import Function, Sources, is_within
+from checks.library.definition_page import Page
+from checks.library.definition_sources import DefinitionSources
+from checks.library.modules import Definition, Modules
+from checks.library.promises import Promises
+from checks.library.resting import Resting
+from checks.library.views import Views
 
 WHAT = """Prints all definitions that the contract of a public function rests on, each with its comment and its source.
 

@@ -4,9 +4,9 @@ import pathlib
 import re
 from typing import Dict, Mapping, Sequence
 
-from tools.bodies import changes_in
-from tools.joint_checks import JointChecks
-from tools.rounds import NOT_PROVED, REFUSED
+from checks.library.bodies import changes_in
+from checks.library.joint_checks import JointChecks
+from checks.library.rounds import NOT_PROVED, REFUSED
 
 BAD, MISSED = "BAD EDIT: ", "NOT REFUSED: the crate is still proved with this edit"
 UNREAD = BAD + "the prover cannot read the edited text, so no contract was tried: "

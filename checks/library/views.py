@@ -4,10 +4,10 @@ import pathlib
 import re
 from typing import Dict, FrozenSet, Iterator, List, NamedTuple, Optional, Tuple
 
-from tools.code_types import CodeTypes, Declared
-from tools.contracts import CLAUSE, Function, SourceFile, name_of_block
-from tools.modules import CodeType, Word, depth_of
-from tools.resting import Resting, Scope, bound_in
+from checks.library.code_types import CodeTypes, Declared
+from checks.library.contracts import CLAUSE, Function, SourceFile, name_of_block
+from checks.library.modules import CodeType, Word, depth_of
+from checks.library.resting import Resting, Scope, bound_in
 
 MODEL = re.compile(r"^\s*impl(?:<.*>)? Model for (?P<rest>.*)\{$")
 PART = re.compile(r"^\s*ghost (?P<name>\w+)(?:: | = )")

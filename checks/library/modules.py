@@ -5,7 +5,7 @@ import pathlib
 import re
 from typing import Dict, Iterator, List, NamedTuple, Optional, Tuple, Union
 
-from tools.crates import HERE, read_crates
+from checks.library.crates import HERE, read_crates
 
 IMPORT = re.compile(
     r"^\s*(?P<word>ghost use|pub use|use) Rattle\.(?P<path>[^\s{;]+?)"

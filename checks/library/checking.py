@@ -1,16 +1,16 @@
-"""What `./check-documents` runs and prints."""
+"""What `checks/check-documents` runs and prints."""
 
 import argparse
 import sys
 from typing import Callable, Iterator, List, NamedTuple, Sequence
 
-from tools import crate_checks, document_checks, edit_checks, script_checks, tests
-from tools.contracts import Sources
-from tools.crates import HERE, read_crates
-from tools.definition_sources import DefinitionSources
-from tools.modules import Modules
-from tools.promises import Promises
-from tools.resting import Resting
+from checks.library import crate_checks, document_checks, edit_checks, script_checks, tests
+from checks.library.contracts import Sources
+from checks.library.crates import HERE, read_crates
+from checks.library.definition_sources import DefinitionSources
+from checks.library.modules import Modules
+from checks.library.promises import Promises
+from checks.library.resting import Resting
 
 WHAT = """Checks that documents, crates.txt, edits and scripts agree with each other and with the sources.
 
@@ -67,7 +67,7 @@ def script_list(types: bool) -> List[Check]:
         Check("bash reads the scripts", lambda: script_checks.bash_faults(HERE, files)),
         Check("the oldest Python reads the scripts", lambda: script_checks.python_faults(HERE, files)),
         Check("shellcheck warns of nothing", lambda: script_checks.shellcheck_faults(HERE, files), no_shellcheck),
-        Check("the tests of the folder tools pass", tests.faults_of_tests),
+        Check("the tests of checks/library pass", tests.faults_of_tests),
         Check("mypy finds the types right", lambda: script_checks.type_faults(HERE), no_types),
     ]
 

@@ -14,9 +14,10 @@ OLDEST: Tuple[Tuple[str, Tuple[int, int]], ...] = (
     ("view", (3, 8)),
     ("distac-view", (3, 8)),
     ("models", (3, 8)),
-    ("tools", (3, 8)),
+    ("checks/library", (3, 8)),
+    ("checks/__init__.py", (3, 8)),
+    ("checks/check-documents", (3, 8)),
     ("believe", (3, 8)),
-    ("check-documents", (3, 8)),
 )
 # the oldest mypy that finds the types right, which is Debian 12's
 OLDEST_MYPY = (1, 0)

@@ -4,11 +4,11 @@ import re
 import textwrap
 from typing import Iterator, List, NamedTuple, Optional, Set, Tuple
 
-from tools.contracts import Sources
-from tools.definition_sources import DefinitionSources
-from tools.definition_texts import INTRODUCTION, NAMES, OF_CRATES
-from tools.modules import Definition, Module, Modules
-from tools.resting import Resting
+from checks.library.contracts import Sources
+from checks.library.definition_sources import DefinitionSources
+from checks.library.definition_texts import INTRODUCTION, NAMES, OF_CRATES
+from checks.library.modules import Definition, Module, Modules
+from checks.library.resting import Resting
 
 # the definition whose rests are marked
 HEADLINE = ("dac_model_world", "EachIsMeaning")

@@ -8,7 +8,7 @@ and the round says nothing of its edits.
 import re
 from typing import Dict, List, Mapping, NamedTuple, Optional, Sequence, Set
 
-from tools.bodies import Body, Code, Edit, applied, changed_lines
+from checks.library.bodies import Body, Code, Edit, applied, changed_lines
 
 # What the check says at a place of a file, of a function, and last.
 AT_PLACE = re.compile(r"(?P<note>note: )?(?:\./)?(?P<file>[^\s:]+):(?P<line>\d+):\d+: (?P<said>.*)")

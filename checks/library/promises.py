@@ -3,10 +3,10 @@
 import re
 from typing import Dict, Iterator, List, NamedTuple, Sequence, Set, Tuple
 
-from tools.contracts import Function, Sources, is_within
-from tools.modules import Modules, Word
-from tools.resting import Resting
-from tools.tables import SPAN, cells_of, line_of, rule_of
+from checks.library.contracts import Function, Sources, is_within
+from checks.library.modules import Modules, Word
+from checks.library.resting import Resting
+from checks.library.tables import SPAN, cells_of, line_of, rule_of
 
 SECTION = "## Crate by crate"
 HEAD = ("Crate", "Promise", "Where it stands", "Rests on")

@@ -4,8 +4,8 @@ import pathlib
 import re
 from typing import Dict, Iterator, List, NamedTuple, Optional, Tuple
 
-from tools.crates import HERE, read_crates
-from tools.modules import Import, depth_of, import_of
+from checks.library.crates import HERE, read_crates
+from checks.library.modules import Import, depth_of, import_of
 
 BLOCK = re.compile(r"^\s*(?:pub(?:\(\w+\))? )?(?P<kind>impl|trait|mod)\b(?P<rest>.*)$")
 FUNCTION = re.compile(r"^\s*(?P<public>pub )?(?:pub\(\w+\) )?(?:const |unsafe )*fn (?P<name>\w+)")

@@ -3,8 +3,8 @@
 import re
 from typing import Dict, Iterator, List, NamedTuple, Optional, Sequence, Set, Tuple
 
-from tools.contracts import Function
-from tools.modules import CodeType, Definition, Import, Module, Modules, Word
+from checks.library.contracts import Function
+from checks.library.modules import CodeType, Definition, Import, Module, Modules, Word
 
 TOKEN = re.compile(r"[^\s(){}\[\],;]+")
 BINDER = re.compile(r"[({]((?:[^\s(){}\[\],;:.]+ )+): ")

@@ -4,11 +4,11 @@ import itertools
 import textwrap
 from typing import Dict, Iterator, List, NamedTuple, Sequence, Set, Tuple
 
-from tools.code_types import CodeTypes, Declared
-from tools.definition_sources import DefinitionSources
-from tools.modules import Definition, Modules, Word
-from tools.resting import Rest, Resting
-from tools.views import View
+from checks.library.code_types import CodeTypes, Declared
+from checks.library.definition_sources import DefinitionSources
+from checks.library.modules import Definition, Modules, Word
+from checks.library.resting import Rest, Resting
+from checks.library.views import View
 
 WIDTH = 110
 # how many functions are named at the end

@@ -1,0 +1,1 @@
+"""The scripts that check the repository, and their library."""
