@@ -17,6 +17,7 @@ OLDEST: Tuple[Tuple[str, Tuple[int, int]], ...] = (
     ("checks/library", (3, 8)),
     ("checks/__init__.py", (3, 8)),
     ("checks/check-documents", (3, 8)),
+    ("checks/dead-names", (3, 8)),
     ("believe", (3, 8)),
 )
 # the oldest mypy that finds the types right, which is Debian 12's
