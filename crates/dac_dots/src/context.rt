@@ -23,8 +23,9 @@ use std::sync::Arc;
 /// Dots may come in any order, so a context need not be a version vector. It may have the fourth dot of an origin and
 /// lack the third.
 ///
-/// Copies share their rows, so a copy costs as much as a pointer. Rows that no other context has change where they
-/// stand. Of rows that others have too, a change makes a copy first.
+/// Copies share their rows, so a copy costs as much as a pointer. Up to 128 rows stand in one list: if no other context has
+/// it, it changes in place, and otherwise a change copies it first. More rows stand in parts that contexts share, and a change
+/// copies one of them.
 pub struct Context {
     alloc: Global,
     kept: Kept,
