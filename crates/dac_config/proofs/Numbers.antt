@@ -26,7 +26,7 @@ use Rattle.dac_shapes.specs.Views.{names_of}
 use Rattle.dac_shapes.specs.Grammar.{IsTextOf}
 use Rattle.dac_shapes.specs.Within.{IsWithinLimits}
 use Rattle.dac_config.specs.declared.config.Node.{Node}
-use Rattle.dac_config.specs.declared.config.Config.TheInside.{Inside}
+use Rattle.dac_config.specs.declared.config.Tables.{Tables}
 use Rattle.dac_config.specs.ConfigView.{node_row, app_row, table_of}
 use Rattle.dac_config.specs.Table.{NodeRow, AppRow, Table}
 use Rattle.dac_config.specs.Numbering.{name_cmp, in_byte_order, numbers_from, numbered_node, numbered_nodes, permitted, numbered_app, numbered}
@@ -257,7 +257,7 @@ numbers_more ns new i nodes node group total named here within tells is h =
     by false next = refl
 
 -- tables whose nodes and applications are numbered are the configuration that the text says
-pub table_numbered : (w : Written) (c : Inside) → map node_row c.nodes.items ≡ numbered_nodes w → map app_row c.apps.entries ≡ map (numbered_app w.permissions (map node_row c.nodes.items)) w.apps → c.sync_wait ≡ w.sync_wait → table_of c ≡ numbered w
+pub table_numbered : (w : Written) (c : Tables) → map node_row c.nodes.items ≡ numbered_nodes w → map app_row c.apps.entries ≡ map (numbered_app w.permissions (map node_row c.nodes.items)) w.apps → c.sync_wait ≡ w.sync_wait → table_of c ≡ numbered w
 table_numbered w c rows apps wait =
     let through : map app_row c.apps.entries ≡ map (numbered_app w.permissions (numbered_nodes w)) w.apps = apps ∙ ap (λ rs. map (numbered_app w.permissions rs) w.apps) rows in
     λ i. record { nodes = rows i; apps = through i; sync_wait = wait i }

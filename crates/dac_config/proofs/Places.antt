@@ -15,7 +15,7 @@ use Rattle.dac_base.specs.declared.limits.TheConstants.{MAX_NODES}
 use Rattle.dac_base.specs.declared.NodeId.{NodeId}
 use Rattle.dac_base.specs.declared.AppId.{AppId}
 use Rattle.dac_config.specs.declared.config.App.{App}
-use Rattle.dac_config.specs.declared.config.Config.TheInside.{Inside}
+use Rattle.dac_config.specs.declared.config.Tables.{Tables}
 use Rattle.dac_config.specs.Table.{Table, group_among, group_of}
 use Rattle.dac_config.specs.ConfigView.{named_row, groups_in, place_by, place_at, ArePlaces, IsPlaced}
 use Rattle.dac_config.proofs.Tables.{position-map, all_at}
@@ -76,7 +76,7 @@ places_all n places groups count below so_far = λ node.
 
 -- ---- the place of a node of an application
 
-pub place_kept : (c : Inside) (i : ℕ) (got : Option (Bor (Vec ℕ) × Bor App)) (entry : Bor (Vec ℕ) × Bor App) → All IsPlaced c.apps.entries → option_map deref_pair got ≡ slice_get c.apps.entries i → got ≡ Some entry → IsPlaced (deref_pair entry)
+pub place_kept : (c : Tables) (i : ℕ) (got : Option (Bor (Vec ℕ) × Bor App)) (entry : Bor (Vec ℕ) × Bor App) → All IsPlaced c.apps.entries → option_map deref_pair got ≡ slice_get c.apps.entries i → got ≡ Some entry → IsPlaced (deref_pair entry)
 place_kept c i got entry all same was = all_at IsPlaced c.apps.entries i (deref_pair entry) all (sym same ∙ ap (option_map deref_pair) was)
 
 pub group_kept : (table : Table) (id : AppId) (node : NodeId) (name : List ℕ) (app : App) → slice_get table.apps id.0 ≡ Some (named_row name app) → ArePlaces app.places.items (groups_in app) → place_at app.places.items node.0 ≡ group_of table id node

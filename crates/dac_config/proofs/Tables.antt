@@ -1,24 +1,23 @@
 -- A configuration as it is kept: what its tables say at a number and of a name, how they are made, and their copies.
 use Rattle.std.proofs.Common.{◌≡◌, ℕ, ◌+◌, ◌<◌, drop, get_or, Bool, false, cond, not, List, [], ◌∷◌, ◌++◌, length, map, All, Bor, bytes_eq, position, Option, Some, None, option_map, slice_get, refl, sym, ap, subst, ◌∙◌, append_assoc, append-nil}
 use Rattle.std.specs.Global.{Vec}
-use Rattle.std.specs.List.{prefix_len, position_from, AllZip, each_same}
+use Rattle.std.specs.List.{prefix_len, position_from}
 use Rattle.std.specs.Map.{keys_of, lookup}
 use Rattle.std.specs.Map.Iter.{deref_pair}
-use Rattle.std.specs.Vec.{vec_len}
 use Rattle.std.proofs.lemmas.Bool.{or_parts}
 use Rattle.std.proofs.lemmas.Cmp.{nat_list_eq_equiv}
 use Rattle.std.proofs.lemmas.List.{drop_more, length-map, map_push}
-use Rattle.std.proofs.lemmas.List.Elements.{All-push, All-map}
+use Rattle.std.proofs.lemmas.List.Elements.{All-push}
 use Rattle.std.proofs.lemmas.Option.{slice_get-map, slice_get-get_or, slice_get_within, get_or_from_slice_get}
 use Rattle.indexmap.specs.IndexMap.{IndexMap, insert_entry}
 use Rattle.indexmap.proofs.CallerLemmas.{insert_entry-new}
 use Rattle.dac_shapes.specs.Limits.{is_among}
 use Rattle.dac_config.specs.declared.config.App.{App}
 use Rattle.dac_config.specs.declared.config.Node.{Node}
-use Rattle.dac_config.specs.declared.config.Config.TheInside.{Inside}
+use Rattle.dac_config.specs.declared.config.Tables.{Tables}
 use Rattle.dac_config.specs.Table.{NodeRow, AppRow, Table, node_name, app_named}
 use Rattle.dac_config.specs.ConfigView.{node_row, named_row, app_row, table_of, HasMembersBelow, groups_in, ArePlaces, IsPlaced}
-use Rattle.dac_config.proofs.Names.{Differ, all_mapped, maps_from_zip}
+use Rattle.dac_config.proofs.Names.{Differ, all_mapped}
 
 prefix_len-map : {A B : Type 0} (f : A → B) (p : B → Bool) (xs : List A) → prefix_len p (map f xs) ≡ prefix_len (λ x. p (f x)) xs
 prefix_len-map f p [] = refl
@@ -35,15 +34,15 @@ all_at P xs i x all e = subst P (get_or_from_slice_get xs i x x e) (all i x (sli
 -- ---- what is kept, in the words of the table
 
 -- the node and the application at a place
-pub node_within : (c : Inside) (table : Table) → table_of c ≡ table → (i : ℕ) → i < length table.nodes → i < length c.nodes.items
+pub node_within : (c : Tables) (table : Table) → table_of c ≡ table → (i : ℕ) → i < length table.nodes → i < length c.nodes.items
 node_within c table is i within = subst (λ n. i < n) (ap (λ (t : Table). length t.nodes) (sym is) ∙ length-map c.nodes.items node_row) within
 
-pub node_kept : (c : Inside) (table : Table) → table_of c ≡ table → (i : ℕ) (node : Node) → node ≡ get_or c.nodes.items i node → i < length table.nodes → slice_get table.nodes i ≡ Some (node_row node)
+pub node_kept : (c : Tables) (table : Table) → table_of c ≡ table → (i : ℕ) (node : Node) → node ≡ get_or c.nodes.items i node → i < length table.nodes → slice_get table.nodes i ≡ Some (node_row node)
 node_kept c table is i node here within =
     subst (λ (t : Table). slice_get t.nodes i ≡ Some (node_row node)) is
     (slice_get-map node_row c.nodes.items i ∙ ap (option_map node_row) (slice_get-get_or c.nodes.items i node (node_within c table is i within)) ∙ ap (λ n. Some (node_row n)) (sym here))
 
-pub entry_kept : (c : Inside) (table : Table) → table_of c ≡ table → (i : ℕ) (got : Option (Bor (Vec ℕ) × Bor App)) (entry : Bor (Vec ℕ) × Bor App) → option_map deref_pair got ≡ slice_get c.apps.entries i → got ≡ Some entry → slice_get table.apps i ≡ Some (app_row (deref_pair entry))
+pub entry_kept : (c : Tables) (table : Table) → table_of c ≡ table → (i : ℕ) (got : Option (Bor (Vec ℕ) × Bor App)) (entry : Bor (Vec ℕ) × Bor App) → option_map deref_pair got ≡ slice_get c.apps.entries i → got ≡ Some entry → slice_get table.apps i ≡ Some (app_row (deref_pair entry))
 entry_kept c table is i got entry same was =
     subst (λ (t : Table). slice_get t.apps i ≡ Some (app_row (deref_pair entry))) is (slice_get-map app_row c.apps.entries i ∙ ap (option_map app_row) (sym same ∙ ap (option_map deref_pair) was))
 
@@ -62,7 +61,7 @@ node_from name table i here within is =
     rw (is, drop_more table.nodes i row within, slice_get-get_or table.nodes i row within) refl
 
 -- the application at a place that was found
-pub app_found : (c : Inside) (table : Table) → table_of c ≡ table → (name : List ℕ) (at : Option ℕ) → at ≡ position (λ key. bytes_eq name key.items) (keys_of c.apps.entries) → app_named table name ≡ option_map (λ place. record { 0 = place }) at
+pub app_found : (c : Tables) (table : Table) → table_of c ≡ table → (name : List ℕ) (at : Option ℕ) → at ≡ position (λ key. bytes_eq name key.items) (keys_of c.apps.entries) → app_named table name ≡ option_map (λ place. record { 0 = place }) at
 app_found c table is name at place =
     ap (λ (t : Table). app_named t name) (sym is)
     ∙ ap (option_map (λ place. record { 0 = place })) (position-map app_row (λ row. bytes_eq name row.name) c.apps.entries ∙ sym (place ∙ position-map (λ entry. entry.0) (λ key. bytes_eq name key.items) c.apps.entries))
@@ -72,50 +71,6 @@ pub kept_members : (count : ℕ) (apps : List AppRow) (i : ℕ) (name : List ℕ
 kept_members count apps i name app members e =
     let Below : List ℕ → Type 0 = All (λ node. node < count) in
     all_mapped Below (λ group. group.items) app.groups.items (all_at (λ (row : AppRow). All Below row.groups) apps i (named_row name app) members e)
-
--- ---- what is seen of a copy is what is seen of the original
-
--- what a copy of bytes, of a node and of an application is
-abbrev IsBytesCopy : Vec ℕ → Vec ℕ → Type 0
-IsBytesCopy x y = AllZip (λ a b. b ≡ a) x.items y.items × (vec_len y ≡ vec_len x)
-
-abbrev IsNodeCopy : Node → Node → Type 0
-IsNodeCopy x y = IsBytesCopy x.name y.name × ((y.mandatory ≡ x.mandatory) × (y.optional ≡ x.optional))
-
-abbrev IsAppCopy : App → App → Type 0
-IsAppCopy x y = (y.timeout ≡ x.timeout) × ((AllZip IsBytesCopy x.groups.items y.groups.items × (vec_len y.groups ≡ vec_len x.groups)) × (IsBytesCopy x.places y.places × (y.permission ≡ x.permission)))
-
-abbrev IsEntryCopy : Vec ℕ × App → Vec ℕ × App → Type 0
-IsEntryCopy x y = IsBytesCopy x.0 y.0 × IsAppCopy x.1 y.1
-
-node_copied : (x y : Node) → IsNodeCopy x y → node_row y ≡ node_row x
-node_copied x y h = λ i. record { name = each_same x.name.items y.name.items h.0.0 i; mandatory = h.1.0 i; optional = h.1.1 i }
-
-groups_copied : (x y : App) → IsAppCopy x y → map (λ group. group.items) y.groups.items ≡ map (λ group. group.items) x.groups.items
-groups_copied x y h = maps_from_zip IsBytesCopy (λ group. group.items) (λ group. group.items) (λ a b r. each_same a.items b.items r.0) x.groups.items y.groups.items h.1.0.0
-
-entry_copied : (x y : Vec ℕ × App) → IsEntryCopy x y → app_row y ≡ app_row x
-entry_copied x y h = λ i. record { name = each_same x.0.items y.0.items h.0.0 i; timeout = h.1.0 i; groups = groups_copied x.1 y.1 h.1 i; permission = h.1.1.1.1 i }
-
--- the places of copies are those of the originals
-abbrev placed_row : Vec ℕ × App → List ℕ × List (List ℕ)
-placed_row entry = (entry.1.places.items, groups_in entry.1)
-
-placed_copied : (x y : Vec ℕ × App) → IsEntryCopy x y → placed_row y ≡ placed_row x
-placed_copied x y h = λ i. (each_same x.1.places.items y.1.places.items h.1.1.1.0.0 i, groups_copied x.1 y.1 h.1 i)
-
-pub places_copied : (xs ys : List (Vec ℕ × App)) → AllZip IsEntryCopy xs ys → All IsPlaced xs → All IsPlaced ys
-places_copied xs ys zip all =
-    let Placed : List ℕ × List (List ℕ) → Type 0 = λ row. ArePlaces row.0 row.1 in
-    all_mapped Placed placed_row ys (subst (All Placed) (sym (maps_from_zip IsEntryCopy placed_row placed_row placed_copied xs ys zip)) (All-map Placed placed_row xs all))
-
--- the tables of copies are equal
-pub table_copied : (c d : Inside) → AllZip IsNodeCopy c.nodes.items d.nodes.items → AllZip IsEntryCopy c.apps.entries d.apps.entries → d.sync_wait ≡ c.sync_wait → table_of d ≡ table_of c
-table_copied c d nodes apps wait = λ i. record {
-  nodes = maps_from_zip IsNodeCopy node_row node_row node_copied c.nodes.items d.nodes.items nodes i;
-  apps = maps_from_zip IsEntryCopy app_row app_row entry_copied c.apps.entries d.apps.entries apps i;
-  sync_wait = wait i;
-}
 
 -- ---- rows are put into a list one after another
 

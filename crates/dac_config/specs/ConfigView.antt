@@ -5,7 +5,7 @@ use Rattle.std.specs.Global.{Vec}
 use Rattle.dac_base.specs.declared.limits.TheConstants.{MAX_NODES}
 use Rattle.dac_config.specs.declared.config.App.{App}
 use Rattle.dac_config.specs.declared.config.Node.{Node}
-use Rattle.dac_config.specs.declared.config.Config.TheInside.{Inside}
+use Rattle.dac_config.specs.declared.config.Tables.{Tables}
 use Rattle.dac_config.specs.declared.config.text.SyncList.{SyncList}
 use Rattle.dac_config.specs.declared.config.text.SyncList.TheVariants.{Mandatory, Optional}
 use Rattle.dac_config.specs.Table.{NodeRow, AppRow, Table, group_among}
@@ -37,7 +37,7 @@ is_in Mandatory node = node.mandatory
 is_in Optional node = node.optional
 
 -- a configuration, as contracts see it
-abbrev pub table_of : Inside → Table
+abbrev pub table_of : Tables → Table
 table_of c = record { nodes = map node_row c.nodes.items; apps = map app_row c.apps.entries; sync_wait = c.sync_wait }
 
 -- what is kept of a node is a place below MAX_NODES, or stands for none
@@ -57,6 +57,6 @@ abbrev pub IsPlaced : Vec ℕ × App → Type 0
 IsPlaced entry = ArePlaces entry.1.places.items (groups_in entry.1)
 
 -- what holds of each configuration, as it is kept
-pub record IsKept (c : Inside) : Type 0 where
+pub record IsKept (c : Tables) : Type 0 where
   pub table : IsTable (table_of c)
   pub places : All IsPlaced c.apps.entries

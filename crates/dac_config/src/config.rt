@@ -12,16 +12,18 @@ use crate::sink::Text;
 use dac_base::{AppId, MAX_APPS, MAX_NODES, NoMemory, NodeId};
 use dac_shapes::MAX_TEXT;
 use indexmap::IndexMap;
+use std::alloc::Global;
 use std::marker::Model;
+use std::sync::Arc;
 
-#[derive(Clone, Drop)]
+#[derive(Drop)]
 struct Node {
     name: Vec<u8>,
     mandatory: bool,
     optional: bool,
 }
 
-#[derive(Clone, Drop)]
+#[derive(Drop)]
 struct App {
     timeout: u32,
     groups: Vec<Vec<u8>>,
@@ -30,24 +32,36 @@ struct App {
     permission: bool,
 }
 
-/// A configuration: what all controllers of a cluster agree on before they start.
-///
-/// A node's number is its place among the names of all nodes in byte order. An application's number is its place in
-/// the file. Both begin with 0.
-pub struct Config {
+/// The tables of a configuration. They never change, so copies of it share them.
+struct Tables {
     nodes: Vec<Node>,
     apps: IndexMap<Vec<u8>, App>,
     sync_wait: SyncWait,
 }
 
 /// Written out: a drop is one call for a proof, wherever it stands.
-impl Drop for Config {
+impl Drop for Tables {
     fn drop(self) {
-        let Config {
+        let Tables {
             nodes: _nodes,
             apps: _apps,
             sync_wait: _sync_wait,
         } = self;
+    }
+}
+
+/// A configuration: what all controllers of a cluster agree on before they start.
+///
+/// A node's number is its place among the names of all nodes in byte order. An application's number is its place in
+/// the file. Both begin with 0. A copy costs as much as a pointer.
+pub struct Config {
+    tables: Arc<Tables, Global>,
+}
+
+/// Written out: a drop is one call for a proof, wherever it stands.
+impl Drop for Config {
+    fn drop(self) {
+        let Config { tables: _tables } = self;
     }
 }
 
@@ -56,26 +70,35 @@ impl Model for Config {
 
     ghost Value = { Table };
 
+    ghost use Rattle.std.specs.Arc.{arc_value};
     ghost use Rattle.dac_config.specs.ConfigView.{table_of, IsKept};
 
-    ghost view = { table_of };
+    ghost view = { λ c. table_of (arc_value c.tables) };
 
-    ghost invariant = { IsKept };
+    ghost invariant = { λ c. IsKept (arc_value c.tables) };
 }
 
 impl Config {
     ghost use Rattle.dac_config.specs.Table.{node_name, app_name, node_named, app_named, group_of, timeout_of, default_permission, is_mandatory, is_optional};
-    ghost use Rattle.dac_config.specs.ConfigView.{node_row, named_row, groups_in, ArePlaces};
+    ghost use Rattle.dac_config.specs.ConfigView.{node_row, named_row, groups_in, table_of, ArePlaces, IsKept};
     ghost use Rattle.dac_config.specs.Canonical.{canonical_text};
     ghost use Rattle.dac_config.specs.Says.{IsConfigOf};
     ghost use Rattle.dac_config.specs.Mark.{fnv1a};
+
+    /// The tables.
+    fn tables(&self) -> &Tables
+        ensures view { table_of result.now ≡ self.now }
+        ensures kept { IsKept result.now }
+    {
+        &self.tables
+    }
 
     /// How many nodes there are.
     pub fn nodes(&self) -> u8
         ensures count { result ≡ node_count self.now }
         ensures few { result ≤ MAX_NODES }
     {
-        self.nodes.len() as u8
+        self.tables().nodes.len() as u8
     }
 
     /// How many applications there are.
@@ -88,7 +111,7 @@ impl Config {
             (λ app. All (λ group. All (λ node. node < node_count self.now) group) app.groups)
             self.now.apps }
     {
-        self.apps.len() as u16
+        self.tables().apps.len() as u16
     }
 
     /// What is kept of a node.
@@ -96,7 +119,7 @@ impl Config {
         requires { node.0 < node_count self.now }
         ensures { slice_get self.now.nodes node.0 ≡ Some (node_row result.now) }
     {
-        &self.nodes[node.0 as usize]
+        &self.tables().nodes[node.0 as usize]
     }
 
     /// The name of a node, without quotes.
@@ -113,7 +136,7 @@ impl Config {
         ensures row { slice_get self.now.apps app.0 ≡ Some (named_row result.0.now result.1.now) }
         ensures places { ArePlaces result.1.now.places.items (groups_in result.1.now) }
     {
-        let (name, row) = self.apps.get_index(app.0 as usize).unwrap();
+        let (name, row) = self.tables().apps.get_index(app.0 as usize).unwrap();
         (name, row)
     }
 
@@ -142,7 +165,7 @@ impl Config {
     pub fn app_named(&self, name: &[u8]) -> Option<AppId>
         ensures { result ≡ app_named self.now name.now }
     {
-        let at = self.apps.get_index_of(name)?;
+        let at = self.tables().apps.get_index_of(name)?;
         Some(AppId(at as u16))
     }
 
@@ -192,7 +215,7 @@ impl Config {
     pub fn sync_wait(&self) -> SyncWait
         ensures { result ≡ self.now.sync_wait }
     {
-        self.sync_wait
+        self.tables().sync_wait
     }
 
     /// Whether the application is permitted at a node where no one has said, after OTP's kernel manual, parameter
@@ -213,7 +236,7 @@ impl Config {
         ensures read_again { IfOk result
             (λ text. length text.items ≤ MAX_TEXT → IsConfigOf text.items self.now) }
     {
-        let mut text = Text::new(*self.nodes.allocator());
+        let mut text = Text::new(*self.tables().nodes.allocator());
         self.put(&mut text);
         text.finish()
     }
@@ -228,16 +251,11 @@ impl Config {
         mark.value
     }
 
-    /// An equal configuration. [`NoMemory`] is the only error.
+    /// An equal configuration, which shares the tables. [`NoMemory`] is the only error.
     pub fn copy(&self) -> Result<Config, NoMemory>
         ensures { IfOk result (λ copy. copy ≡ self.now) }
     {
-        let nodes = self.nodes.clone()?;
-        let apps = self.apps.clone()?;
-        Ok(Config {
-            nodes,
-            apps,
-            sync_wait: self.sync_wait,
-        })
+        let tables = Arc::try_clone(&self.tables)?;
+        Ok(Config { tables })
     }
 }

@@ -1,4 +1,5 @@
 pub mod Causes
+pub mod Rooms
 pub use Rattle.dac_workers.specs.Compared
 pub use Rattle.dac_workers.specs.Journals
 pub use Rattle.dac_workers.specs.Paged

@@ -1,5 +1,9 @@
 //! Who sits where at a site, and with which ends of links.
 
+ghost use Rattle.std.specs.Prelude.{◌≡◌, IfOk, OnOk};
+ghost use Rattle.crossbeam_channel.specs.Ends.{sends_on, ruled_capacity};
+ghost use Rattle.dac_crews.specs.Rooms.{HaveRoom};
+
 use crate::posts::{Post, Shared};
 use crate::tasks::{Caller, Listener, Shipper, Task};
 use dac_base::{NoMemory, NodeId};
@@ -22,8 +26,10 @@ pub(crate) struct LinkEnds {
     ins: Vec<(NodeId, LinkReceiver)>,
 }
 
-/// The links of so many nodes: the ends of each, by name.
-pub(crate) fn all_links(alloc: Global, nodes: u8) -> Result<Vec<LinkEnds>, RunFault> {
+/// The links of so many nodes: the ends of each, by name. Each link has room for 64 letters.
+pub(crate) fn all_links(alloc: Global, nodes: u8) -> Result<Vec<LinkEnds>, RunFault>
+    ensures { IfOk result (λ all. HaveRoom all.items) }
+{
     let mut all = Vec::new(alloc);
     for _node in 0..nodes {
         all.push(LinkEnds {
@@ -43,7 +49,10 @@ fn put_links_of(
     all: &mut Vec<LinkEnds>,
     nodes: u8,
     from: NodeId,
-) -> Result<(), RunFault> {
+) -> Result<(), RunFault>
+    requires { HaveRoom all.old.items }
+    ensures { OnOk result (HaveRoom all.new.items) }
+{
     for to in 0..nodes {
         if from.0 != to {
             put_link(alloc, all, from, NodeId(to))?;
@@ -58,7 +67,10 @@ fn put_link(
     all: &mut Vec<LinkEnds>,
     from: NodeId,
     to: NodeId,
-) -> Result<(), RunFault> {
+) -> Result<(), RunFault>
+    requires { HaveRoom all.old.items }
+    ensures { OnOk result (HaveRoom all.new.items) }
+{
     let Ok((out, into)) = link(alloc, ROOM) else {
         return Err(RunFault::NoMemory);
     };
@@ -72,7 +84,11 @@ fn put_out(
     from: NodeId,
     to: NodeId,
     out: LinkSender,
-) -> Result<(), RunFault> {
+) -> Result<(), RunFault>
+    requires all { HaveRoom all.old.items }
+    requires one { ruled_capacity (sends_on out.end) ≡ 64 }
+    ensures { OnOk result (HaveRoom all.new.items) }
+{
     match all.get_mut(usize::from(from.0)) {
         Some(ends) => {
             ends.outs.push((to, out))?;
@@ -88,7 +104,10 @@ fn put_in(
     from: NodeId,
     to: NodeId,
     into: LinkReceiver,
-) -> Result<(), RunFault> {
+) -> Result<(), RunFault>
+    requires { HaveRoom all.old.items }
+    ensures { OnOk result (HaveRoom all.new.items) }
+{
     match all.get_mut(usize::from(to.0)) {
         Some(ends) => {
             ends.ins.push((from, into))?;
@@ -122,7 +141,7 @@ fn caller_of<'a, L: SiteName>(
             seat,
             reader,
             last: None,
-            fresh: Vec::new(post.alloc),
+            reads: Vec::new(post.alloc),
         }),
         None => Err(RunFault::NoPage { node: post.node }),
     }

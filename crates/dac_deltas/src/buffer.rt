@@ -17,17 +17,15 @@ use std::marker::Model;
 /// How many deltas a buffer keeps at most. The number is this project's own.
 pub const MAX_DELTAS: usize = 1 << MOST_LEVEL;
 
-/// A lazy buffer makes no joins of blocks for an interval of so many deltas, or fewer.
-const FEW_DELTAS: u64 = 2;
-
 /// The newest deltas of a log, at most 256. Deltas are numbered in the order in which they are pushed, from
 /// 0. Contracts see how many there were ever, the least number that is kept, and those kept, the oldest
 /// first.
 ///
 /// Beside its deltas a buffer keeps the joins of their aligned blocks of 2 to 256 deltas. A full one has at most 255 of
 /// these. A push makes those of the blocks that end with it, so that an interval takes at most 16 joins. A lazy buffer's
-/// pushes make none, and [`Buffer::warm`] makes those that it lacks. It is for an owner who asks for few intervals. A
-/// buffer keeps one interval too, until a delta comes: peers that are to get the same one share it.
+/// pushes make none until [`Buffer::warm`] makes those that it lacks. From then on it is a buffer like any other: it is for
+/// an owner who may never ask for an interval. A buffer keeps one interval too, until a delta comes, so that peers that get
+/// the same one share it.
 #[derive(Drop)]
 pub struct Buffer<L: Bottom> {
     alloc: Global,
@@ -36,8 +34,6 @@ pub struct Buffer<L: Bottom> {
     ready: Option<(u64, L)>,
     /// A push makes the joins of its blocks: the buffer isn't lazy.
     makes_joins: bool,
-    /// The joins of the blocks of a lazy buffer that end before this number are made.
-    warm: u64,
 }
 
 impl<L: Bottom> Model for Buffer<L> {
@@ -118,7 +114,6 @@ impl<L: Bottom> Buffer<L> {
             kept: VecDeque::new(alloc),
             ready: None,
             makes_joins,
-            warm: 0,
         }
     }
 
@@ -265,25 +260,24 @@ impl<L: Bottom> Buffer<L> {
         self.ready = Some((a, joined));
     }
 
-    /// Makes the joins of blocks that a lazy buffer lacks, if an interval from number `a` takes more than one join without
-    /// them. Contracts see no change. [`NoMemory`] is the only error, and leaves all as it was.
-    pub fn warm(&mut self, a: u64) -> Result<(), NoMemory>
+    /// Makes the joins of blocks that a lazy buffer lacks, which is lazy no longer: each later push makes its own. An owner
+    /// calls it before the first interval. Contracts see no change. [`NoMemory`] is the only error, and leaves all as it was.
+    pub fn warm(&mut self) -> Result<(), NoMemory>
         ensures { self.new ≡ self.old }
     {
-        if self.makes_joins || self.count.saturating_sub(a) <= FEW_DELTAS {
+        if self.makes_joins {
             return Ok(());
         }
         let base = self.base();
-        let cold = self.warm.saturating_sub(base) as usize;
-        make_all_joins(&mut self.kept, base, cold)?;
-        self.warm = self.count;
+        make_all_joins(&mut self.kept, base, 0)?;
+        self.makes_joins = true;
         Ok(())
     }
 
-    /// The blocks that an interval joins, each as its first number and the one after its last. From `a` to the count each is the longest aligned block that begins where the one before ended. They are
-    /// at most 16, and none where `a` is the count. There is no list where a delta from `a` on is no longer kept. The
-    /// caller owes that `a` is at most the count. [`NoMemory`] is the only error, and comes only where all deltas from
-    /// `a` on are kept.
+    /// The blocks that an interval joins, each as its first number and the one after its last. From `a` to the count each is
+    /// the longest aligned block that begins where the one before ended. They are at most 16, and none where `a` is the
+    /// count. There is no list where a delta from `a` on is no longer kept. The caller owes that `a` is at most the count.
+    /// [`NoMemory`] is the only error, and comes only where all deltas from `a` on are kept.
     pub fn blocks(&self, a: u64) -> Result<Option<Vec<(u64, u64)>>, NoMemory>
         requires { a ≤ self.now.count }
         ensures dropped { a < self.now.base → result ≡ Ok None }
@@ -319,7 +313,6 @@ impl<L: Bottom> Buffer<L> {
             kept,
             ready: copy_ready(&self.ready)?,
             makes_joins: self.makes_joins,
-            warm: self.warm,
         })
     }
 }

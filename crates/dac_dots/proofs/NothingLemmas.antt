@@ -1,23 +1,19 @@
 -- What holds of a context that keeps no rows.
-use Rattle.std.proofs.Common.{◌≡◌, false, ◌||◌, [], Option, None, Some, refl, sym, ap, ◌∙◌}
+use Rattle.std.proofs.Common.{◌≡◌, false, ◌||◌, [], refl, sym, ap, ◌∙◌}
 use Rattle.std.specs.FinSet as set
-use Rattle.std.specs.declared.sync.Arc.{Arc}
 use Rattle.std.proofs.lemmas.Bool.{false≢true}
 use Rattle.dac_origins.specs.Dots.{Dots, dot_cmp, IsSubset}
 use Rattle.dac_origins.specs.laws.Dots.{dots_total, exact_dots}
 use Rattle.dac_origins.specs.declared.dot.Dot.{Dot}
 use Rattle.dac_dots.specs.Rows.{rows_of}
+use Rattle.dac_dots.specs.declared.context.Kept.{Kept}
+use Rattle.dac_dots.specs.declared.context.Kept.TheVariants.{Nothing}
 use Rattle.dac_dots.specs.Sharing.{dots_kept}
 use Rattle.dac_dots.proofs.PlaceLemmas.{none_in}
 use Rattle.dac_dots.proofs.ContextLemmas.{rows_are, or_none}
 
-pub no_dots : {Z : Type 0} (kept : Option (Arc Dots Z)) (dots : Dots) → dots_kept kept ≡ dots → kept ≡ None → dots ≡ set.empty
+pub no_dots : (kept : Kept) (dots : Dots) → dots_kept kept ≡ dots → kept ≡ Nothing → dots ≡ set.empty
 no_dots kept dots is none = sym is ∙ ap dots_kept none
-
--- what isn't something is nothing
-pub none_left : {A : Type 0} (kept : Option A) → ((x : A) → kept ≡ Some x → ⊥) → kept ≡ None
-none_left None rest = refl
-none_left (Some x) rest = absurd (rest x refl)
 
 module _ (dots : Dots) (none : dots ≡ set.empty) where
   pub lacks_each : (q : Dot) → set.contains dots q ≡ false

@@ -9,6 +9,7 @@ ghost use Rattle.dac_dots.specs.DotFilters.{MayHaveAll};
 ghost use Rattle.dac_dots.specs.Rows.{AreRowsOf, CanFollow, rows_of};
 
 use crate::filter::DotFilter;
+use crate::parts::{MOST, Parts};
 use crate::row::Further;
 use crate::rows::OriginRows;
 use dac_base::NoMemory;
@@ -22,11 +23,23 @@ use std::sync::Arc;
 /// Dots may come in any order, so a context need not be a version vector. It may have the fourth dot of an origin and
 /// lack the third.
 ///
-/// Copies share their rows, so a copy costs as much as a pointer. Rows that no other context has change where they
-/// stand. Of rows that others have too, a change makes a copy first.
+/// Copies share their rows, so a copy costs as much as a pointer. Up to 128 rows stand in one list: if no other context has
+/// it, it changes in place, and otherwise a change copies it first. More rows stand in parts that contexts share, and a change
+/// copies one of them.
 pub struct Context {
     alloc: Global,
-    kept: Option<Arc<OriginRows, Global>>,
+    kept: Kept,
+}
+
+/// How a set is kept.
+#[derive(Drop)]
+enum Kept {
+    /// There are no dots.
+    Nothing,
+    /// A single part.
+    One(Arc<OriginRows, Global>),
+    /// Parts of many rows.
+    Many(Arc<Parts, Global>),
 }
 
 /// Written out: a drop is one call for a proof, wherever it stands.
@@ -56,18 +69,24 @@ impl Context {
     pub fn empty(alloc: Global) -> Self
         ensures { result ≡ set.empty }
     {
-        Context { alloc, kept: None }
+        Context {
+            alloc,
+            kept: Kept::Nothing,
+        }
     }
 
     /// The set of the dots of these rows, which copies will share.
     fn of(alloc: Global, rows: OriginRows) -> Result<Self, NoMemory>
         ensures { IfOk result (λ context. context ≡ rows) }
     {
-        let kept = Arc::new(alloc, rows)?;
-        Ok(Context {
-            alloc,
-            kept: Some(kept),
-        })
+        let part = Arc::new(alloc, rows)?;
+        if part.rows() <= MOST {
+            return Ok(Context {
+                alloc,
+                kept: Kept::One(part),
+            });
+        }
+        Context::of_parts(alloc, Parts::of_part(alloc, &part)?)
     }
 
     /// An equal set. It shares memory with this one, which never changes while both are there. [`NoMemory`] is the
@@ -76,8 +95,9 @@ impl Context {
         ensures { IfOk result (λ copied. copied ≡ self.now) }
     {
         let kept = match &self.kept {
-            Some(rows) => Some(Arc::try_clone(rows)?),
-            None => None,
+            Kept::Nothing => Kept::Nothing,
+            Kept::One(rows) => Kept::One(Arc::try_clone(rows)?),
+            Kept::Many(parts) => Kept::Many(Arc::try_clone(parts)?),
         };
         Ok(Context {
             alloc: self.alloc,
@@ -90,8 +110,9 @@ impl Context {
         ensures { result ≡ set.contains self.now dot }
     {
         match &self.kept {
-            Some(rows) => rows.contains(dot),
-            None => false,
+            Kept::One(rows) => rows.contains(dot),
+            Kept::Many(parts) => parts.contains(dot),
+            Kept::Nothing => false,
         }
     }
 
@@ -106,8 +127,9 @@ impl Context {
             return Ok(());
         }
         match &mut self.kept {
-            Some(rows) => Arc::make_mut(rows)?.insert(dot)?,
-            None => self.kept = Some(first_row(self.alloc, dot)?),
+            Kept::Nothing => self.kept = Kept::One(first_row(self.alloc, dot)?),
+            Kept::One(rows) => Arc::make_mut(rows)?.insert(dot)?,
+            Kept::Many(parts) => self.kept = Kept::Many(with_dot(self.alloc, parts, dot)?),
         }
         Ok(())
     }
@@ -116,14 +138,52 @@ impl Context {
     pub fn union(&self, other: &Self) -> Result<Self, NoMemory>
         ensures { IfOk result (λ both. both ≡ set.union self.now other.now) }
     {
-        let Some(mine) = &self.kept else {
-            return other.copy();
-        };
-        let Some(theirs) = &other.kept else {
-            return self.copy();
-        };
-        let both = mine.union(theirs)?;
-        Context::of(self.alloc, both)
+        match &self.kept {
+            Kept::Nothing => other.copy(),
+            Kept::One(mine) => self.union_one(mine, other),
+            Kept::Many(mine) => self.union_many(mine, other),
+        }
+    }
+
+    /// The set of the dots that this set, which are these, or the other has.
+    fn union_one(&self, mine: &OriginRows, other: &Self) -> Result<Self, NoMemory>
+        requires { mine.now ≡ self.now }
+        ensures { IfOk result (λ both. both ≡ set.union self.now other.now) }
+    {
+        match &other.kept {
+            Kept::Nothing => self.copy(),
+            Kept::One(theirs) => Context::of(self.alloc, mine.union(theirs)?),
+            Kept::Many(theirs) => {
+                let both = theirs.copy()?;
+                Context::of_parts(self.alloc, both.and_all(mine)?)
+            }
+        }
+    }
+
+    /// The set of the dots that this set, which are these, or the other has.
+    fn union_many(&self, mine: &Parts, other: &Self) -> Result<Self, NoMemory>
+        requires { mine.now ≡ self.now }
+        ensures { IfOk result (λ both. both ≡ set.union self.now other.now) }
+    {
+        match &other.kept {
+            Kept::Nothing => self.copy(),
+            Kept::One(theirs) => {
+                let both = mine.copy()?;
+                Context::of_parts(self.alloc, both.and_all(theirs)?)
+            }
+            Kept::Many(theirs) => Context::of_parts(self.alloc, mine.union(theirs)?),
+        }
+    }
+
+    /// The set of the dots of these parts, which copies will share.
+    fn of_parts(alloc: Global, parts: Parts) -> Result<Self, NoMemory>
+        ensures { IfOk result (λ context. context ≡ parts) }
+    {
+        let kept = Arc::new(alloc, parts)?;
+        Ok(Context {
+            alloc,
+            kept: Kept::Many(kept),
+        })
     }
 
     /// Whether the other set has each dot of this one.
@@ -131,8 +191,9 @@ impl Context {
         ensures { IsTrue result ↔ IsSubset self.now other.now }
     {
         match &self.kept {
-            Some(rows) => other.has_rows(rows),
-            None => true,
+            Kept::Nothing => true,
+            Kept::One(rows) => other.has_rows(rows),
+            Kept::Many(parts) => other.has_parts(parts),
         }
     }
 
@@ -141,8 +202,20 @@ impl Context {
         ensures { IsTrue result ↔ IsSubset rows.now self.now }
     {
         match &self.kept {
-            Some(own) => rows.is_subset(own),
-            None => rows.is_subset(&OriginRows::empty(self.alloc)),
+            Kept::Nothing => rows.is_subset(&OriginRows::empty(self.alloc)),
+            Kept::One(own) => rows.is_subset(own),
+            Kept::Many(own) => own.has_all(rows),
+        }
+    }
+
+    /// Whether the set has each dot of these parts.
+    fn has_parts(&self, parts: &Parts) -> bool
+        ensures { IsTrue result ↔ IsSubset parts.now self.now }
+    {
+        match &self.kept {
+            Kept::Nothing => parts.is_within(&OriginRows::empty(self.alloc)),
+            Kept::One(own) => parts.is_within(own),
+            Kept::Many(own) => parts.is_subset(own),
         }
     }
 
@@ -152,8 +225,9 @@ impl Context {
         ensures { MatchOption result (IsUsedUp self.now origin) (IsNext self.now origin) }
     {
         match &self.kept {
-            Some(rows) => rows.next(origin),
-            None => OriginRows::empty(self.alloc).next(origin),
+            Kept::One(rows) => rows.next(origin),
+            Kept::Many(parts) => parts.next(origin),
+            Kept::Nothing => OriginRows::empty(self.alloc).next(origin),
         }
     }
 
@@ -162,8 +236,9 @@ impl Context {
         ensures { IsTrue result ↔ IsVector self.now }
     {
         match &self.kept {
-            Some(rows) => rows.is_vector(),
-            None => OriginRows::empty(self.alloc).is_vector(),
+            Kept::One(rows) => rows.is_vector(),
+            Kept::Many(parts) => parts.is_vector(),
+            Kept::Nothing => OriginRows::empty(self.alloc).is_vector(),
         }
     }
 
@@ -172,8 +247,9 @@ impl Context {
         ensures { result ≡ set.len self.now }
     {
         match &self.kept {
-            Some(rows) => rows.len(),
-            None => 0,
+            Kept::One(rows) => rows.len(),
+            Kept::Many(parts) => parts.len(),
+            Kept::Nothing => 0,
         }
     }
 
@@ -182,8 +258,9 @@ impl Context {
         ensures { IsTrue result ↔ (set.len self.now ≤ most) }
     {
         match &self.kept {
-            Some(rows) => rows.has_at_most(most),
-            None => true,
+            Kept::One(rows) => rows.has_at_most(most),
+            Kept::Many(parts) => parts.has_at_most(most),
+            Kept::Nothing => true,
         }
     }
 
@@ -192,8 +269,9 @@ impl Context {
         ensures { MayHaveAll filter.new.slots self.now }
     {
         match &self.kept {
-            Some(rows) => rows.fill(filter),
-            None => {}
+            Kept::Many(_) => *filter = DotFilter::all(),
+            Kept::One(rows) => rows.fill(filter),
+            Kept::Nothing => {}
         }
     }
 
@@ -204,8 +282,9 @@ impl Context {
         ensures same { IfOk result (λ dots. set.from_list dots.items ≡ self.now) }
     {
         match &self.kept {
-            Some(rows) => rows.dots(),
-            None => OriginRows::empty(self.alloc).dots(),
+            Kept::Many(parts) => parts.all()?.dots(),
+            Kept::One(rows) => rows.dots(),
+            Kept::Nothing => OriginRows::empty(self.alloc).dots(),
         }
     }
 
@@ -214,8 +293,9 @@ impl Context {
         ensures { result ≡ length (rows_of self.now) }
     {
         match &self.kept {
-            Some(rows) => rows.rows(),
-            None => OriginRows::empty(self.alloc).rows(),
+            Kept::One(rows) => rows.rows(),
+            Kept::Many(parts) => parts.rows(),
+            Kept::Nothing => OriginRows::empty(self.alloc).rows(),
         }
     }
 
@@ -231,8 +311,9 @@ impl Context {
         ensures rows { AreRowsOf self.now (rows_of self.now) }
     {
         match &self.kept {
-            Some(rows) => rows.row(i),
-            None => None,
+            Kept::One(rows) => rows.row(i),
+            Kept::Many(parts) => parts.row(i),
+            Kept::Nothing => None,
         }
     }
 
@@ -257,11 +338,17 @@ impl Context {
             return Ok(false);
         }
         match &mut self.kept {
-            Some(rows) => Arc::make_mut(rows)?.push_row(origin, upto, further),
-            None => {
+            Kept::One(rows) => Arc::make_mut(rows)?.push_row(origin, upto, further),
+            Kept::Many(parts) => {
+                let mut rows = parts.all()?;
+                let pushed = rows.push_row(origin, upto, further)?;
+                self.kept = Kept::One(Arc::new(self.alloc, rows)?);
+                Ok(pushed)
+            }
+            Kept::Nothing => {
                 let mut rows = OriginRows::empty(self.alloc);
                 let pushed = rows.push_row(origin, upto, further)?;
-                self.kept = Some(Arc::new(self.alloc, rows)?);
+                self.kept = Kept::One(Arc::new(self.alloc, rows)?);
                 Ok(pushed)
             }
         }
@@ -274,8 +361,9 @@ impl Context {
             (record { origin = origin; upto = upto; further = further.now }) }
     {
         match &self.kept {
-            Some(rows) => rows.can_follow(origin, upto, further),
-            None => OriginRows::empty(self.alloc).can_follow(origin, upto, further),
+            Kept::Many(parts) => parts.can_follow(origin, upto, further),
+            Kept::One(rows) => rows.can_follow(origin, upto, further),
+            Kept::Nothing => OriginRows::empty(self.alloc).can_follow(origin, upto, further),
         }
     }
 }
@@ -286,5 +374,14 @@ fn first_row(alloc: Global, dot: Dot) -> Result<Arc<OriginRows, Global>, NoMemor
 {
     let rows = OriginRows::one(alloc, dot)?;
     let shared = Arc::new(alloc, rows)?;
+    Ok(shared)
+}
+
+/// These parts with a dot more.
+fn with_dot(alloc: Global, parts: &Parts, dot: Dot) -> Result<Arc<Parts, Global>, NoMemory>
+    ensures { IfOk result (λ more. arc_value more ≡ set.insert parts.now dot) }
+{
+    let more = parts.with_dot(alloc, dot)?;
+    let shared = Arc::new(alloc, more)?;
     Ok(shared)
 }

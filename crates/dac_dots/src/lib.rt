@@ -20,6 +20,7 @@ mod context;
 mod counters;
 mod filter;
 mod filtered;
+mod parts;
 mod row;
 mod rows;
 mod shared;

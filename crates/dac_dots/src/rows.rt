@@ -1,12 +1,13 @@
 //! The rows of a set of dots, one for each origin.
-ghost use Rattle.std.specs.Prelude.{◌≡◌, ◌↔◌, ◌≤◌, ◌<◌, ◌^◌, ◌∷◌, ◌++◌, ◌||◌, [], length, slice_get, Some, false, true, if◌then◌else◌, IsTrue, IfOk, OnOk, OnErr, MatchOption};
+ghost use Rattle.std.specs.Prelude.{◌≡◌, ◌↔◌, ◌≤◌, ◌<◌, ◌*◌, ◌^◌, ◌∷◌, ◌++◌, ◌||◌, [], length, slice_get, Some, false, true, if◌then◌else◌, IsTrue, IfOk, OnOk, OnErr, MatchOption};
 ghost use Rattle.std.specs.FinSet as set;
 ghost use Rattle.dac_origins.specs.Dots.{Dots, dot_cmp, IsNext, IsSubset, IsUsedUp, IsVector};
 ghost use Rattle.dac_origins.specs.InOrder.{in_order};
 ghost use Rattle.dac_origins.specs.Keys.{IsRising};
 ghost use Rattle.dac_dots.specs.DotFilters.{MayHaveAll};
-ghost use Rattle.dac_dots.specs.Rows.{AreRowsOf, CanFollow, HasSome, EndBefore, IsKept, IsRowIn, row_has, rows_of};
+ghost use Rattle.dac_dots.specs.Rows.{AreKept, AreRowsOf, CanFollow, HasSome, EndBefore, IsKept, IsRowIn, row_has, rows_of};
 ghost use Rattle.dac_origins.specs.declared.dot.Dot.{Dot};
+ghost use Rattle.dac_dots.specs.Parts.{end_before};
 
 use crate::filter::DotFilter;
 use crate::row::{Further, OriginRow, has_no_dots, place_near, place_of, rises_from};
@@ -117,7 +118,7 @@ impl OriginRows {
     }
 
     /// Puts the dots of a row into the set. A row of its own is looked for at this place first.
-    fn unite_row(&mut self, near: usize, row: &OriginRow) -> Result<(), NoMemory>
+    pub(crate) fn unite_row(&mut self, near: usize, row: &OriginRow) -> Result<(), NoMemory>
         requires kept { IsKept row.now }
         requires some { HasSome row.now }
         ensures { OnOk result
@@ -137,6 +138,18 @@ impl OriginRows {
         Ok(())
     }
 
+    /// The set with the dots of a row too, with memory of its own. [`NoMemory`] is the only error.
+    pub(crate) fn with_row(&self, row: &OriginRow) -> Result<Self, NoMemory>
+        requires kept { IsKept row.now }
+        requires some { HasSome row.now }
+        ensures { IfOk result (λ more. (q : Dot)
+            → set.contains more q ≡ (row_has q row.now || set.contains self.now q)) }
+    {
+        let mut more = self.copy()?;
+        more.unite_row(0, row)?;
+        Ok(more)
+    }
+
     /// The set of the dots that this set or the other has. [`NoMemory`] is the only error.
     pub(crate) fn union(&self, other: &Self) -> Result<Self, NoMemory>
         ensures { IfOk result (λ both. both ≡ set.union self.now other.now) }
@@ -151,7 +164,7 @@ impl OriginRows {
     }
 
     /// Whether the set has each dot of a row. A row of its own is looked for at this place first.
-    fn has_row(&self, near: usize, row: &OriginRow) -> bool
+    pub(crate) fn has_row(&self, near: usize, row: &OriginRow) -> bool
         ensures { IsTrue result ↔ IsRowIn row.now self.now }
     {
         match place_near(&self.rows, near, row.origin) {
@@ -208,7 +221,8 @@ impl OriginRows {
 
     /// How many dots the set has.
     pub(crate) fn len(&self) -> u128
-        ensures { result ≡ set.len self.now }
+        ensures value { result ≡ set.len self.now }
+        ensures bound { result ≤ length (rows_of self.now) * 2 ^ 65 }
     {
         let mut len = 0;
         for row in &self.rows {
@@ -290,6 +304,32 @@ impl OriginRows {
         }
     }
 
+    /// Whether the origin is above all that have dots.
+    pub(crate) fn ends_before(&self, origin: Origin) -> bool
+        ensures { result ≡ end_before origin (rows_of self.now) }
+    {
+        self.is_below(origin)
+    }
+
+    /// The rows, in the order of their origins.
+    pub(crate) fn list(&self) -> &[OriginRow]
+        ensures { result.now ≡ rows_of self.now }
+    {
+        self.rows.as_slice()
+    }
+
+    /// The first half of the rows, and the others. [`NoMemory`] is the only error.
+    pub(crate) fn halves(&self) -> Result<(Self, Self), NoMemory>
+        requires { 1 < length (rows_of self.now) }
+        ensures all { IfOk result (λ both. rows_of both.0 ++ rows_of both.1 ≡ rows_of self.now) }
+        ensures first { IfOk result (λ both. 0 < length (rows_of both.0)) }
+        ensures second { IfOk result (λ both. 0 < length (rows_of both.1)) }
+    {
+        let alloc = *self.rows.allocator();
+        let (first, second) = self.rows.as_slice().split_at(self.rows.len() / 2);
+        Ok((copy_rows(alloc, first)?, copy_rows(alloc, second)?))
+    }
+
     /// Whether these dots of an origin can be appended.
     pub(crate) fn can_follow(&self, origin: Origin, upto: u64, further: &[u64]) -> bool
         ensures { IsTrue result
@@ -335,4 +375,16 @@ impl OriginRows {
         self.rows.push(row)?;
         Ok(true)
     }
+}
+
+/// A set of these rows, with memory of its own. [`NoMemory`] is the only error.
+fn copy_rows(alloc: Global, rows: &[OriginRow]) -> Result<OriginRows, NoMemory>
+    requires { AreKept rows.now }
+    ensures { IfOk result (λ copied. rows_of copied ≡ rows.now) }
+{
+    let mut copied = Vec::with_capacity(alloc, rows.len())?;
+    for row in rows {
+        copied.push(row.copy(alloc)?)?;
+    }
+    Ok(OriginRows { rows: copied })
 }

@@ -70,15 +70,15 @@ impl Running {
         })
     }
 
-    /// Makes what the interval to a node needs, where it has a position to begin. Where memory is refused for that, the
-    /// interval takes longer.
+    /// Makes the buffer's joins if the next message to a node is an interval. If memory is refused for them, the interval
+    /// takes longer.
     pub(crate) fn warm(&mut self, to: NodeId)
         ensures { self.new ≡ self.old }
     {
         let known = &self.knowledge;
         let base = self.buffer.base();
-        if let Some(position) = known.peers.begins(&known.state, base, to) {
-            let _made = self.buffer.warm(position.number);
+        if known.peers.begins(&known.state, base, to).is_some() {
+            let _made = self.buffer.warm();
         }
     }
 

@@ -164,7 +164,12 @@ impl<S: DotStore> Causal<S> {
         other.store.is_unheard(&filtered)
     }
 
-    /// The store of the join.
+    /// Whether the other side has heard of many more origins: then its store is the longer one by far, as after a reboot.
+    fn is_far_behind(&self, other: &Self) -> bool {
+        self.context().rows() < other.context().rows() / 2
+    }
+
+    /// The store of the join. It shares most with the store that joins in the other one, so that is the longer one.
     fn join_stores(&self, other: &Self) -> Result<S, NoMemory>
         ensures { IfOk result (λ joined. joined
             ≡ S.join self.now.store self.now.context other.now.store other.now.context) }
@@ -176,6 +181,11 @@ impl<S: DotStore> Causal<S> {
         }
         if self.leaves(other) {
             return other.store.copy();
+        }
+        if self.is_far_behind(other) {
+            return other
+                .store
+                .join_in(other.context(), &self.store, self.context());
         }
         self.store
             .join_in(self.context(), &other.store, other.context())

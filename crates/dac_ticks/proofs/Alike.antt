@@ -22,7 +22,11 @@ use Rattle.dac_placement.specs.declared.standing.Standing.TheVariants.{Unclaimed
 use Rattle.dac_placement.specs.Placement.{key_at, key_of, is_drained_at, is_started_at, is_up, holder_of, standing_of}
 use Rattle.dac_board.specs.declared.spot.Spot.{Spot}
 use Rattle.dac_board.specs.Boards.{spot_of, spots_of, group_held, row_of, rows_of}
-use Rattle.dac_ticks.specs.KeptBoards.{AreAlike, GoesFor}
+use Rattle.dac_ticks.specs.KeptBoards.{AreAlike, AreAlikeFor, GoesFor}
+
+-- its groups are of nodes that there are
+abbrev pub HasMembers : Table → Type 0
+HasMembers t = All (λ app. All (λ group. All (λ node. node < node_count t) group) app.groups) t.apps
 
 -- ---- one list
 
@@ -31,12 +35,38 @@ group_by_list : (t : Table) (app : AppId) (node : NodeId) (o : Option AppRow) �
 group_by_list t app node None e = refl
 group_by_list t app node (Some row) e = refl
 
--- where two configurations have one list for an application, each node has the same group in both
-one_group : (t u : Table) (app : AppId) (node : NodeId) → HaveOneList t u app → group_of t app node ≡ group_of u app node
+-- if two configurations have one list for an application, each node has the same group in both
+pub one_group : (t u : Table) (app : AppId) (node : NodeId) → HaveOneList t u app → group_of t app node ≡ group_of u app node
 one_group t u app node one =
     group_by_list t app node (slice_get t.apps app.0) refl
     ∙ ap (λ groups. group_among groups node.0) one.groups
     ∙ sym (group_by_list u app node (slice_get u.apps app.0) refl)
+
+-- ---- no node is past the last one
+
+at_place : {X : Type 0} (P : X → Type 0) (xs : List X) (i : ℕ) (x : X) → All P xs → slice_get xs i ≡ Some x → P x
+at_place P xs i x all e = subst P (get_or_from_slice_get xs i x x e) (All-get_or P xs i x (slice_get_within xs i x e) all)
+
+lacks : (count node : ℕ) (group : List ℕ) → All (λ number. number < count) group → count ≤ node → list_any (λ other. eqb other node) group ≡ false
+lacks count node group below past = list_any_none (λ other. eqb other node) group (λ k d within. false_from_ne_true (eqb (get_or group k d) node) (λ e.
+    let low = below k d within in
+    let same = eqb-true (get_or group k d) node e in
+    omega (arith, low, same, past)))
+
+none_from : (count node at : ℕ) (groups : List (List ℕ)) → All (All (λ number. number < count)) groups → count ≤ node → position_from (λ group. list_any (λ other. eqb other node) group) at groups ≡ None
+none_from count node at [] below past = refl
+none_from count node at (group ∷ groups) below past =
+    rw (lacks count node group (All-head (All (λ number. number < count)) group groups below) past) (none_from count node (at + 1) groups (All-tail (All (λ number. number < count)) group groups below) past)
+
+none_outside : (count node : ℕ) (groups : List (List ℕ)) → All (All (λ number. number < count)) groups → count ≤ node → group_among groups node ≡ None
+none_outside count node groups below past = position_from-zero (λ group. list_any (λ other. eqb other node) group) groups ∙ none_from count node 0 groups below past
+
+past_last_by : (t : Table) (app : AppId) (node : NodeId) → HasMembers t → node_count t ≤ node.0 → (o : Option AppRow) → slice_get t.apps app.0 ≡ o → option_and_then (λ (row : AppRow). group_among row.groups node.0) o ≡ None
+past_last_by t app node members past None e = refl
+past_last_by t app node members past (Some row) e = none_outside (node_count t) node.0 row.groups (at_place (λ row. All (λ group. All (λ n. n < node_count t) group) row.groups) t.apps app.0 row members e) past
+
+past_last : (t : Table) (app : AppId) (node : NodeId) → HasMembers t → node_count t ≤ node.0 → group_of t app node ≡ None
+past_last t app node members past = past_last_by t app node members past (slice_get t.apps app.0) refl
 
 -- ---- lists of places
 
@@ -68,13 +98,18 @@ one_below P n before here k lt = elim (nat_lt k n) as (λ b. nat_lt k n ≡ b �
 
 -- ---- rows
 
-module _ (t u : Table) (alike : AreAlike t u) (s : StateValue) where
+module _ (t u : Table) (alike : AreAlike t u) (here : HasMembers t) (there : HasMembers u) (s : StateValue) where
   module _ (app : AppId) (listed : app.0 < app_count t) where
-    one : HaveOneList t u app
+    one : AreAlikeFor t u app
     one = alike.each app listed
 
     same_group : (node : NodeId) → group_of t app node ≡ group_of u app node
-    same_group node = one_group t u app node one
+    same_group node = elim (nat_lt node.0 (node_count t)) as (λ b. nat_lt node.0 (node_count t) ≡ b → group_of t app node ≡ group_of u app node) [
+      | true ↦ λ e. one.groups node (ltb-true node.0 (node_count t) e)
+      | false ↦ λ e.
+          let past = ltb-false node.0 (node_count t) e in
+          past_last t app node here past ∙ sym (past_last u app node there (omega (arith, past, alike.nodes)))
+    ] refl
 
     -- the node with its group, where the application is permitted so if no one has said
     abbrev spot_with : NodeId → Option ℕ → Bool → Option Spot
@@ -121,5 +156,5 @@ module _ (t u : Table) (alike : AreAlike t u) (s : StateValue) where
       ∙ ap (λ n. list_map (row_of u s) (list_map numbered_app (range_with_len 0 n))) alike.apps
 
 -- what a board shows under one of two that are alike it shows under the other
-pub goes_for : (t u : Table) → AreAlike t u → GoesFor t u
-goes_for t u alike = λ board s shows. shows ∙ same_rows t u alike s
+pub goes_for : (t u : Table) → HasMembers t → HasMembers u → AreAlike t u → GoesFor t u
+goes_for t u here there alike = λ board s shows. shows ∙ same_rows t u alike here there s

@@ -1,11 +1,12 @@
 //! A board that is kept from tick to tick.
-ghost use Rattle.std.specs.Prelude.{◌≡◌, ◌↔◌, IsTrue, IsSome, IfOk, IfSome, true};
+ghost use Rattle.std.specs.Prelude.{◌≡◌, ◌<◌, ◌↔◌, IsTrue, IsSome, IfOk, IfSome, true};
 ghost use Rattle.std.specs.Option.{option_copied};
+ghost use Rattle.dac_config.specs.Table.{app_count};
 ghost use Rattle.dac_meaning.specs.StateValue.{StateValue as Value};
 ghost use Rattle.dac_board.specs.Boards.{Shows};
-ghost use Rattle.dac_ticks.specs.KeptBoards.{IsBoardOf, AreAlike, GoesFor};
+ghost use Rattle.dac_ticks.specs.KeptBoards.{IsBoardOf, AreAlike, AreAlikeFor, GoesFor};
 
-use dac_base::{AppId, NoMemory};
+use dac_base::{AppId, NoMemory, NodeId};
 use dac_board::Board;
 use dac_config::Config;
 use dac_placement::State;
@@ -80,7 +81,7 @@ impl KeptBoard {
 }
 
 /// Whether boards are the same under two configurations: they have as many nodes and as many applications, and for
-/// each application one list and one default permission.
+/// each application the same groups and the same permission by default.
 fn are_alike(one: &Config, other: &Config) -> bool
     ensures alike { IsTrue result ↔ AreAlike one.now other.now }
     ensures goes { IsTrue result → GoesFor one.now other.now }
@@ -92,7 +93,29 @@ fn are_alike(one: &Config, other: &Config) -> bool
         return false;
     }
     for number in 0..one.apps() {
-        if !one.lists_alike(other, AppId(number)) {
+        if !are_alike_for(one, other, AppId(number)) {
+            return false;
+        }
+    }
+    true
+}
+
+/// Whether two configurations say the same of an application: the group of each node, and its permission by default.
+fn are_alike_for(one: &Config, other: &Config, app: AppId) -> bool
+    requires one { app.0 < app_count one.now }
+    requires other { app.0 < app_count other.now }
+    ensures { IsTrue result ↔ AreAlikeFor one.now other.now app }
+{
+    // The configuration of a running cluster stays, so that one walk over its list mostly tells.
+    if one.lists_alike(other, app) {
+        return true;
+    }
+    if one.default_permission(app) != other.default_permission(app) {
+        return false;
+    }
+    for number in 0..one.nodes() {
+        let node = NodeId(number);
+        if one.group_of(app, node) != other.group_of(app, node) {
             return false;
         }
     }

@@ -188,19 +188,6 @@ fn remembered_interval_is_copied(rt: HostRuntime) {
     assert!(rt; beside_remembered(rt.alloc(), 2) == Ok((Some(6), Some(7))));
 }
 
-/// By how many joins the interval from a delta on is made of so many tokens in a lazy buffer, where joins of blocks are made for
-/// that from another delta on. Then the same once one delta more came.
-fn warmed(
-    alloc: Global,
-    count: u64,
-    to_warm: u64,
-    from: u64,
-) -> Result<(Option<u64>, Option<u64>), NoMemory> {
-    let mut buffer = with_tokens(Buffer::lazy(alloc), count)?;
-    buffer.warm(to_warm)?;
-    joins_and_next(buffer, from)
-}
-
 /// How many tokens, and from which delta on the interval is asked for. Then by how many joins it is made, before and after one
 /// delta more: it joins just its blocks, since pushes made the joins of these.
 const PUSHED: &[(u64, u64, u64, u64)] = &[(9, 0, 1, 1), (300, 45, 7, 8)];
@@ -219,45 +206,58 @@ fn pushes_make_the_joins_of_blocks(rt: HostRuntime) {
     }
 }
 
-/// How many tokens, for the interval from which delta on a lazy buffer makes its joins of blocks, and from which one it is asked
-/// for. Then by how many joins that one is made, before and after one delta more. For two deltas no joins of blocks are made.
-const WARMED: &[(u64, u64, u64, u64, u64)] = &[
-    (9, 7, 0, 8, 9),
-    (9, 6, 0, 1, 2),
-    (9, 0, 3, 2, 3),
-    (300, 298, 45, 254, 255),
-    (300, 0, 45, 7, 8),
-];
+/// How many tokens, and from which delta on a lazy buffer is asked for the interval. Then by how many joins it is made, before and
+/// after one delta more: it joins the deltas one by one.
+const LAZY: &[(u64, u64, u64, u64)] = &[(9, 0, 8, 9), (300, 45, 254, 255)];
 
 #[test]
-fn blocks_are_joined_once_for_all_intervals(rt: HostRuntime) {
-    for (count, to_warm, from, before, after) in WARMED {
-        let answer = warmed(rt.alloc(), *count, *to_warm, *from);
+fn lazy_buffers_make_no_joins_of_blocks(rt: HostRuntime) {
+    for (count, from, before, after) in LAZY {
+        let answer = match with_tokens(Buffer::lazy(rt.alloc()), *count) {
+            Ok(buffer) => joins_and_next(buffer, *from),
+            Err(refused) => Err(refused),
+        };
         assert!(rt;
             answer == Ok((Some(*before), Some(*after))),
-            "{count}, {to_warm}, {from}"
+            "{count}, {from}"
         );
     }
 }
 
-/// The greatest of nine numbers and two more from a delta on, where the joins of the nine's blocks are made and then the oldest
-/// numbers trimmed. Then the same once the joins of all blocks are made.
-fn greatest_warmed(
-    alloc: Global,
-    to: u64,
-    from: u64,
-) -> Result<(Option<u64>, Option<u64>), NoMemory> {
+/// By how many joins the interval from a delta on is made of so many tokens in a lazy buffer that was warmed, before and after
+/// one delta more.
+fn warmed(alloc: Global, count: u64, from: u64) -> Result<(Option<u64>, Option<u64>), NoMemory> {
+    let mut buffer = with_tokens(Buffer::lazy(alloc), count)?;
+    buffer.warm()?;
+    joins_and_next(buffer, from)
+}
+
+#[test]
+fn pushes_make_joins_once_a_lazy_buffer_is_warm(rt: HostRuntime) {
+    for (count, from, before, after) in PUSHED {
+        let answer = warmed(rt.alloc(), *count, *from);
+        assert!(rt;
+            answer == Ok((Some(*before), Some(*after))),
+            "{count}, {from}"
+        );
+    }
+}
+
+/// The greatest of nine numbers and two more from a delta on, after the oldest numbers were trimmed. A lazy buffer is warmed
+/// after the nine, or only once all numbers are there and the oldest are gone.
+fn greatest_warmed(alloc: Global, to: u64, from: u64, late: bool) -> Result<Option<u64>, NoMemory> {
     let mut buffer = Buffer::lazy(alloc);
     for number in [5u64, 9, 2, 7, 1, 8, 3, 6, 4] {
         push(&mut buffer, number)?;
     }
-    buffer.warm(0)?;
+    if !late {
+        buffer.warm()?;
+    }
     push(&mut buffer, 2)?;
     push(&mut buffer, 5)?;
     buffer.trim(to);
-    let before = greatest(&buffer, from)?;
-    buffer.warm(to)?;
-    Ok((before, greatest(&buffer, from)?))
+    buffer.warm()?;
+    greatest(&buffer, from)
 }
 
 /// Below which number deltas are trimmed, and from which the greatest is wanted.
@@ -273,11 +273,10 @@ const GREATEST: &[(u64, u64, Option<u64>)] = &[
 #[test]
 fn joins_of_blocks_stay_as_deltas_come_and_go(rt: HostRuntime) {
     for (to, from, wanted) in GREATEST {
-        let answer = greatest_warmed(rt.alloc(), *to, *from);
-        assert!(rt;
-            answer == Ok((*wanted, *wanted)),
-            "trimmed to {to}, from {from}"
-        );
+        for late in [false, true] {
+            let answer = greatest_warmed(rt.alloc(), *to, *from, late);
+            assert!(rt; answer == Ok(*wanted), "trimmed to {to}, from {from}");
+        }
     }
 }
 

@@ -338,7 +338,7 @@ fn deltas_for(alloc: Global, asked: OfBuffer) -> Option<Buffer<Delta>> {
     let count: u64 = if asked == OfBuffer::Push { 32 } else { 31 };
     let mut buffer = deltas(alloc, count)?;
     if asked != OfBuffer::Warm {
-        buffer.warm(0).ok()?;
+        buffer.warm().ok()?;
     }
     Some(buffer)
 }
@@ -388,7 +388,7 @@ impl Bench for BufferBench {
             OfBuffer::Push => of_any(push(self.alloc, &mut self.buffer, 99)),
             OfBuffer::PushAll => self.push_three(),
             OfBuffer::Interval | OfBuffer::Blocks => self.join_from_third(),
-            OfBuffer::Warm => of_any(self.buffer.warm(3)),
+            OfBuffer::Warm => of_any(self.buffer.warm()),
             OfBuffer::Copy => of_any(self.buffer.copy()),
             OfBuffer::Raise => of_any(self.acks.raise(origin(OTHER), 4)),
             OfBuffer::CopyAcks => of_any(self.acks.copy()),

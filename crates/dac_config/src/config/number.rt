@@ -6,14 +6,15 @@ ghost use Rattle.dac_shapes.specs.Limits.{is_among};
 ghost use Rattle.dac_shapes.specs.Grammar.{IsTextOf};
 ghost use Rattle.dac_shapes.specs.Within.{IsWithinLimits};
 ghost use Rattle.dac_config.specs.Numbering.{in_byte_order, numbers_from, numbered_node, permitted, numbered_app, numbered};
-ghost use Rattle.dac_config.specs.ConfigView.{node_row, app_row, place_by, ArePlaces, IsPlaced};
+ghost use Rattle.dac_config.specs.ConfigView.{node_row, app_row, place_by, table_of, ArePlaces, IsKept, IsPlaced};
 ghost use Rattle.dac_config.specs.Table.{group_among};
 
-use super::{App, Config, Node};
+use super::{App, Config, Node, Tables};
 use dac_base::{MAX_NODES, NoMemory};
 use dac_shapes::{Draft, DraftApp, Permission, is_among};
 use indexmap::IndexMap;
 use std::alloc::Global;
+use std::sync::Arc;
 
 /// Puts the names in byte order, each once.
 fn in_byte_order(names: &mut Vec<&[u8]>)
@@ -161,12 +162,13 @@ fn add_app(
     Ok(())
 }
 
-impl Config {
+impl Tables {
     /// What a text says, with numbers in place of names. It puts the nodes of the draft in order where they lie.
-    pub(crate) fn of_draft(alloc: Global, draft: &mut Draft<'_>) -> Result<Config, NoMemory>
+    fn of_draft(alloc: Global, draft: &mut Draft<'_>) -> Result<Self, NoMemory>
         requires limits { IsWithinLimits (draft_of draft.old) }
         requires said { (text : List ℕ) × IsTextOf text (draft_of draft.old) }
-        ensures { IfOk result (λ config. config ≡ numbered (draft_of draft.old)) }
+        ensures value { IfOk result (λ tables. table_of tables ≡ numbered (draft_of draft.old)) }
+        ensures kept { IfOk result IsKept }
     {
         in_byte_order(&mut draft.nodes);
         let nodes = nodes_of(alloc, draft)?;
@@ -174,10 +176,23 @@ impl Config {
         for app in &draft.apps {
             add_app(alloc, draft, &nodes, app, &mut apps)?;
         }
-        Ok(Config {
+        Ok(Tables {
             nodes,
             apps,
             sync_wait: draft.sync_wait,
         })
+    }
+}
+
+impl Config {
+    /// What a text says, with numbers in place of names. It puts the nodes of the draft in order where they lie.
+    pub(crate) fn of_draft(alloc: Global, draft: &mut Draft<'_>) -> Result<Config, NoMemory>
+        requires limits { IsWithinLimits (draft_of draft.old) }
+        requires said { (text : List ℕ) × IsTextOf text (draft_of draft.old) }
+        ensures { IfOk result (λ config. config ≡ numbered (draft_of draft.old)) }
+    {
+        let tables = Tables::of_draft(alloc, draft)?;
+        let tables = Arc::new(alloc, tables)?;
+        Ok(Config { tables })
     }
 }

@@ -164,7 +164,7 @@ both_ways false true f g = g refl
 both_ways false false f g = refl
 
 module _ (dots : Dots) where
-  origin_has : (rows : List Row) → AllByRecursion (IsRowOf dots) rows → (q : Origin) → has_key origin_cmp (origins rows) q ≡ true → (n : ℕ) × (set.contains dots (dot q n) ≡ true)
+  pub origin_has : (rows : List Row) → AllByRecursion (IsRowOf dots) rows → (q : Origin) → has_key origin_cmp (origins rows) q ≡ true → (n : ℕ) × (set.contains dots (dot q n) ≡ true)
   origin_has [] each q e = absurd (false≢true e)
   origin_has (row ∷ rows) each q e = elim (or_cases (eq_by_cmp origin_cmp q row.origin) (has_key origin_cmp (origins rows) q) e) [
     | inl here ↦

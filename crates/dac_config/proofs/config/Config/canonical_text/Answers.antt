@@ -11,5 +11,5 @@ returns-clause-bytes c = finished c.finish.result c.put.new.sink (canonical_text
 
 pub returns-clause-read_again : goal.returns-clause-read_again
 returns-clause-read_again c =
-    let said = subst IsSaid c.self.view_is c.self.invariant.table.said in
+    let said = subst IsSaid c.tables.ensures.view c.tables.ensures.kept.table.said in
     IfOk-weaker c.finish.result (λ text. text.items ≡ canonical_text c.args.self.now) _ (λ text bytes. subst (λ (text : List ℕ). length text ≤ 65536 → IsConfigOf text c.args.self.now) (sym bytes) (canonical_says c.args.self.now said)) (returns-clause-bytes c)

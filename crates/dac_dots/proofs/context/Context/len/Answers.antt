@@ -2,5 +2,5 @@ use Rattle.std.proofs.Common.{sym}
 use Rattle.dac_dots.proofs.NothingLemmas.{no_dots, counts_none}
 use Rattle.dac_dots.proofs.context.Context.len.Goals as goal
 
-pub returns-in-None : goal.returns-in-None
-returns-in-None c = sym (counts_none c.args.self.now (no_dots c.self.inside.kept c.args.self.now c.self.view_is c.in-None.is))
+pub returns-in-Nothing : goal.returns-in-Nothing
+returns-in-Nothing c = sym (counts_none c.args.self.now (no_dots c.self.inside.kept c.args.self.now c.self.view_is c.in-Nothing.is))

@@ -3,7 +3,7 @@ use Rattle.dac_shapes.specs.Views.{apps_of, permissions_of}
 use Rattle.dac_config.specs.Numbering.{numbered_app}
 use Rattle.dac_config.specs.ConfigView.{node_row, app_row, IsPlaced}
 use Rattle.dac_config.proofs.Names.{Differ}
-use Rattle.dac_config.proofs.config.Config.of_draft.Given as goal
+use Rattle.dac_config.proofs.config.Tables.of_draft.Given as goal
 
 abbrev pub invariant-loop-app : goal.invariant-loop-app
 invariant-loop-app l =

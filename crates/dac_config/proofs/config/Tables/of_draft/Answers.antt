@@ -9,7 +9,7 @@ use Rattle.dac_config.specs.Numbering.{numbered_node, numbered_app}
 use Rattle.dac_config.proofs.Names.{Differ, first_new, all_mapped}
 use Rattle.dac_config.proofs.Numbers.{few_numbered, small_numbered, table_numbered}
 use Rattle.dac_config.proofs.Tables.{left_from, row_pushed, still_new, all_pushed}
-use Rattle.dac_config.proofs.config.Config.of_draft.Goals as goal
+use Rattle.dac_config.proofs.config.Tables.of_draft.Goals as goal
 
 pub loop-app-init : goal.loop-app-init
 loop-app-init c = rw c.new-apps.ensures.empty (record { rows = refl; once = rw c.deref-app-items.ensures.value c.requires.limits.apps.different; placed = All-nil IsPlaced })
@@ -38,14 +38,14 @@ loop-app-preserved c =
       placed = c.in_ok-add_app.ensures.places c.loop-app.invariant.placed;
     }
 
-pub returns : goal.returns
-returns c =
+pub returns-clause-value : goal.returns-clause-value
+returns-clause-value c =
     let w = draft_of c.args.draft.now in let rows = c.in_ok-nodes.ensures ∙ ap (map (numbered_node w)) c.in_byte_order.ensures in let row = numbered_app w.permissions (map node_row c.in_ok-nodes.nodes.items) in
     let apps = all_pushed _ _ _ (at_drop_all (λ apps. map row (apps_of apps)) c.deref-app-items.result.now c.loop-app.app-index c.loop-app-test.false) c.loop-app.invariant.rows ∙ ap (λ apps. map row (apps_of apps)) c.deref-app-items.ensures.value in
     table_numbered w (record { nodes = c.in_ok-nodes.nodes; apps = c.loop-app.apps; sync_wait = c.args.draft.now.sync_wait }) rows apps refl
 
-pub invariant_of-result : goal.invariant_of-result
-invariant_of-result c = record {
-  table = subst IsTable (sym (returns c)) (small_numbered (draft_of c.args.draft.now) c.requires.limits c.requires.said);
+pub returns-clause-kept : goal.returns-clause-kept
+returns-clause-kept c = record {
+  table = subst IsTable (sym (returns-clause-value c)) (small_numbered (draft_of c.args.draft.now) c.requires.limits c.requires.said);
   places = c.loop-app.invariant.placed;
 }

@@ -1,0 +1,407 @@
+//! The rows of a set of dots of many origins, in parts that sets share.
+ghost use Rattle.std.specs.Prelude.{◌≡◌, ◌↔◌, ◌≤◌, ◌<◌, ◌^◌, ◌||◌, ◌++◌, Some, slice_get, IsTrue, IfOk, IfSome, OnOk, OnErr, MatchOption, length};
+ghost use Rattle.std.specs.FinSet as set;
+ghost use Rattle.std.specs.Arc.{arc_value};
+ghost use Rattle.dac_origins.specs.Dots.{Dots, dot_cmp, IsNext, IsSubset, IsUsedUp, IsVector};
+ghost use Rattle.dac_origins.specs.declared.dot.Dot.{Dot};
+ghost use Rattle.dac_dots.specs.Rows.{CanFollow, EndBefore, HasSome, IsKept, IsRowIn, dots_in, row_has, rows_of};
+ghost use Rattle.dac_dots.specs.Parts.{AreParts, HaveRows, IsPartFor, IsPlaceIn, all_rows};
+
+use crate::row::{Further, OriginRow, has_no_dots, rises_from};
+use crate::rows::OriginRows;
+use dac_base::NoMemory;
+use dac_origins::{Dot, Origin};
+use std::alloc::Global;
+use std::marker::Model;
+use std::sync::Arc;
+
+/// How many rows a part has at most, where a row is put in. Of more, two parts are made.
+pub(crate) const MOST: usize = 128;
+
+/// Parts have fewer rows than this, so that each has a place.
+const MOST_ROWS: usize = 1 << 63;
+
+/// The rows of a set of dots, in parts that sets share. Each part has rows, whose origins are above those of the parts
+/// before it. Contracts see the parts as the set.
+pub(crate) struct Parts {
+    parts: Vec<Arc<OriginRows, Global>>,
+    // How many rows there are.
+    count: usize,
+}
+
+/// Written out: a drop is one call for a proof, wherever it stands.
+impl Drop for Parts {
+    fn drop(self) {
+        let Parts {
+            parts: _parts,
+            count: _count,
+        } = self;
+    }
+}
+
+impl Model for Parts {
+    ghost use Rattle.std.specs.FinSet as set;
+    ghost use Rattle.dac_origins.specs.Dots.{dot_cmp, coded_dot};
+    ghost use Rattle.dac_dots.specs.Rows.{dots_in};
+    ghost use Rattle.dac_dots.specs.Parts.{AreCounted, all_rows};
+
+    ghost Value = { set.FinSet dot_cmp };
+
+    ghost coded = { set.code coded_dot };
+
+    ghost view = { λ a. dots_in (all_rows a.parts.items) };
+
+    ghost invariant = { λ a. AreCounted a.parts.items a.count };
+}
+
+/// Where the part is among whose rows that of an origin is, or would be.
+fn part_for(parts: &[Arc<OriginRows, Global>], origin: Origin) -> usize
+    requires { AreParts parts.now }
+    ensures { IsPartFor parts.now origin result }
+{
+    parts.partition_point(|part| part.ends_before(origin))
+}
+
+impl Parts {
+    /// Whether the set has this dot.
+    pub(crate) fn contains(&self, dot: Dot) -> bool
+        ensures { result ≡ set.contains self.now dot }
+    {
+        match self.parts.get(part_for(&self.parts, dot.origin)) {
+            Some(part) => part.contains(dot),
+            None => false,
+        }
+    }
+
+    /// The dot for the next operation of an origin: one above its greatest counter here, and 1 where there
+    /// is none. `None` where a counter has reached 2^62, the greatest that is issued.
+    pub(crate) fn next(&self, origin: Origin) -> Option<Dot>
+        ensures { MatchOption result (IsUsedUp self.now origin) (IsNext self.now origin) }
+    {
+        match self.parts.get(part_for(&self.parts, origin)) {
+            Some(part) => part.next(origin),
+            None => OriginRows::empty(*self.parts.allocator()).next(origin),
+        }
+    }
+
+    /// Whether the set has each dot of a row.
+    fn has_row(&self, row: &OriginRow) -> bool
+        ensures { IsTrue result ↔ IsRowIn row.now self.now }
+    {
+        match self.parts.get(part_for(&self.parts, row.origin)) {
+            Some(part) => part.has_row(0, row),
+            None => row.is_empty(),
+        }
+    }
+
+    /// Whether the set has each dot of these rows.
+    pub(crate) fn has_all(&self, rows: &OriginRows) -> bool
+        ensures { IsTrue result ↔ IsSubset rows.now self.now }
+    {
+        for row in rows.list() {
+            if !self.has_row(row) {
+                return false;
+            }
+        }
+        true
+    }
+
+    /// Whether these rows have each dot of the set.
+    pub(crate) fn is_within(&self, rows: &OriginRows) -> bool
+        ensures { IsTrue result ↔ IsSubset self.now rows.now }
+    {
+        for part in &self.parts {
+            if !part.is_subset(rows) {
+                return false;
+            }
+        }
+        true
+    }
+
+    /// Whether the other set has each dot of this one.
+    pub(crate) fn is_subset(&self, other: &Self) -> bool
+        ensures { IsTrue result ↔ IsSubset self.now other.now }
+    {
+        for part in &self.parts {
+            if !other.has_all(part) {
+                return false;
+            }
+        }
+        true
+    }
+
+    /// Whether the set is a version vector: the counters of each origin are 1 to some number, with no gap.
+    pub(crate) fn is_vector(&self) -> bool
+        ensures { IsTrue result ↔ IsVector self.now }
+    {
+        for part in &self.parts {
+            if !part.is_vector() {
+                return false;
+            }
+        }
+        true
+    }
+
+    /// How many dots the set has.
+    pub(crate) fn len(&self) -> u128
+        ensures { result ≡ set.len self.now }
+    {
+        let mut len = 0;
+        for part in &self.parts {
+            len += part.len();
+        }
+        len
+    }
+
+    /// Whether the set has at most so many dots. It looks at no more origins than that.
+    pub(crate) fn has_at_most(&self, most: usize) -> bool
+        ensures { IsTrue result ↔ (set.len self.now ≤ most) }
+    {
+        let mut len = 0;
+        for part in &self.parts {
+            if !part.has_at_most(most) {
+                return false;
+            }
+            len += part.len();
+            if len > most as u128 {
+                return false;
+            }
+        }
+        true
+    }
+
+    /// How many origins have dots.
+    pub(crate) fn rows(&self) -> usize
+        ensures { result ≡ length (rows_of self.now) }
+    {
+        self.count
+    }
+
+    /// The row of the `i`-th origin that has dots, by the order of origins. It is the origin, how far its counters go
+    /// 1, 2, 3, .. without a gap, and the further ones. It takes no memory.
+    pub(crate) fn row(&self, i: usize) -> Option<(Origin, u64, Further<'_>)>
+        ensures value { MatchOption result (length (rows_of self.now) ≤ i)
+            (λ row. slice_get (rows_of self.now) i
+            ≡ Some (record { origin = row.0; upto = row.1; further = row.2 })) }
+        // There are fewer than there are numbers of places.
+        ensures few { length (rows_of self.now) < 2 ^ 63 }
+    {
+        let mut left = i;
+        for part in &self.parts {
+            let rows = part.rows();
+            if left < rows {
+                return part.row(left);
+            }
+            left -= rows;
+        }
+        None
+    }
+
+    /// Whether the origin is above all that have dots.
+    pub(crate) fn is_below(&self, origin: Origin) -> bool
+        ensures { IsTrue result ↔ EndBefore (rows_of self.now) origin }
+    {
+        part_for(&self.parts, origin) == self.parts.len()
+    }
+
+    /// No dots. It takes no memory.
+    pub(crate) fn empty(alloc: Global) -> Self
+        ensures { result ≡ set.empty }
+    {
+        Parts {
+            parts: Vec::new(alloc),
+            count: 0,
+        }
+    }
+
+    /// The set of the dots of these parts. [`NoMemory`] is the only error.
+    fn of(parts: Vec<Arc<OriginRows, Global>>) -> Result<Self, NoMemory>
+        requires { AreParts parts.items }
+        ensures { IfOk result (λ made. made ≡ dots_in (all_rows parts.items)) }
+    {
+        let Some(count) = count_rows(&parts) else {
+            return Err(NoMemory);
+        };
+        Ok(Parts { parts, count })
+    }
+
+    /// An equal set, which shares the parts. [`NoMemory`] is the only error.
+    pub(crate) fn copy(&self) -> Result<Self, NoMemory>
+        ensures { IfOk result (λ copied. copied ≡ self.now) }
+    {
+        let mut parts = Vec::with_capacity(*self.parts.allocator(), self.parts.len())?;
+        share(&mut parts, &self.parts)?;
+        Parts::of(parts)
+    }
+
+    /// The set with the dots of a row too. [`NoMemory`] is the only error.
+    pub(crate) fn with_row(&self, row: &OriginRow) -> Result<Self, NoMemory>
+        requires kept { IsKept row.now }
+        requires some { HasSome row.now }
+        ensures { IfOk result (λ more. (q : Dot)
+            → set.contains more q ≡ (row_has q row.now || set.contains self.now q)) }
+    {
+        let alloc = *self.parts.allocator();
+        let place = place_in(&self.parts, row.origin);
+        let (before, rest) = self.parts.as_slice().split_at(place);
+        let Some((part, after)) = rest.split_first() else {
+            return Parts::single(alloc, row);
+        };
+        let changed = part.with_row(row)?;
+        let mut parts = Vec::with_capacity(alloc, self.parts.len())?;
+        share(&mut parts, before)?;
+        put(alloc, &mut parts, changed)?;
+        share(&mut parts, after)?;
+        Parts::of(parts)
+    }
+
+    /// The set of the dots of a row. [`NoMemory`] is the only error.
+    fn single(alloc: Global, row: &OriginRow) -> Result<Self, NoMemory>
+        requires kept { IsKept row.now }
+        requires some { HasSome row.now }
+        ensures { IfOk result (λ made. (q : Dot) → set.contains made q ≡ row_has q row.now) }
+    {
+        let rows = OriginRows::empty(alloc).with_row(row)?;
+        let mut parts = Vec::new(alloc);
+        parts.push(Arc::new(alloc, rows)?)?;
+        Parts::of(parts)
+    }
+
+    /// The set of the dots of a part, which shares it. [`NoMemory`] is the only error.
+    pub(crate) fn of_part(alloc: Global, part: &Arc<OriginRows, Global>) -> Result<Self, NoMemory>
+        requires { 0 < length (rows_of (arc_value part.now)) }
+        ensures { IfOk result (λ made. made ≡ arc_value part.now) }
+    {
+        let mut parts = Vec::new(alloc);
+        parts.push(Arc::try_clone(part)?)?;
+        Parts::of(parts)
+    }
+
+    /// The set with the dots of a row too. Where it has them it stays as it is. [`NoMemory`] is the only error.
+    fn and_row(self, row: &OriginRow) -> Result<Self, NoMemory>
+        requires kept { IsKept row.now }
+        requires some { HasSome row.now }
+        ensures { IfOk result (λ more. (q : Dot)
+            → set.contains more q ≡ (row_has q row.now || set.contains self q)) }
+    {
+        if self.has_row(row) {
+            return Ok(self);
+        }
+        self.with_row(row)
+    }
+
+    /// The set with the dots of these rows too. [`NoMemory`] is the only error.
+    pub(crate) fn and_all(self, rows: &OriginRows) -> Result<Self, NoMemory>
+        ensures { IfOk result (λ both. both ≡ set.union self rows.now) }
+    {
+        let mut both = self;
+        for row in rows.list() {
+            both = both.and_row(row)?;
+        }
+        Ok(both)
+    }
+
+    /// The set of the dots that this set or the other has. [`NoMemory`] is the only error.
+    pub(crate) fn union(&self, other: &Self) -> Result<Self, NoMemory>
+        ensures { IfOk result (λ both. both ≡ set.union self.now other.now) }
+    {
+        let mut both = self.copy()?;
+        for part in &other.parts {
+            both = both.and_all(part)?;
+        }
+        Ok(both)
+    }
+
+    /// The set with a dot more. [`NoMemory`] is the only error.
+    pub(crate) fn with_dot(&self, alloc: Global, dot: Dot) -> Result<Self, NoMemory>
+        ensures { IfOk result (λ more. more ≡ set.insert self.now dot) }
+    {
+        let row = OriginRow::one(alloc, dot);
+        self.with_row(&row)
+    }
+
+    /// All rows in one, with memory of their own. [`NoMemory`] is the only error.
+    pub(crate) fn all(&self) -> Result<OriginRows, NoMemory>
+        ensures { IfOk result (λ rows. rows ≡ self.now) }
+    {
+        let mut all = OriginRows::empty(*self.parts.allocator());
+        for part in &self.parts {
+            all = all.union(part)?;
+        }
+        Ok(all)
+    }
+
+    /// Whether these dots of an origin can be appended.
+    pub(crate) fn can_follow(&self, origin: Origin, upto: u64, further: &[u64]) -> bool
+        ensures { IsTrue result
+            ↔ CanFollow (rows_of self.now)
+            (record { origin = origin; upto = upto; further = further.now }) }
+    {
+        if has_no_dots(upto, further) {
+            return false;
+        }
+        if !self.is_below(origin) {
+            return false;
+        }
+        rises_from(upto, further)
+    }
+}
+
+/// Where the part is into which a row of an origin comes. It is the last one where all end before the origin.
+fn place_in(parts: &[Arc<OriginRows, Global>], origin: Origin) -> usize
+    requires { AreParts parts.now }
+    ensures { IsPlaceIn parts.now origin result }
+{
+    let place = part_for(parts, origin);
+    if place < parts.len() {
+        place
+    } else {
+        place.saturating_sub(1)
+    }
+}
+
+/// How many rows the parts have, if it is a number of places.
+fn count_rows(parts: &[Arc<OriginRows, Global>]) -> Option<usize>
+    ensures { IfSome result (λ count. (count ≡ length (all_rows parts.now)) × (count < 2 ^ 63)) }
+{
+    let mut count: usize = 0;
+    for part in parts {
+        let more = count.checked_add(part.rows())?;
+        count = more;
+    }
+    if count < MOST_ROWS { Some(count) } else { None }
+}
+
+/// Puts parts behind others, which share them. [`NoMemory`] is the only error.
+fn share(
+    parts: &mut Vec<Arc<OriginRows, Global>>,
+    more: &[Arc<OriginRows, Global>],
+) -> Result<(), NoMemory>
+    ensures rows { OnOk result (all_rows parts.new.items ≡ all_rows parts.old.items ++ all_rows more.now) }
+    ensures filled { OnOk result (HaveRows parts.old.items → HaveRows more.now → HaveRows parts.new.items) }
+{
+    for part in more {
+        parts.push(Arc::try_clone(part)?)?;
+    }
+    Ok(())
+}
+
+/// Puts rows behind others, as one part or as two. [`NoMemory`] is the only error.
+fn put(
+    alloc: Global,
+    parts: &mut Vec<Arc<OriginRows, Global>>,
+    rows: OriginRows,
+) -> Result<(), NoMemory>
+    requires { 0 < length (rows_of rows) }
+    ensures rows { OnOk result (all_rows parts.new.items ≡ all_rows parts.old.items ++ rows_of rows) }
+    ensures filled { OnOk result (HaveRows parts.old.items → HaveRows parts.new.items) }
+{
+    if rows.rows() <= MOST {
+        parts.push(Arc::new(alloc, rows)?)?;
+        return Ok(());
+    }
+    let (first, second) = rows.halves()?;
+    parts.push(Arc::new(alloc, first)?)?;
+    parts.push(Arc::new(alloc, second)?)?;
+    Ok(())
+}
