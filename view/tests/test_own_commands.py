@@ -3,22 +3,29 @@
 from __future__ import annotations
 
 import ast
+import os
 import runpy
 import shutil
 import subprocess
 import sys
+import tempfile
 import unittest
+from pathlib import Path
 
 from support import TOP
+import folders
 
 MOST_SECONDS = 60
 
 
-def say(*words: str) -> "tuple[int, str, str]":
-    """The status of a command at the top, and what it prints. One that would work for long is a failure."""
-    line = [str(TOP / words[0]), *words[1:]]
-    pipe, null = subprocess.PIPE, subprocess.DEVNULL
-    done = subprocess.run(line, stdin=null, stdout=pipe, stderr=pipe, text=True, timeout=MOST_SECONDS, check=False)
+def say(*words: str, folder: Path = TOP, **variables: str) -> "tuple[int, str, str]":
+    """The status of a command in a folder, and what it prints. One that would work for long is a failure."""
+    python = [sys.executable] if words[0].endswith(".py") else []
+    line = [*python, str(folder / words[0]), *words[1:]]
+    pipe, null, surroundings = subprocess.PIPE, subprocess.DEVNULL, {**os.environ, **variables}
+    done = subprocess.run(
+        line, cwd=TOP.parent, env=surroundings, stdin=null, stdout=pipe, stderr=pipe, text=True, timeout=MOST_SECONDS, check=False
+    )
     return done.returncode, done.stdout, done.stderr
 
 
@@ -32,7 +39,12 @@ REFUSED = (
     (("examples/check", "--wrong"), "may follow"),
     (("examples/check", "--proved", "x"), "may follow"),
     (("mutants", "nosuch"), "no crate is called nosuch"),
+    (("mutants", "--libraries", "/no/such/folder"), "no folder is called /no/such/folder"),
+    (("mutants", "--portion", "-1"), "'-1' isn't a number of 0 or more"),
     (("nightly", "--only", "nosuch"), "no part is called nosuch"),
+    (("nightly", "--only", "fuzz", "--commands", "nosuch"), "no command is called nosuch"),
+    (("models/compare.py", "x", "--jobs", "0"), "'0' isn't a number of 1 or more"),
+    (("models/compare.py", "x", "--count", "-1"), "'-1' isn't a number of 0 or more"),
     (("fuzz", "nosuch"), "no command is called nosuch"),
     (("fuzz", "--jobs", "0"), "'0' isn't a number of 1 or more"),
     (("fuzz", "--minutes", "-1"), "'-1' isn't a number of 0 or more"),
@@ -101,6 +113,29 @@ class OwnCommands(unittest.TestCase):
             if command in COMMENTED:
                 first_line = (TOP / command).read_text().partition('"""')[2].partition("\n")[0]
                 self.assertIn(first_line, output, command)
+
+    def test_links_and_folders_that_cd_looks_in(self) -> None:
+        cdpath = f".:{TOP.parent}:/"
+        with tempfile.TemporaryDirectory() as room:
+            for command in HELPED:
+                expected = say(command, "--help")
+                link = Path(room, Path(command).name)
+                link.symlink_to(TOP / command)
+                self.assertEqual(say(link.name, "--help", folder=Path(room)), expected, command)
+                self.assertEqual(say(command, "--help", folder=Path(TOP.name), CDPATH=cdpath), expected, command)
+
+    def test_jobs_of_mutants(self) -> None:
+        for jobs in ("0", "x", ""):
+            self.assertEqual(say("mutants", JOBS=jobs), (1, "", f"mutants: JOBS: {jobs!r} isn't a number of 1 or more\n"))
+
+    def test_a_folder_that_cant_be_written(self) -> None:
+        with tempfile.TemporaryDirectory() as room:
+            self.assertEqual(list(folders.own(Path(room, "out", "kept")).iterdir()), [])
+            Path(room, "file").write_text("")
+            for path in (Path(room, "file"), Path(room, "file", "kept")):
+                with self.assertRaises(SystemExit) as caught:
+                    folders.own(path)
+                self.assertIn(f"{path} can't be written (", str(caught.exception.code))
 
     def test_beginnings_of_names(self) -> None:
         unknown = runpy.run_path(str(TOP / "growths"), run_name="growths")["unknown"]
