@@ -6,9 +6,11 @@ import ast
 import os
 import runpy
 import shutil
+import signal
 import subprocess
 import sys
 import tempfile
+import time
 import unittest
 from pathlib import Path
 
@@ -51,6 +53,16 @@ REFUSED = (
     (("races", "--jobs", "0"), "'0' isn't a number of 1 or more"),
     (("growths", "--states", "-1"), "'-1' isn't a number of 0 or more"),
 )
+# A test that keeps a folder while it runs.
+WAITING = """
+import tempfile, time, unittest
+
+class Waiting(unittest.TestCase):
+    def test_waiting(self):
+        room = tempfile.TemporaryDirectory()
+        self.addCleanup(room.cleanup)
+        time.sleep(60)
+"""
 # Those whose first comment is their help.
 COMMENTED = ("growths", "mutants", "races", "fuzz", "stacks", "nightly")
 HELPED = ("tests", "examples/check", "check-documents", *COMMENTED)
@@ -123,6 +135,25 @@ class OwnCommands(unittest.TestCase):
                 link.symlink_to(TOP / command)
                 self.assertEqual(say(link.name, "--help", folder=Path(room)), expected, command)
                 self.assertEqual(say(command, "--help", folder=Path(TOP.name), CDPATH=cdpath), expected, command)
+
+    def test_a_signal_to_the_tests_removes_what_they_keep(self) -> None:
+        for number in (signal.SIGTERM, signal.SIGHUP, signal.SIGINT):
+            with tempfile.TemporaryDirectory() as room:
+                shutil.copy(TOP / "view" / "tests" / "run.py", room)
+                shutil.copy(TOP / "models" / "processes.py", room)
+                Path(room, "support.py").write_text("PROGRAM = 'nothing'\n")
+                Path(room, "test_waiting.py").write_text(WAITING)
+                kept = Path(room, "kept")
+                kept.mkdir()
+                surroundings = {**os.environ, "TMPDIR": str(kept)}
+                with subprocess.Popen([sys.executable, f"{room}/run.py"], env=surroundings, stdout=subprocess.PIPE, stderr=subprocess.PIPE) as run:
+                    until = time.monotonic() + MOST_SECONDS
+                    while not list(kept.iterdir()) and time.monotonic() < until:
+                        time.sleep(0.05)
+                    run.send_signal(number)
+                    run.communicate(timeout=MOST_SECONDS)
+                self.assertNotEqual(run.returncode, 0)
+                self.assertEqual(list(kept.iterdir()), [], number)
 
     def test_jobs_of_mutants(self) -> None:
         for jobs in ("0", "x", ""):
