@@ -38,6 +38,7 @@ import random_racing
 import random_scripts
 import random_texts
 import simulator
+from arguments import at_least
 
 Answer = Tuple[bytes, int]
 Model = Callable[[bytes], Answer]
@@ -180,16 +181,16 @@ def arguments() -> argparse.Namespace:
     """The words of the command line."""
     parser = argparse.ArgumentParser(description="Compares the program with the models on random inputs.")
     parser.add_argument("--seed", type=int, default=1)
-    parser.add_argument("--count", type=int, default=20_000, help="how many texts for `check`")
-    parser.add_argument("--scripts", type=int, default=2_000, help="how many scripts for `sim`")
-    parser.add_argument("--live", type=int, default=500, help="how many scripts for `live`")
-    parser.add_argument("--racing", type=int, default=300, help="how many scripts for `live` whose answers hang on the threads")
-    parser.add_argument("--recorded", type=int, default=200, help="how many scripts of either kind for `record`")
-    parser.add_argument("--packets", type=int, default=20_000, help="how many packets for `feed`, at least")
-    parser.add_argument("--still", type=int, default=20, help="how many scripts for `sim` of ticks at which nothing changes")
-    parser.add_argument("--reboots", type=int, default=3, help="how many scripts for `sim` of hundreds or thousands of reboots")
-    parser.add_argument("--keys", type=int, default=20, help="how many scripts for `sim` of 1 to 1,088 keys")
-    parser.add_argument("--jobs", type=int, default=2)
+    parser.add_argument("--count", type=at_least(0), default=20_000, help="how many texts for `check`")
+    parser.add_argument("--scripts", type=at_least(0), default=2_000, help="how many scripts for `sim`")
+    parser.add_argument("--live", type=at_least(0), default=500, help="how many scripts for `live`")
+    parser.add_argument("--racing", type=at_least(0), default=300, help="how many scripts for `live` whose answers hang on the threads")
+    parser.add_argument("--recorded", type=at_least(0), default=200, help="how many scripts of either kind for `record`")
+    parser.add_argument("--packets", type=at_least(0), default=20_000, help="how many packets for `feed`, at least")
+    parser.add_argument("--still", type=at_least(0), default=20, help="how many scripts for `sim` of ticks at which nothing changes")
+    parser.add_argument("--reboots", type=at_least(0), default=3, help="how many scripts for `sim` of hundreds or thousands of reboots")
+    parser.add_argument("--keys", type=at_least(0), default=20, help="how many scripts for `sim` of 1 to 1,088 keys")
+    parser.add_argument("--jobs", type=at_least(1), default=2)
     parser.add_argument("program", type=shlex.split, help="the program, or a command of several words")
     return parser.parse_args()
 

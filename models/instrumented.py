@@ -11,6 +11,7 @@ import tempfile
 from collections.abc import Iterator
 from pathlib import Path
 
+import folders
 import processes
 
 TOP = Path(__file__).resolve().parent.parent
@@ -44,8 +45,7 @@ def made(path: Path, than: float, words: list[str], source: bytes = b"") -> Path
     if path.exists() and path.stat().st_mtime >= than:
         return path
     print(f"compiling {path.name}", file=sys.stderr, flush=True)
-    KEPT.mkdir(parents=True, exist_ok=True)
-    with tempfile.TemporaryDirectory(dir=KEPT) as room:
+    with tempfile.TemporaryDirectory(dir=folders.own(KEPT)) as room:
         ran = processes.run([*words, str(path), room], source=source, is_joined=True)
     if ran.status:
         sys.exit(f"{path.name} wasn't compiled: {ran.output.decode(errors='replace')}")

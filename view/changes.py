@@ -110,11 +110,12 @@ def changes_between(distac: Distac, question: Question, old: Checked, new: Check
 
 def fitting(question: Question, old: Configuration, new: Configuration) -> Question:
     """The question for the new configuration: of nodes and places only those that it has."""
-    names = ("down", "not_started", "back")
-    kept = {name: [word for word in getattr(question, name) if node_meant(word, new.nodes)] for name in names}
-    if question.down and not kept["down"]:
+    named = (question.down, question.not_started, question.back)
+    down, not_started, back = ([word for word in words if node_meant(word, new.nodes)] for words in named)
+    if question.down and not down:
         raise Problem("the new configuration has none of the nodes of --down")
-    return replace(question, **kept, placed=placed_in_both(placed_by(question.now, old), old, new) if question.now else None)
+    placed = placed_in_both(placed_by(question.now, old), old, new) if question.now else None
+    return replace(question, down=down, not_started=not_started, back=back, placed=placed)
 
 
 def placed_in_both(placed: Placed, old: Configuration, new: Configuration) -> Placed:

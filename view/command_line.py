@@ -4,7 +4,7 @@ from __future__ import annotations
 
 import argparse
 import sys
-from typing import IO, Callable
+from typing import TYPE_CHECKING, Callable
 
 from view.asked import asked_by
 from view.check import check
@@ -27,6 +27,9 @@ from view.verbs import Role, fits
 from view.version import VERSION, version_line
 from view.web_page import page_text
 from view.wide_states import too_wide
+
+if TYPE_CHECKING:
+    from _typeshed import SupportsWrite
 
 MOST_DRAWN = 1_000
 
@@ -110,7 +113,7 @@ def program_words(parser: argparse.ArgumentParser, default: str | None) -> None:
 class Parser(argparse.ArgumentParser):
     """A parser that tells where its help can't be written."""
 
-    def _print_message(self, message: str, file: IO[str] | None = None) -> None:
+    def _print_message(self, message: str, file: SupportsWrite[str] | None = None) -> None:
         """Prints help, a version or a usage. What goes to standard output has to arrive."""
         if file is sys.stdout:
             file.write(message)

@@ -90,7 +90,7 @@ def remark_on(fault: Fault, text: bytes) -> Remark:
     """What is to be said of a fault of a configuration."""
     before = [token for token in tokens_of(text[: fault.place])]
     scene = Scene(text, fault.place, before)
-    sentence = SENTENCES.get(fault.name, lambda _: "see docs/FORMATS.md")(scene)
+    sentence = SENTENCES[fault.name](scene) if fault.name in SENTENCES else "see docs/FORMATS.md"
     return Remark(place_of(text, shown_offset(scene)), fault.name, sentence)
 
 

@@ -13,6 +13,7 @@ from typing import Callable, Union
 from view.erlang_terms import Term, term_of
 from view.erlang_tokens import Misread
 from view.problems import Problem
+from view.texts import shown
 
 Read = Union[Term, Misread]
 Reader = Callable[["list[str]"], "list[Read]"]
@@ -111,7 +112,8 @@ def run_escript(words: list[str], folder: str) -> str:
     except OSError as error:
         raise Problem(f"{escript} can't be run: {error.strerror or error}") from error
     if done.returncode:
-        raise Problem(f"escript ended with status {done.returncode}: try --reader own")
+        last = shown((done.stderr.decode("utf-8", "replace").splitlines() or [""])[-1])
+        raise Problem(f"escript ended with status {done.returncode}{f' ({last})' if last else ''}: try --reader own")
     return done.stdout.decode("utf-8", "replace")
 
 

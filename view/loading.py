@@ -7,7 +7,7 @@ from dataclasses import dataclass
 from view.answers import Answered, answered
 from view.config_faults import remark_on
 from view.configuration import Configuration, configuration_of
-from view.distac import MOST_INPUT, Answer, Distac
+from view.distac import MOST_CONFIG, MOST_INPUT, Answer, Distac
 from view.faults import Part, fault_of
 from view.places import Remark
 from view.problems import Problem
@@ -58,8 +58,8 @@ def plain_of(script: Script, lines: list[Line]) -> bytes:
 
 
 def load_config(distac: Distac, path: str) -> Checked:
-    """A configuration by its file."""
-    return check_config(distac, path, read_bytes(path, MOST_INPUT))
+    """A configuration by its file. Of one that is too long one byte more than it may have is read, and that is the fault."""
+    return check_config(distac, path, read_bytes(path, MOST_CONFIG))
 
 
 def check_config(distac: Distac, path: str, text: bytes) -> Checked:

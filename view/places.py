@@ -4,7 +4,7 @@ from __future__ import annotations
 
 from dataclasses import dataclass
 
-from view.texts import columns_of, text_of
+from view.texts import CONTROLS, columns_of, text_of
 
 MOST_BEFORE = 100
 MOST_BEHIND = 60
@@ -93,13 +93,13 @@ def last_offset(source: bytes, end: int) -> int:
 
 
 def one_sign_each(text: str) -> str:
-    """A text as an editor counts it: a tab is kept, and each other control character and each odd byte is one sign."""
+    """A text as an editor counts it: a tab is kept, and each other character of `CONTROLS` and each odd byte is one sign."""
     return "".join(sign_of(character) for character in text)
 
 
 def sign_of(character: str) -> str:
     """What is shown of a character."""
-    is_odd = character != "\t" and (ord(character) < 0x20 or 0x7F <= ord(character) < 0xA0 or 0xD800 <= ord(character) < 0xE000)
+    is_odd = character != "\t" and (CONTROLS.match(character) or 0xD800 <= ord(character) < 0xE000)
     return "\N{REPLACEMENT CHARACTER}" if is_odd else character
 
 

@@ -5,7 +5,8 @@ from __future__ import annotations
 import re
 import unicodedata
 
-CONTROLS = re.compile("[\x00-\x1f\x7f-\x9f]")
+# What moves a cursor, ends a line, or turns the direction of what follows.
+CONTROLS = re.compile("[\x00-\x1f\x7f-\x9f\u2028-\u202e\u2066-\u2069]")
 
 
 def text_of(data: bytes) -> str:
@@ -19,7 +20,7 @@ def bytes_of(text: str) -> bytes:
 
 
 def shown(text: str) -> str:
-    """A text that moves no cursor: each control character and each byte that is no UTF-8 is one sign."""
+    """A text that moves no cursor and turns no direction: each such character, and each byte that is no UTF-8, is one sign."""
     whole = text.encode("utf-8", "surrogateescape").decode("utf-8", "replace")
     return CONTROLS.sub("\N{REPLACEMENT CHARACTER}", whole.replace("\t", " "))
 

@@ -1,9 +1,11 @@
 #!/usr/bin/env python3
 """Runs all tests of `distac-view`. The last line is `N passed, M failed`.
 
-They ask the program that the environment variable DISTAC names, or the models where it names none.
+They ask the program that the environment variable DISTAC names, or the models where it names none. SIGTERM and SIGHUP end them as
+Ctrl-C does, so that their temporary folders are removed.
 """
 
+import signal
 import sys
 import unittest
 from pathlib import Path
@@ -13,10 +15,12 @@ HERE = Path(__file__).resolve().parent
 sys.path.insert(0, str(HERE))
 
 from support import PROGRAM
+import processes
 
 
 def main() -> int:
     """Runs the tests, and counts them."""
+    processes.handle_signals(signal.default_int_handler)
     print(f"distac-view is tested with {PROGRAM}")
     sys.stdout.flush()
     tests = unittest.defaultTestLoader.discover(str(HERE), pattern="test_*.py")

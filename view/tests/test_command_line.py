@@ -38,8 +38,8 @@ class Statuses(unittest.TestCase):
     def test_fine(self) -> None:
         for words in COMMANDS:
             self.expect(0, run_view(*words))
-        for words in (("--help",), ("--version",), *((command[0], "--help") for command in COMMANDS)):
-            said = view(*words)
+        for helped in (("--help",), ("--version",), *((command[0], "--help") for command in COMMANDS)):
+            said = view(*helped)
             self.expect(0, said)
             self.assertTrue(said.output)
 

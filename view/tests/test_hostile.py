@@ -13,7 +13,7 @@ from random_texts import random_text
 CONFIG = (EXAMPLES / "manual.config").read_bytes()
 SCRIPT = (EXAMPLES / "failover.distac").read_bytes()
 HEAD = b"[{kernel,[{distributed,[{a,[x,y]}]}]}].\n--\n"
-BIG = 2_097_152
+MOST_CONFIG, BIG = 65_536, 2_097_152
 
 SOURCES = (
     *(b"", b"\n", b"--", b"--\n", b"\n--\n", b"%", b".", b"[].", b"\xff", b"\0", b"'", b'"', b"\\", b"\xef\xbb\xbf" + CONFIG),
@@ -84,6 +84,14 @@ class Hostile(unittest.TestCase):
             Path(self.path).write_bytes(HEAD + b"%" + b"a" * (size - len(HEAD) - 1))
             for words in (("play", self.path), ("timeline", self.path, "-o", "-")):
                 self.assertEqual(view(*words).status, status)
+
+    def test_a_long_configuration(self) -> None:
+        for size in (MOST_CONFIG + 1, BIG, BIG + 1):
+            Path(self.path).write_bytes(HEAD + b"%" + b"a" * (size - len(HEAD) - 1))
+            for command in ("check", "what-if", "load", "rolling"):
+                said = view(command, self.path)
+                self.assertEqual(said.status, 2)
+                self.assertIn("a configuration has at most 65,536 bytes", said.output + said.errors)
 
     def test_many_lines(self) -> None:
         count = 300 if IS_STAND_IN else 20_000

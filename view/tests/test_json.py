@@ -106,9 +106,10 @@ class Others(Answers):
         for words in questions:
             fault = self.answer(2, *words)["fault"]
             self.assertEqual((fault["file"], fault["line"], fault["kind"]), (bad, 1, "fault"), words)
-        for words in (("what-if", MANUAL, "--down", "cp9@cave"), ("load", "/no/such/file"), ("load", MANUAL, "--fail-on", "x"), ("gather",)):
-            fault = self.answer(2, *words)["fault"]
-            self.assertEqual((fault["id"], fault["file"]), (None, None), words)
+        others = (("what-if", MANUAL, "--down", "cp9@cave"), ("load", "/no/such/file"), ("load", MANUAL, "--fail-on", "x"), ("gather",))
+        for other in others:
+            fault = self.answer(2, *other)["fault"]
+            self.assertEqual((fault["id"], fault["file"]), (None, None), other)
 
 
 class Validator(unittest.TestCase):

@@ -15,7 +15,6 @@ from support import TOP
 
 PARTS = ("examples", "races", "compare", "growths", "stacks", "mutants")
 SCRIPTS = (*(f"checks/{name}" for name in ("races", "growths", "stacks", "mutants", "fuzz")), "examples/check")
-MODELS = ("processes.py", "arguments.py", "instrumented.py")
 # A crate that no program uses, and those that the programs are made of.
 CRATES = "# all\nlow: core\nother: core\ndistac: low\ngrowths: low\n"
 # A launcher that has a program once it was asked to compile one.
@@ -34,9 +33,9 @@ class Nightly(unittest.TestCase):
         room = tempfile.TemporaryDirectory()
         self.addCleanup(room.cleanup)
         self.top = Path(room.name).resolve() / "top"
-        for name in ("checks/nightly", *(f"models/{name}" for name in MODELS)):
-            (self.top / name).parent.mkdir(parents=True, exist_ok=True)
-            shutil.copy(TOP / name, self.top / name)
+        for path in (TOP / "checks" / "nightly", *(TOP / "models").glob("*.py")):
+            (self.top / path.relative_to(TOP)).parent.mkdir(parents=True, exist_ok=True)
+            shutil.copy(path, self.top / path.relative_to(TOP))
         for name in SCRIPTS:
             self.script(name, f'echo "{name} | right"')
         self.script("distac", LAUNCHER)
@@ -132,6 +131,13 @@ class Nightly(unittest.TestCase):
             self.run_it("--only", "compare")
             self.assertIn("`python3 models/compare.py out/program --seed", self.rows()["compare"][0], state)
             (self.top / "out" / "program").unlink()
+
+    def test_a_folder_that_cant_be_written(self) -> None:
+        out = self.write("out", "")
+        with self.start("--only", "stacks") as started:
+            output, errors = started.communicate(timeout=MOST_SECONDS)
+        self.assertEqual((started.returncode, output), (1, ""))
+        self.assertEqual(errors, f"nightly: {out}/nightly can't be written (Not a directory): clone into a folder that can be written\n")
 
     def test_another_toolchain_and_a_failure(self) -> None:
         self.script("checks/stacks", "echo wrong; exit 3")

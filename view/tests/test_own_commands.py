@@ -3,22 +3,31 @@
 from __future__ import annotations
 
 import ast
+import os
 import runpy
 import shutil
+import signal
 import subprocess
 import sys
+import tempfile
+import time
 import unittest
+from pathlib import Path
 
 from support import TOP
+import folders
 
 MOST_SECONDS = 60
 
 
-def say(*words: str) -> "tuple[int, str, str]":
-    """The status of a command at the top, and what it prints. One that would work for long is a failure."""
-    line = [str(TOP / words[0]), *words[1:]]
-    pipe, null = subprocess.PIPE, subprocess.DEVNULL
-    done = subprocess.run(line, stdin=null, stdout=pipe, stderr=pipe, text=True, timeout=MOST_SECONDS, check=False)
+def say(*words: str, folder: Path = TOP, **variables: str) -> "tuple[int, str, str]":
+    """The status of a command in a folder, and what it prints. One that would work for long is a failure."""
+    python = [sys.executable] if words[0].endswith(".py") else []
+    line = [*python, str(folder / words[0]), *words[1:]]
+    pipe, null, surroundings = subprocess.PIPE, subprocess.DEVNULL, {**os.environ, **variables}
+    done = subprocess.run(
+        line, cwd=TOP.parent, env=surroundings, stdin=null, stdout=pipe, stderr=pipe, text=True, timeout=MOST_SECONDS, check=False
+    )
     return done.returncode, done.stdout, done.stderr
 
 
@@ -32,13 +41,28 @@ REFUSED = (
     (("examples/check", "--wrong"), "may follow"),
     (("examples/check", "--proved", "x"), "may follow"),
     (("checks/mutants", "nosuch"), "no crate is called nosuch"),
+    (("checks/mutants", "--libraries", "/no/such/folder"), "no folder is called /no/such/folder"),
+    (("checks/mutants", "--portion", "-1"), "'-1' isn't a number of 0 or more"),
     (("checks/nightly", "--only", "nosuch"), "no part is called nosuch"),
+    (("checks/nightly", "--only", "fuzz", "--commands", "nosuch"), "no command is called nosuch"),
+    (("models/compare.py", "x", "--jobs", "0"), "'0' isn't a number of 1 or more"),
+    (("models/compare.py", "x", "--count", "-1"), "'-1' isn't a number of 0 or more"),
     (("checks/fuzz", "nosuch"), "no command is called nosuch"),
     (("checks/fuzz", "--jobs", "0"), "'0' isn't a number of 1 or more"),
     (("checks/fuzz", "--minutes", "-1"), "'-1' isn't a number of 0 or more"),
     (("checks/races", "--jobs", "0"), "'0' isn't a number of 1 or more"),
     (("checks/growths", "--states", "-1"), "'-1' isn't a number of 0 or more"),
 )
+# A test that keeps a folder while it runs.
+WAITING = """
+import tempfile, time, unittest
+
+class Waiting(unittest.TestCase):
+    def test_waiting(self):
+        room = tempfile.TemporaryDirectory()
+        self.addCleanup(room.cleanup)
+        time.sleep(60)
+"""
 # Those whose first comment is their help.
 COMMENTED = tuple(f"checks/{name}" for name in ("growths", "mutants", "races", "fuzz", "stacks", "nightly"))
 HELPED = ("tests", "examples/check", "checks/check-documents", *COMMENTED)
@@ -101,6 +125,48 @@ class OwnCommands(unittest.TestCase):
             if command in COMMENTED:
                 first_line = (TOP / command).read_text().partition('"""')[2].partition("\n")[0]
                 self.assertIn(first_line, output, command)
+
+    def test_links_and_folders_that_cd_looks_in(self) -> None:
+        cdpath = f".:{TOP.parent}:/"
+        with tempfile.TemporaryDirectory() as room:
+            for command in HELPED:
+                expected = say(command, "--help")
+                link = Path(room, Path(command).name)
+                link.symlink_to(TOP / command)
+                self.assertEqual(say(link.name, "--help", folder=Path(room)), expected, command)
+                self.assertEqual(say(command, "--help", folder=Path(TOP.name), CDPATH=cdpath), expected, command)
+
+    def test_a_signal_to_the_tests_removes_what_they_keep(self) -> None:
+        for number in (signal.SIGTERM, signal.SIGHUP, signal.SIGINT):
+            with tempfile.TemporaryDirectory() as room:
+                shutil.copy(TOP / "view" / "tests" / "run.py", room)
+                shutil.copy(TOP / "models" / "processes.py", room)
+                Path(room, "support.py").write_text("PROGRAM = 'nothing'\n")
+                Path(room, "test_waiting.py").write_text(WAITING)
+                kept = Path(room, "kept")
+                kept.mkdir()
+                surroundings = {**os.environ, "TMPDIR": str(kept)}
+                with subprocess.Popen([sys.executable, f"{room}/run.py"], env=surroundings, stdout=subprocess.PIPE, stderr=subprocess.PIPE) as run:
+                    until = time.monotonic() + MOST_SECONDS
+                    while not list(kept.iterdir()) and time.monotonic() < until:
+                        time.sleep(0.05)
+                    run.send_signal(number)
+                    run.communicate(timeout=MOST_SECONDS)
+                self.assertNotEqual(run.returncode, 0)
+                self.assertEqual(list(kept.iterdir()), [], number)
+
+    def test_jobs_of_mutants(self) -> None:
+        for jobs in ("0", "x", ""):
+            self.assertEqual(say("checks/mutants", JOBS=jobs), (1, "", f"mutants: JOBS: {jobs!r} isn't a number of 1 or more\n"))
+
+    def test_a_folder_that_cant_be_written(self) -> None:
+        with tempfile.TemporaryDirectory() as room:
+            self.assertEqual(list(folders.own(Path(room, "out", "kept")).iterdir()), [])
+            Path(room, "file").write_text("")
+            for path in (Path(room, "file"), Path(room, "file", "kept")):
+                with self.assertRaises(SystemExit) as caught:
+                    folders.own(path)
+                self.assertIn(f"{path} can't be written (", str(caught.exception.code))
 
     def test_beginnings_of_names(self) -> None:
         unknown = runpy.run_path(str(TOP / "checks" / "growths"), run_name="growths")["unknown"]

@@ -7,6 +7,7 @@ import unittest
 import support
 from view.near_names import is_near, looks_misspelt
 from view.places import place_of, quoted
+from view.texts import shown
 
 assert support.TOP
 
@@ -43,6 +44,11 @@ class Places(unittest.TestCase):
         self.assertEqual(quoted(place_of(b"\tab!", 3)), ["  \tab!", "  \t  ^"])
         self.assertEqual(quoted(place_of("文!".encode(), 3)), ["  文!", "    ^"])
         self.assertEqual(quoted(place_of(b"a\r\n", 1)), ["  a", "   ^"])
+
+    def test_signs_that_turn_or_end_a_line(self) -> None:
+        for sign in "\x1b\x9b\u2028\u2029\u202e\u2066\u2069":
+            self.assertEqual(quoted(place_of(f"{sign}!".encode(), len(sign.encode()))), ["  \ufffd!", "   ^"], repr(sign))
+            self.assertEqual(shown(f"a{sign}b"), "a\ufffdb", repr(sign))
 
     def test_a_long_line_is_cut(self) -> None:
         line, caret = quoted(place_of(b"x" * 500_000 + b"!" + b"y" * 500_000, 500_000))

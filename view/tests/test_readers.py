@@ -3,7 +3,9 @@
 from __future__ import annotations
 
 import os
+import tempfile
 import unittest
+from pathlib import Path
 from random import Random
 from unittest import mock
 
@@ -128,6 +130,16 @@ class ErlangThatFails(unittest.TestCase):
         for output, message in ((["/bin/false"], "status 1"), (["/bin/true"], "answered 0 of 1")):
             with mock.patch("shutil.which", lambda _: output[0]), self.assertRaisesRegex(Problem, message):
                 read_by_erlang(["[]."])
+
+    def test_why_it_failed(self) -> None:
+        with tempfile.TemporaryDirectory() as room:
+            script = Path(room, "escript")
+            script.write_text("#!/bin/sh\necho loading >&2; echo no memory >&2; exit 3\n")
+            script.chmod(0o755)
+            for which, said in ((str(script), "status 3 (no memory): try"), ("/bin/false", "status 1: try")):
+                with mock.patch("shutil.which", lambda _: which), self.assertRaises(Problem) as caught:
+                    read_by_erlang(["[]."])
+                self.assertEqual(caught.exception.sentence, f"escript ended with {said} --reader own")
 
 
 if __name__ == "__main__":

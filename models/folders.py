@@ -1,0 +1,18 @@
+"""Folders in which scripts keep what they make."""
+
+from __future__ import annotations
+
+import sys
+import tempfile
+from pathlib import Path
+
+
+def own(folder: Path) -> Path:
+    """This folder, which is made if it is missing. If it can't be written, the script ends with a sentence and status 1."""
+    try:
+        folder.mkdir(parents=True, exist_ok=True)
+        with tempfile.TemporaryFile(dir=folder):
+            return folder
+    except OSError as why:
+        script = Path(sys.argv[0]).name
+        sys.exit(f"{script}: {folder} can't be written ({why.strerror}): clone into a folder that can be written")

@@ -1,0 +1,43 @@
+"""What the program itself does if its output can't be written. The tests are skipped if the models stand in for it."""
+
+from __future__ import annotations
+
+import subprocess
+import unittest
+from pathlib import Path
+
+from support import EXAMPLES, IS_STAND_IN, PROGRAM
+
+INPUTS = {"check": "manual.config", "sim": "failover.distac", "live": "live-three-nodes.distac", "record": "race.live"}
+
+
+@unittest.skipIf(IS_STAND_IN, "the models aren't the program")
+class Program(unittest.TestCase):
+    """Each command, on an example."""
+
+    def ended(self, line: str, command: str) -> "tuple[int, str]":
+        """The status of a shell's line, in which $0 is the program, and what is said on standard error."""
+        with Path(EXAMPLES, INPUTS[command]).open("rb") as source:
+            done = subprocess.run(["/bin/sh", "-c", line, PROGRAM, command], stdin=source, capture_output=True, text=True, check=False)
+        return done.returncode, done.stderr
+
+    def test_a_failed_write_is_told_in_one_line(self) -> None:
+        for command in INPUTS:
+            for stream, why in ((">/dev/full", "No space left on device"), (">&-", "Bad file descriptor")):
+                status, errors = self.ended(f'exec "$0" "$1" {stream}', command)
+                self.assertEqual((status, errors.count("\n")), (1, 1), (command, errors))
+                self.assertTrue(errors.startswith(f"distac: standard output can't be written: {why}"), (command, errors))
+            self.assertEqual(self.ended('exec "$0" "$1" >/dev/full 2>/dev/full', command), (1, ""))
+
+    def test_a_reader_that_wants_no_more_is_no_fault(self) -> None:
+        for command in INPUTS:
+            self.assertEqual(self.ended('"$0" "$1" | true', command), (0, ""))
+
+    def test_help_and_version(self) -> None:
+        for word in ("--help", "--version"):
+            status, errors = self.ended(f'exec "$0" {word} >/dev/full', "check")
+            self.assertEqual((status, errors.partition(": No")[0]), (1, "distac: standard output can't be written"), word)
+
+
+if __name__ == "__main__":
+    unittest.main()
