@@ -8,7 +8,7 @@ from typing import Iterator
 from view.equal_times import Pair, pairs_that_hang
 from view.hangs import CURE
 from view.erlang_reader import decoded
-from view.erlang_terms import Atom, term_of
+from view.erlang_terms import Atom, Term, term_of
 from view.erlang_tokens import Misread
 from view.loading import Checked
 from view.places import Remark, place_of
@@ -42,13 +42,13 @@ def not_erlang(checked: Checked) -> Iterator[Remark]:
         yield Remark(place_of(checked.text, len(before)), "NotErlang", f"Erlang doesn't read this file: {misread.sentence}")
         return
     names = [token for (depth, _), token in named_tokens(checked.text) if depth == 2]
-    for section, token in zip(sections, names):
+    for section, token in zip(sections if isinstance(sections, list) else [], names):
         if not is_section(section):
             sentence = "OTP doesn't boot with this section: it is {APPLICATION,[{PARAMETER,VALUE}]}, and each PARAMETER a name"
             yield remark_at(checked, token, "BadSection", sentence)
 
 
-def is_section(section: object) -> bool:
+def is_section(section: Term) -> bool:
     """Whether a pair is an application with a list of parameters."""
     parameters = section[1] if isinstance(section, tuple) else None
     return isinstance(parameters, list) and all(isinstance(each, tuple) and len(each) == 2 and isinstance(each[0], Atom) for each in parameters)

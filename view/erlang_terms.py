@@ -7,7 +7,7 @@ from __future__ import annotations
 
 import re
 from dataclasses import dataclass, field
-from typing import Any
+from typing import List, Tuple, Union
 
 from view.erlang_tokens import Lexeme, Misread, Sort, lexemes_of, unescaped
 
@@ -34,8 +34,8 @@ class Other:
     kind: str
 
 
-Term = Any
-"""An `Atom`, an `int`, a `float`, a `list` (a string is the list of its characters' numbers), a `tuple`, or an `Other`."""
+Term = Union[Atom, Other, int, float, List["Term"], Tuple["Term", ...]]
+"""A value of Erlang. A string is the list of its characters' numbers."""
 
 CLOSING = {"[": "]", "{": "}", "(": ")", "#{": "}"}
 WITHIN_BINARY = frozenset((*"(),:/+-", "<<", ">>"))

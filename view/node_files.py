@@ -201,14 +201,15 @@ def settings_of(node: str, files: list[NodeFile], surroundings: Surroundings, li
 
 def named_in(file: NodeFile, surroundings: Surroundings, library: Library) -> list[NodeFile]:
     """The files that a file names in its outer list."""
-    names = ["".join(map(chr, item)) for item in library.sections(file) if is_name(item)]
-    paths = [surroundings.config_of(name, os.path.dirname(file.path)) for name in names]
+    names = map(file_name, library.sections(file))
+    paths = [surroundings.config_of(name, os.path.dirname(file.path)) for name in names if name]
     return [library.file(path, surroundings.variables) for path in paths]
 
 
-def is_name(item: Term) -> bool:
-    """Whether an item of the outer list is a string."""
-    return isinstance(item, list) and bool(item) and all(type(sign) is int and 0 < sign <= 0x10FFFF for sign in item)
+def file_name(item: Term) -> str:
+    """The name of the file that an item of the outer list names: a string. Any other item names none."""
+    numbers = [number for number in item if type(number) is int and 0 < number <= 0x10FFFF] if isinstance(item, list) else []
+    return "".join(map(chr, numbers)) if numbers == item else ""
 
 
 def add_file(settings: NodeSettings, file: NodeFile, named: list[NodeFile], library: Library) -> None:
@@ -217,7 +218,7 @@ def add_file(settings: NodeSettings, file: NodeFile, named: list[NodeFile], libr
     places = Places(file.text)
     inner = iter(named)
     for item in library.sections(file):
-        if is_name(item):
+        if file_name(item):
             follow(settings, file, next(inner), library)
         else:
             add_section(settings, file, item, places)
@@ -232,7 +233,7 @@ def follow(settings: NodeSettings, file: NodeFile, named: NodeFile, library: Lib
     settings.files.append(named)
     places = Places(named.text)
     for item in library.sections(named):
-        if is_name(item):
+        if file_name(item):
             raise named.fault(places.first_string, "NamedTwice", f"{file.path} names this file, and in such a one OTP follows no name")
         add_section(settings, named, item, places)
     warn_of_twice(settings, named, places)
