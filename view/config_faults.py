@@ -7,12 +7,13 @@ import re
 from dataclasses import dataclass
 from typing import Callable
 
+from view.erlang_tokens import Kind, Token, byte_tokens
 from view.faults import Fault
 from view.near_names import near_to
 from view.places import Remark, last_offset, line_from, place_of
 from view.templates import FILLED_IN, TEMPLATE
 from view.texts import cut, shown, text_of
-from view.tokens import Kind, Token, name_of, tokens_of
+from view.tokens import name_of
 
 READ_PARAMETERS = ("distributed", "permissions", "sync_nodes_mandatory", "sync_nodes_optional", "sync_nodes_timeout")
 PAIRS = {"[": "]", "{": "}"}
@@ -36,7 +37,8 @@ class Scene:
     @property
     def here(self) -> Token | None:
         """The token at the fault, if one can be told there."""
-        return next(iter(tokens_of(self.text[self.at :])), None)
+        token = next(byte_tokens(self.text[self.at :]), None)
+        return token if token is not None and token.start == 0 else None
 
     @property
     def sign(self) -> str:
@@ -51,9 +53,7 @@ class Scene:
     @property
     def touches_name(self) -> bool:
         """Whether the sign before the fault belongs to a name that isn't between quotes."""
-        if not self.before or self.before[-1].kind is not Kind.ATOM or self.last.startswith("'"):
-            return False
-        return self.before[-1].end == self.at
+        return bool(self.before) and self.before[-1].kind is Kind.ATOM and self.before[-1].end == self.at
 
     def open_brackets(self) -> list[Token]:
         """The brackets that are open at the fault, the innermost last."""
@@ -75,7 +75,7 @@ class Scene:
         depth, names, last = 0, {2: "", 4: ""}, ""
         for token in self.before:
             depth += {"[": 1, "{": 1, "]": -1, "}": -1}.get(token.written, 0)
-            if token.kind is Kind.ATOM and last == "{" and depth in names:
+            if token.is_name and last == "{" and depth in names:
                 names[depth] = name_of(token.written)
             last = token.written
         return names[4] if depth >= 4 else None
@@ -88,7 +88,7 @@ class Scene:
 
 def remark_on(fault: Fault, text: bytes) -> Remark:
     """What is to be said of a fault of a configuration."""
-    before = [token for token in tokens_of(text[: fault.place])]
+    before = list(byte_tokens(text[: fault.place]))
     scene = Scene(text, fault.place, before)
     sentence = SENTENCES.get(fault.name, lambda _: "see docs/FORMATS.md")(scene)
     return Remark(place_of(text, shown_offset(scene)), fault.name, sentence)
@@ -228,7 +228,7 @@ def behind_dash(scene: Scene) -> str | None:
 def wrong_value(scene: Scene) -> str | None:
     """Something else than the name, the number, the list or the truth value that is wanted here."""
     here = scene.here.written if scene.here else ""
-    names = [token.written for token in scene.before if token.kind is Kind.ATOM]
+    names = [token.written for token in scene.before if token.is_name]
     parameter = next((name for name in reversed(names) if name_of(name) in READ_PARAMETERS), "")
     depth = len(scene.open_brackets())
     if here.startswith('"') and depth > 2:
@@ -237,7 +237,7 @@ def wrong_value(scene: Scene) -> str | None:
         return "a permission is true or false, in small letters: write {APP,true} or {APP,false}"
     if here.startswith("-"):
         return "a time may not be negative: write milliseconds from 0 on"
-    if parameter == "distributed" and depth == 6 and scene.last == "," and scene.here and scene.here.kind is Kind.ATOM:
+    if parameter == "distributed" and depth == 6 and scene.last == "," and scene.here and scene.here.is_name:
         return wanted_list(scene, here)
     if parameter in READ_PARAMETERS[:4] and scene.last == "," and depth == 4:
         return f"a list is wanted behind {parameter}: put [ and ] around what it holds"
@@ -270,7 +270,7 @@ def wrong_bracket(scene: Scene) -> str | None:
 
 def second_time(scene: Scene) -> str | None:
     """A section or a parameter that was there already."""
-    if scene.here is None or scene.here.kind is not Kind.ATOM or scene.last != "{":
+    if scene.here is None or not scene.here.is_name or scene.last != "{":
         return None
     name = name_of(scene.here.written)
     if name in READ_PARAMETERS or name == "kernel":
@@ -304,7 +304,7 @@ def comma_too_many(scene: Scene) -> str | None:
 
 def no_distributed(scene: Scene) -> str:
     """No application is named anywhere."""
-    names = [name_of(token.written) for token in scene.before if token.kind is Kind.ATOM]
+    names = [name_of(token.written) for token in scene.before if token.is_name]
     if "distributed" in names and "kernel" not in names:
         return "distributed has to stand inside of kernel: write [{kernel,[{distributed,[..]}]}]."
     meant = meant_for_distributed(scene)
@@ -315,7 +315,7 @@ def no_distributed(scene: Scene) -> str:
 
 def meant_for_distributed(scene: Scene) -> Token | None:
     """A name that is nearly `distributed`, where that stands nowhere."""
-    atoms = [token for token in scene.before if token.kind is Kind.ATOM]
+    atoms = [token for token in scene.before if token.is_name]
     if any(name_of(token.written) == "distributed" for token in atoms):
         return None
     return next((token for token in atoms if near_to(name_of(token.written), ["distributed"])), None)
@@ -324,7 +324,7 @@ def meant_for_distributed(scene: Scene) -> Token | None:
 def twice(scene: Scene) -> str:
     """A name that stands twice in one list."""
     name = name_of(scene.here.written) if scene.here else "this name"
-    earlier = [token for token in scene.before if token.kind is Kind.ATOM and name_of(token.written) == name]
+    earlier = [token for token in scene.before if token.is_name and name_of(token.written) == name]
     where = f", first on line {scene.line_of(earlier[-1])}" if earlier else ""
     return f"{cut(shown(name), 80)} stands twice in this list{where}: take one of them out"
 

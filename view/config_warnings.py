@@ -6,13 +6,14 @@ from itertools import combinations
 from typing import Iterator
 
 from view.boot_warnings import boot_warnings
+from view.erlang_tokens import Token, byte_tokens
 from view.forbidden import unknown_in
 from view.loading import Checked
 from view.near_names import looks_misspelt, near_to
 from view.places import Remark, place_of
 from view.templates import FILLED_IN, TEMPLATE
 from view.texts import cut, listed, shown
-from view.tokens import Kind, Token, bare_name, name_of, tokens_of
+from view.tokens import bare_name, name_of
 
 SYNC = ("sync_nodes_mandatory", "sync_nodes_optional")
 
@@ -22,7 +23,7 @@ class Source:
 
     def __init__(self, text: bytes) -> None:
         self.text = text
-        self.tokens = list(tokens_of(text))
+        self.tokens = list(byte_tokens(text))
 
     def values_of(self, parameter: str) -> list[Token]:
         """The tokens of a kernel parameter's value."""
@@ -42,7 +43,7 @@ class Source:
         depth, section = 0, ""
         for place, token in enumerate(self.tokens):
             depth += {"[": 1, "{": 1, "]": -1, "}": -1}.get(token.written, 0)
-            is_name = token.kind is Kind.ATOM and self.tokens[place - 1].written == "{"
+            is_name = token.is_name and self.tokens[place - 1].written == "{"
             if is_name and depth == 2:
                 section = name_of(token.written)
             if is_name and depth == 4 and section == "kernel" and name_of(token.written) == parameter:
@@ -55,7 +56,7 @@ class Source:
 
     def token_of(self, parameter: str, name: str) -> Token:
         """The first token of a name in a parameter, or the text's first one."""
-        atoms = (token for token in self.values_of(parameter) if token.kind is Kind.ATOM)
+        atoms = (token for token in self.values_of(parameter) if token.is_name)
         return next((token for token in atoms if name_of(token.written) == name), self.tokens[0])
 
 

@@ -5,9 +5,10 @@ from __future__ import annotations
 from dataclasses import dataclass
 from typing import Any
 
+from view.erlang_tokens import Token, byte_tokens
 from view.problems import Problem
 from view.texts import bytes_of
-from view.tokens import Kind, Token, name_of, tokens_of
+from view.tokens import name_of
 
 
 @dataclass(frozen=True)
@@ -50,7 +51,7 @@ class TermReader:
     """Reads the terms of a canonical text as lists, names and numbers."""
 
     def __init__(self, text: str) -> None:
-        self.tokens = list(tokens_of(bytes_of(text)))
+        self.tokens = list(byte_tokens(bytes_of(text)))
         self.place = 0
 
     def take(self) -> Token:
@@ -62,7 +63,7 @@ class TermReader:
         """The next term: a list for brackets of both kinds, the written text for anything else."""
         token = self.take()
         if token.written not in ("[", "{"):
-            return name_of(token.written) if token.kind is Kind.ATOM else token.written
+            return name_of(token.written) if token.is_name else token.written
         items: list[object] = []
         while self.tokens[self.place].written not in ("]", "}"):
             items.append(self.term())

@@ -55,15 +55,20 @@ ANSWER = re.compile(r"fault (\d+) (\d+) (.*)\Z")
 def decoded(source: bytes) -> str:
     """The text of a file: UTF-8, unless a comment in its first two lines says otherwise."""
     try:
-        return source.decode("latin-1" if is_latin(source) else "utf-8")
+        return source.decode(encoding_of(source))
     except UnicodeDecodeError as error:
         before = source[: error.start].decode("utf-8")
         raise Misread(len(before), "the file isn't UTF-8 here, and says no other encoding in its first two lines") from error
 
 
-def is_latin(source: bytes) -> bool:
-    """Whether a comment in the first two lines says that the file is Latin-1."""
-    return any(LATIN.search(line) for line in source.split(b"\n", 2)[:2])
+def decoded_anyway(source: bytes) -> str:
+    """The text of a file, in which a byte that doesn't belong there is a character of its own."""
+    return source.decode(encoding_of(source), "surrogateescape")
+
+
+def encoding_of(source: bytes) -> str:
+    """The encoding of a file: Latin-1 if a comment in the first two lines says so."""
+    return "latin-1" if any(LATIN.search(line) for line in source.split(b"\n", 2)[:2]) else "utf-8"
 
 
 def read_by_own(texts: list[str]) -> list[Read]:

@@ -9,7 +9,7 @@ import re
 from dataclasses import dataclass, field
 from typing import List, Tuple, Union
 
-from view.erlang_tokens import Lexeme, Misread, Sort, lexemes_of, unescaped
+from view.erlang_tokens import Kind, Misread, Token, tokens_of, unescaped
 
 RESERVED = frozenset(
     "after and andalso band begin bnot bor bsl bsr bxor case catch cond div else end fun if let maybe not of or orelse receive rem try"
@@ -57,19 +57,19 @@ class TermReader:
 
     def __init__(self, text: str) -> None:
         self.length = len(text)
-        self.lexemes = lexemes_of(text)
-        self.held: Lexeme | None = None
+        self.tokens = tokens_of(text)
+        self.held: Token | None = None
         self.frames = [Frame("", 0, wants_term=True)]
 
-    def take(self) -> Lexeme:
+    def take(self) -> Token:
         """The next token."""
         if self.held is not None:
             held, self.held = self.held, None
             return held
-        lexeme = next(self.lexemes, None)
-        if lexeme is None:
+        token = next(self.tokens, None)
+        if token is None:
             raise Misread(self.length, self.at_end())
-        return lexeme
+        return token
 
     def at_end(self) -> str:
         """What is missing where the text ends."""
@@ -79,70 +79,70 @@ class TermReader:
     def term(self) -> Term:
         """The term of the whole text."""
         while True:
-            lexeme = self.take()
-            if lexeme.sort is Sort.STOP:
-                return self.whole(lexeme)
-            if lexeme.sort is Sort.MARK:
-                self.mark(lexeme)
+            token = self.take()
+            if token.kind is Kind.STOP:
+                return self.whole(token)
+            if token.kind is Kind.MARK:
+                self.mark(token)
             else:
-                self.add(self.value(lexeme), lexeme)
+                self.add(self.value(token), token)
 
-    def whole(self, stop: Lexeme) -> Term:
+    def whole(self, stop: Token) -> Term:
         """The only term, behind which the text ends."""
         top = self.frames[-1]
         if top.opened or top.wants_term:
             raise Misread(stop.start, f"a {top.opened} is still open" if top.opened else "a term is wanted before the full stop")
-        behind = next(self.lexemes, None)
+        behind = next(self.tokens, None)
         if behind is not None:
             raise Misread(behind.start, "something stands behind the full stop, and one term is wanted")
         return top.items[0]
 
-    def mark(self, lexeme: Lexeme) -> None:
+    def mark(self, token: Token) -> None:
         """A bracket, a comma, or a sign."""
-        written, top = lexeme.written, self.frames[-1]
+        written, top = token.written, self.frames[-1]
         if written in CLOSING or written in "+-":
-            self.want(lexeme)
-            self.frames.append(Frame(written, lexeme.start, wants_term=written in "(+-"))
+            self.want(token)
+            self.frames.append(Frame(written, token.start, wants_term=written in "(+-"))
         elif written == "<<":
-            self.want(lexeme)
-            self.skip_binary(lexeme)
-            self.add(Other("binary"), lexeme)
+            self.want(token)
+            self.skip_binary(token)
+            self.add(Other("binary"), token)
         elif written in ("]", "}", ")") and top.opened and CLOSING.get(top.opened) == written:
-            self.close(lexeme)
+            self.close(token)
         elif written in (",", "|", "=>") and not top.wants_term and top.items:
-            self.go_on(lexeme)
+            self.go_on(token)
         else:
-            raise Misread(lexeme.start, f"{written} may not stand here")
+            raise Misread(token.start, f"{written} may not stand here")
 
-    def want(self, lexeme: Lexeme) -> None:
+    def want(self, token: Token) -> None:
         """A term begins here, and has to be wanted."""
         top = self.frames[-1]
         if top.items and not top.wants_term:
-            raise Misread(lexeme.start, f"a comma is missing before {lexeme.written[:40]}")
+            raise Misread(token.start, f"a comma is missing before {token.written[:40]}")
 
-    def go_on(self, lexeme: Lexeme) -> None:
+    def go_on(self, token: Token) -> None:
         """Behind a comma, a bar or an arrow one more term is wanted."""
-        top, written = self.frames[-1], lexeme.written
+        top, written = self.frames[-1], token.written
         is_key = top.opened == "#{" and len(top.items) % 2 == 1
         if written == ",":
             is_allowed = top.opened in ("[", "{", "#{") and not top.has_tail and not is_key
         else:
             is_allowed = is_key if written == "=>" else top.opened == "[" and not top.has_tail
         if not is_allowed:
-            raise Misread(lexeme.start, f"{written} may not stand here")
+            raise Misread(token.start, f"{written} may not stand here")
         top.wants_term, top.has_tail = True, top.has_tail or written == "|"
 
-    def close(self, lexeme: Lexeme) -> None:
+    def close(self, token: Token) -> None:
         """A bracket is closed, and what it holds is a term."""
         frame = self.frames.pop()
         if frame.wants_term or (frame.opened == "#{" and len(frame.items) % 2):
-            raise Misread(lexeme.start, f"something is missing before this {lexeme.written}")
+            raise Misread(token.start, f"something is missing before this {token.written}")
         self.put(value_of_frame(frame), frame.place)
 
-    def add(self, value: Term, lexeme: Lexeme) -> None:
+    def add(self, value: Term, token: Token) -> None:
         """A term that one token, or a few, make."""
-        self.want(lexeme)
-        self.put(value, lexeme.start)
+        self.want(token)
+        self.put(value, token.start)
 
     def put(self, value: Term, place: int) -> None:
         """A term goes to the innermost open bracket, through the sign before it."""
@@ -158,54 +158,54 @@ class TermReader:
         top.items.append(value)
         top.wants_term = False
 
-    def skip_binary(self, lexeme: Lexeme) -> None:
+    def skip_binary(self, token: Token) -> None:
         """The tokens of a binary up to its end. What it holds is no placement, and isn't looked at."""
         depth = 1
         while depth:
             inner = self.take()
-            if inner.sort is Sort.STOP or (inner.sort is Sort.MARK and inner.written not in WITHIN_BINARY):
+            if inner.kind is Kind.STOP or (inner.kind is Kind.MARK and inner.written not in WITHIN_BINARY):
                 raise Misread(inner.start, f"{inner.written} may not stand in a binary")
-            depth += {"<<": 1, ">>": -1}.get(inner.written, 0) if inner.sort is Sort.MARK else 0
+            depth += {"<<": 1, ">>": -1}.get(inner.written, 0) if inner.kind is Kind.MARK else 0
 
-    def value(self, lexeme: Lexeme) -> Term:
+    def value(self, token: Token) -> Term:
         """The value of a token that is no mark, together with those that belong to it."""
-        written, sort = lexeme.written, lexeme.sort
-        if sort is Sort.ATOM and written in RESERVED:
-            return self.reserved(lexeme)
-        if sort in (Sort.ATOM, Sort.QUOTED):
-            return atom_of(lexeme)
-        if sort is Sort.NUMBER:
-            return number_of(lexeme)
-        if sort is Sort.CHARACTER:
-            return ord(unescaped(written[1:], lexeme.start + 1))
-        if sort is Sort.SIGIL:
+        written, kind = token.written, token.kind
+        if kind is Kind.ATOM and written in RESERVED:
+            return self.reserved(token)
+        if kind in (Kind.ATOM, Kind.QUOTED):
+            return atom_of(token)
+        if kind is Kind.NUMBER:
+            return number_of(token)
+        if kind is Kind.CHARACTER:
+            return ord(unescaped(written[1:], token.start + 1))
+        if kind is Kind.SIGIL:
             return [] if written[1:2] in "sS" else Other("binary")
-        return self.string(lexeme)
+        return self.string(token)
 
-    def reserved(self, lexeme: Lexeme) -> Term:
+    def reserved(self, token: Token) -> Term:
         """A word that Erlang keeps for itself: of these a fun alone is a term."""
-        if lexeme.written in SOFT_WORDS:
-            return Atom(lexeme.written)
-        if lexeme.written != "fun":
-            raise Misread(lexeme.start, f"{lexeme.written} is a word of Erlang's own: as a name it stands between quotes")
-        for sorts, wanted in ((NAMES, ""), ((Sort.MARK,), ":"), (NAMES, ""), ((Sort.MARK,), "/"), ((Sort.NUMBER,), "")):
+        if token.written in SOFT_WORDS:
+            return Atom(token.written)
+        if token.written != "fun":
+            raise Misread(token.start, f"{token.written} is a word of Erlang's own: as a name it stands between quotes")
+        for kinds, wanted in ((NAMES, ""), ((Kind.MARK,), ":"), (NAMES, ""), ((Kind.MARK,), "/"), ((Kind.NUMBER,), "")):
             part = self.take()
-            if part.sort not in sorts or (wanted and part.written != wanted):
+            if part.kind not in kinds or (wanted and part.written != wanted):
                 raise Misread(part.start, "of funs only fun MODULE:NAME/ARITY is a term")
         return Other("fun")
 
-    def string(self, lexeme: Lexeme) -> Term:
+    def string(self, token: Token) -> Term:
         """A string with those that follow it, as one list of numbers."""
         numbers: list[Term] = []
-        part: Lexeme | None = lexeme
-        while part is not None and part.sort in (Sort.STRING, Sort.TEXT):
+        part: Token | None = token
+        while part is not None and part.kind in (Kind.STRING, Kind.TEXT):
             numbers += [ord(sign) for sign in text_in(part)]
-            part = next(self.lexemes, None)
+            part = next(self.tokens, None)
         self.held = part
         return numbers
 
 
-NAMES = (Sort.ATOM, Sort.QUOTED)
+NAMES = (Kind.ATOM, Kind.QUOTED)
 
 
 class Signed(int):
@@ -233,47 +233,47 @@ def value_of_frame(frame: Frame) -> Term:
     return [*frame.items[:-1], *tail] if isinstance(tail, list) else Other("list with a tail")
 
 
-def atom_of(lexeme: Lexeme) -> Atom:
+def atom_of(token: Token) -> Atom:
     """The atom of a token."""
-    name = lexeme.written
-    if lexeme.sort is Sort.QUOTED:
-        name = unescaped(name[1:-1], lexeme.start + 1)
+    name = token.written
+    if token.kind is Kind.QUOTED:
+        name = unescaped(name[1:-1], token.start + 1)
     if len(name) > MOST_ATOM:
-        raise Misread(lexeme.start, "a name has at most 255 characters")
+        raise Misread(token.start, "a name has at most 255 characters")
     return Atom(name)
 
 
-def number_of(lexeme: Lexeme) -> Term:
+def number_of(token: Token) -> Term:
     """The number of a token. One with very many digits is only known to be a number."""
-    plain = lexeme.written.replace("_", "")
+    plain = token.written.replace("_", "")
     if "#" in plain:
         base, digits = plain.split("#", 1)
-        return based_number(lexeme, base, digits)
+        return based_number(token, base, digits)
     if "." in plain:
         value = float(plain)
         if value in (float("inf"), float("-inf")):
-            raise Misread(lexeme.start, "this number is too large for Erlang")
+            raise Misread(token.start, "this number is too large for Erlang")
         return value
     return int(plain) if len(plain) <= MOST_DIGITS else Other("number")
 
 
-def based_number(lexeme: Lexeme, base: str, digits: str) -> Term:
+def based_number(token: Token, base: str, digits: str) -> Term:
     """A number that is written with its base."""
     if len(base) > 2 or not 2 <= int(base) <= 36:
-        raise Misread(lexeme.start, "a base is a number from 2 to 36")
+        raise Misread(token.start, "a base is a number from 2 to 36")
     if len(digits) > MOST_DIGITS:
         return Other("number")
     try:
         return int(digits, int(base))
     except ValueError as error:
-        raise Misread(lexeme.start, f"these aren't digits of the base {base}") from error
+        raise Misread(token.start, f"these aren't digits of the base {base}") from error
 
 
-def text_in(lexeme: Lexeme) -> str:
+def text_in(token: Token) -> str:
     """What a string holds."""
-    if lexeme.sort is Sort.STRING:
-        return unescaped(lexeme.written[1:-1], lexeme.start + 1)
-    lines = lexeme.written.split("\n")
+    if token.kind is Kind.STRING:
+        return unescaped(token.written[1:-1], token.start + 1)
+    lines = token.written.split("\n")
     indent = re.match(r"[^\S\n]*", lines[-1])
     count = indent.end() if indent else 0
     return "\n".join(line[count:] for line in lines[1:-1])

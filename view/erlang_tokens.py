@@ -1,4 +1,8 @@
-"""The tokens of Erlang's whole term syntax, for files of nodes that hold more than `distac` reads."""
+"""The tokens of Erlang's whole term syntax, of texts and of bytes.
+
+Files of nodes hold more than `distac` reads, and `distac` alone says whether a text is in order for it. Of a text that it refuses
+the tokens before the fault are told, for the sentence on it.
+"""
 
 from __future__ import annotations
 
@@ -6,9 +10,11 @@ import re
 from enum import Enum
 from typing import Iterator, NamedTuple
 
+from view.texts import bytes_of, text_of
 
-class Sort(Enum):
-    """The sorts of tokens that Erlang's terms are made of."""
+
+class Kind(Enum):
+    """The kinds of tokens that Erlang's terms are made of."""
 
     MARK = "mark"
     STOP = "stop"
@@ -21,13 +27,18 @@ class Sort(Enum):
     SIGIL = "sigil"
 
 
-class Lexeme(NamedTuple):
-    """A token: its sort, its first character, the character behind it, and how it is written."""
+class Token(NamedTuple):
+    """A token: its kind, where it begins and ends, and how it is written. Places are characters, or bytes if `byte_tokens` made it."""
 
-    sort: Sort
+    kind: Kind
     start: int
     end: int
     written: str
+
+    @property
+    def is_name(self) -> bool:
+        """Whether it is an atom, with quotes or without."""
+        return self.kind in (Kind.ATOM, Kind.QUOTED)
 
 
 class Misread(Exception):
@@ -44,30 +55,64 @@ LETTERS = r"[A-Za-z0-9_@\u00c0-\u00d6\u00d8-\u00f6\u00f8-\u00ff]*"
 ESCAPED = r"\\(?:\^.|[^^])"
 BLANKS = re.compile(r"(?:[\x00-\x20\x80-\xa0]|%[^\n]*)*")
 FORMS = (
-    (Sort.TEXT, r'(?P<fence>"{3,20}(?!"))[^\S\n]*\n.*?\n[^\S\n]*(?P=fence)'),
-    (Sort.STRING, rf'"(?:[^"\\]|{ESCAPED})*"'),
-    (Sort.SIGIL, rf'~[A-Za-z]*(?:(?P<mark>"{{3,20}}(?!"))[^\S\n]*\n.*?\n[^\S\n]*(?P=mark)|"(?:[^"\\]|{ESCAPED})*"|\'(?:[^\'\\]|{ESCAPED})*\''
+    (Kind.TEXT, r'(?P<fence>"{3,20}(?!"))[^\S\n]*\n.*?\n[^\S\n]*(?P=fence)'),
+    (Kind.STRING, rf'"(?:[^"\\]|{ESCAPED})*"'),
+    (Kind.SIGIL, rf'~[A-Za-z]*(?:(?P<mark>"{{3,20}}(?!"))[^\S\n]*\n.*?\n[^\S\n]*(?P=mark)|"(?:[^"\\]|{ESCAPED})*"|\'(?:[^\'\\]|{ESCAPED})*\''
      r"|\[[^\]]*\]|\{[^}]*\}|\([^)]*\)|<[^>]*>|/[^/]*/|\|[^|]*\||`[^`]*`|#[^#]*#)"),
-    (Sort.QUOTED, rf"'(?:[^'\\]|{ESCAPED})*'"),
-    (Sort.CHARACTER, r"\$(?:\\(?:\^.|x\{[0-9A-Fa-f]+\}|x[0-9A-Fa-f]{2}|[0-7]{1,3}|[^^x])|[^\\])"),
-    (Sort.NUMBER, rf"{DIGITS}(?:#[0-9A-Za-z]+(?:_[0-9A-Za-z]+)*|\.{DIGITS}(?:[eE][-+]?{DIGITS})?)?"),
-    (Sort.ATOM, rf"[a-z\u00df-\u00f6\u00f8-\u00ff]{LETTERS}"),
-    (Sort.MARK, r"<<|>>|=>|#\{|[\[\]{}(),|:/+-]"),
-    (Sort.STOP, r"\.(?=[\x00-\x20\x80-\xa0%]|\Z)"),
+    (Kind.QUOTED, rf"'(?:[^'\\]|{ESCAPED})*'"),
+    (Kind.CHARACTER, r"\$(?:\\(?:\^.|x\{[0-9A-Fa-f]+\}|x[0-9A-Fa-f]{2}|[0-7]{1,3}|[^^x])|[^\\])"),
+    (Kind.NUMBER, rf"{DIGITS}(?:#[0-9A-Za-z]+(?:_[0-9A-Za-z]+)*|\.{DIGITS}(?:[eE][-+]?{DIGITS})?)?"),
+    (Kind.ATOM, rf"[a-z\u00df-\u00f6\u00f8-\u00ff]{LETTERS}"),
+    (Kind.MARK, r"<<|>>|=>|#\{|[\[\]{}(),|:/+-]"),
+    (Kind.STOP, r"\.(?=[\x00-\x20\x80-\xa0%]|\Z)"),
 )
-SORTS = {sort.name: sort for sort in Sort}
-TOKEN = re.compile("|".join(f"(?P<{sort.name}>{form})" for sort, form in FORMS), re.DOTALL)
+KINDS = {kind.name: kind for kind in Kind}
+TOKEN = re.compile("|".join(f"(?P<{kind.name}>{form})" for kind, form in FORMS), re.DOTALL)
 
 
-def lexemes_of(text: str) -> Iterator[Lexeme]:
+def tokens_of(text: str) -> Iterator[Token]:
     """The tokens of a text. Where none begins, this is raised."""
     place = blanks_end(text, 0)
     while place < len(text):
         found = TOKEN.match(text, place)
         if found is None:
             raise Misread(place, why_none(text, place))
-        yield Lexeme(SORTS[str(found.lastgroup)], found.start(), found.end(), found.group())
+        yield Token(KINDS[str(found.lastgroup)], found.start(), found.end(), found.group())
         place = blanks_end(text, found.end())
+
+
+# What a configuration of distac is made of.
+READ_KINDS = frozenset((Kind.STOP, Kind.ATOM, Kind.QUOTED, Kind.NUMBER, Kind.STRING))
+READ_MARKS = frozenset("[]{},")
+
+
+def byte_tokens(source: bytes) -> Iterator[Token]:
+    """The tokens of a text with bytes as places, up to the first that `distac` doesn't read. A byte that is no UTF-8 is a character."""
+    text, place, offset = text_of(source), 0, 0
+    for token in read_tokens(text):
+        offset += len(bytes_of(text[place : token.start]))
+        start, offset, place = offset, offset + len(bytes_of(token.written)), token.end
+        yield token._replace(start=start, end=offset)
+
+
+def read_tokens(text: str) -> Iterator[Token]:
+    """The tokens of a text up to the first that `distac` doesn't read. A minus belongs to the number that it touches."""
+    minus: Token | None = None
+    try:
+        for token in tokens_of(text):
+            if minus is not None:
+                if token.kind is not Kind.NUMBER or token.start != minus.end:
+                    return
+                yield Token(Kind.NUMBER, minus.start, token.end, f"-{token.written}")
+                minus = None
+            elif token.written == "-":
+                minus = token
+            elif token.kind in READ_KINDS or token.written in READ_MARKS:
+                yield token
+            else:
+                return
+    except Misread:
+        return
 
 
 def blanks_end(text: str, place: int) -> int:

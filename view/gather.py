@@ -12,12 +12,13 @@ from view.forbidden import comment_of
 from view.gathering import Gathered, gathered
 from view.json_answers import Fields, json_of
 from view.loading import check_config
-from view.node_files import ANSWER_MARK, Library, NodeSettings, path_text
+from view.node_files import Library, NodeSettings, path_text
 from view.node_flags import input_of, node_named, settings_with_flags
 from view.output import Output
 from view.placements import Placement, placement_of
 from view.problems import Problem, Status
 from view.remarks import warned, warnings_fields
+from view.source_file import ANSWER_MARK
 from view.surroundings import EachSurroundings
 from view.texts import bytes_of, shown
 from view.variables import ENDING

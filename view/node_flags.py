@@ -9,8 +9,9 @@ from typing import Iterable, Iterator
 from view.arguments import Flags, Word, flags_of, words_of
 from view.erlang_terms import Atom
 from view.erlang_tokens import Misread
-from view.node_files import Library, NodeFile, NodeSettings, Origin, Setting, settings_of
+from view.node_files import Library, NodeSettings, Origin, Setting, settings_of
 from view.problems import Problem
+from view.source_file import SourceFile
 from view.surroundings import Surroundings
 from view.templates import FILLED_IN, TEMPLATE
 from view.texts import cut, shown
@@ -26,8 +27,8 @@ class NodeInput:
 
     node: str
     surroundings: Surroundings
-    configs: list[NodeFile]
-    arguments: "dict[str, NodeFile]"
+    configs: list[SourceFile]
+    arguments: "dict[str, SourceFile]"
     flags: Flags
 
     @property
@@ -44,8 +45,8 @@ def text_of(word: Word) -> str:
 
 def input_of(node: str, paths: Iterable[str], surroundings: Surroundings, library: Library) -> NodeInput:
     """The files of a node, with the configurations and further files that its arguments name."""
-    arguments: "dict[str, NodeFile]" = {}
-    configs: "list[NodeFile | Word]" = []
+    arguments: "dict[str, SourceFile]" = {}
+    configs: "list[SourceFile | Word]" = []
     words: list[Word] = []
     for path in paths:
         file = library.file(path, surroundings.variables)
@@ -55,11 +56,11 @@ def input_of(node: str, paths: Iterable[str], surroundings: Surroundings, librar
             configs += flags_of(own).configs
         else:
             configs.append(file)
-    files = [each if isinstance(each, NodeFile) else config_named(each, surroundings, library) for each in configs]
+    files = [each if isinstance(each, SourceFile) else config_named(each, surroundings, library) for each in configs]
     return NodeInput(node, surroundings, files, arguments, flags_of(words))
 
 
-def expanded(file: NodeFile, surroundings: Surroundings, library: Library, seen: "dict[str, NodeFile]", most: int) -> Iterator[Word]:
+def expanded(file: SourceFile, surroundings: Surroundings, library: Library, seen: "dict[str, SourceFile]", most: int) -> Iterator[Word]:
     """The words of a file of arguments, and in place of each `-args_file FILE` those of that file."""
     seen[file.path] = file
     try:
@@ -77,7 +78,7 @@ def expanded(file: NodeFile, surroundings: Surroundings, library: Library, seen:
         yield from expanded(library.file(path, surroundings.variables), surroundings, library, seen, most - 1)
 
 
-def config_named(word: Word, surroundings: Surroundings, library: Library) -> NodeFile:
+def config_named(word: Word, surroundings: Surroundings, library: Library) -> SourceFile:
     """The configuration that a flag `-config` names."""
     return library.file(surroundings.config_of(word.text, os.path.dirname(word.path)), surroundings.variables)
 
@@ -92,7 +93,7 @@ def settings_with_flags(given: NodeInput, library: Library) -> NodeSettings:
     return settings
 
 
-def add_flag(settings: NodeSettings, file: NodeFile, parameter: Word, value: Word, library: Library) -> None:
+def add_flag(settings: NodeSettings, file: SourceFile, parameter: Word, value: Word, library: Library) -> None:
     """A parameter of kernel that a flag sets. One whose name is no atom sets nothing in OTP."""
     name, term = library.term(text_of(parameter)), library.term(text_of(value))
     if isinstance(term, Misread):
@@ -107,7 +108,7 @@ def add_flag(settings: NodeSettings, file: NodeFile, parameter: Word, value: Wor
     settings.kernel[name.name] = setting
 
 
-def bad_value(file: NodeFile, parameter: Word, value: Word, misread: Misread) -> Exception:
+def bad_value(file: SourceFile, parameter: Word, value: Word, misread: Misread) -> Exception:
     """What is raised for the value of a flag that is no term."""
     if TEMPLATE.search(value.text):
         return file.fault(value.place, "Template", f"this is {FILLED_IN}")

@@ -5,7 +5,7 @@ from __future__ import annotations
 import re
 
 from view.config_warnings import Source
-from view.tokens import Kind
+from view.erlang_tokens import Kind
 
 USUAL_SECONDS = 60
 REMEMBERED = re.compile(rb"^%+ *net_ticktime (?P<seconds>[0-9]{1,9})\s*$", re.MULTILINE)

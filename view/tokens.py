@@ -1,62 +1,11 @@
-"""The tokens of a configuration text, as far as they can be told apart.
-
-What a text means and whether it is in order is for `distac` alone to say. Tokens are for sentences on its faults, and for names
-that its canonical text leaves out.
-"""
+"""The names of configurations: as `distac` spells them, and without the quotes that they may stand between."""
 
 from __future__ import annotations
 
 import re
-from dataclasses import dataclass
-from enum import Enum
-from typing import Iterable, Iterator
+from typing import Iterable
 
-from view.texts import text_of
-
-
-class Kind(Enum):
-    """The kinds of tokens."""
-
-    MARK = "mark"
-    STOP = "stop"
-    ATOM = "atom"
-    NUMBER = "number"
-    STRING = "string"
-
-
-@dataclass(frozen=True)
-class Token:
-    """A token: its kind, its first byte, the byte behind it, and how it is written."""
-
-    kind: Kind
-    start: int
-    end: int
-    written: str
-
-
-BLANKS = re.compile(rb"(?:[\x00-\x20]|%[^\n]*)*")
-TOKEN = re.compile(
-    rb"(?P<MARK>[\[\]{},])|(?P<STOP>\.)|(?P<ATOM>[a-z][A-Za-z0-9_@]*|'[^']*')|(?P<NUMBER>-?[0-9]+)"
-    rb"|(?P<STRING>\"(?:[^\"\\]|\\.)*\")",
-    re.DOTALL,
-)
 BARE_ATOM = re.compile(r"[a-z][A-Za-z0-9_@]*\Z")
-
-
-def tokens_of(text: bytes) -> Iterator[Token]:
-    """The tokens of a text, up to the first byte that begins none."""
-    place = blanks_end(text, 0)
-    found = TOKEN.match(text, place)
-    while found:
-        yield Token(Kind[str(found.lastgroup)], found.start(), found.end(), text_of(found.group()))
-        place = blanks_end(text, found.end())
-        found = TOKEN.match(text, place)
-
-
-def blanks_end(text: bytes, place: int) -> int:
-    """The first byte from a place on that is neither blank nor in a comment."""
-    found = BLANKS.match(text, place)
-    return found.end() if found else place
 
 
 def name_of(atom: str) -> str:

@@ -63,7 +63,19 @@ class BootWarnings(unittest.TestCase):
             self.assertEqual(self.errors_on(sections, words=("--strict",)), "", sections)
 
     def test_sections_of_sys_config(self) -> None:
-        self.assertEqual(self.errors_on(WARNED[2][0], "sys.config"), "")
+        """A release makes sys.config of sys.config.src."""
+        for name in ("sys.config", "sys.config.src"):
+            self.assertEqual(self.errors_on(WARNED[2][0], name), "")
+
+    def test_parameters_of_other_applications(self) -> None:
+        """The caret stands under kernel's parameter, and not under one of the same name before it."""
+        rows = (
+            ("{app,[{sync_nodes_timeout,7}]}," + PLACED % (SYNC % (ALL, "0")), "ZeroSyncTime", "{sync_nodes_timeout,0"),
+            ("{app,[{sync_nodes_optional,[x@h]}]}," + PLACED % (SYNC % ("y@h,z@h", "5")), "OwnFile", "{sync_nodes_optional,[y@h"),
+        )
+        for sections, name, behind in rows:
+            column = len(" ") + sections.index(behind) + len("{") + 1
+            self.assertIn(f"node.config:2:{column}: {name}: ", self.errors_on(sections))
 
     def test_one_warning_for_each_time(self) -> None:
         entries = ["{%s%d,%d,[x@h,{y@h,z@h}]}" % (name, number, 100 * number) for name in "abc" for number in (1, 2)]
@@ -82,6 +94,14 @@ class BootWarnings(unittest.TestCase):
         for line in told:
             self.assertNotRegex(line.split(": is ")[0], "'[^']+'")
         self.assertIn("x-3@h is in no application's list: is 'x-1@h' meant?", errors)
+
+    def test_control_characters_in_names(self) -> None:
+        """The sentence is about the name, also where digits stand behind the character."""
+        path = Path(self.room.name) / "node.config"
+        path.write_bytes((PLACED % "").replace("y@h", "'y@10\x0b5.2'", 1).join(("[", "].")).encode())
+        said = view("check", str(path))
+        self.assertEqual(said.status, 2)
+        self.assertIn("Unsupported: names between quotes may hold no backslash, tab or other control character", said.output)
 
     def test_bytes_that_are_no_text(self) -> None:
         path = Path(self.room.name) / "node.config"

@@ -12,7 +12,7 @@ from hostile_files import hostile_sources
 from random_terms import changed, random_file
 from view.erlang_reader import decoded, has_erlang, read_by_erlang, read_by_own
 from view.erlang_terms import Atom, Other, term_of
-from view.erlang_tokens import Misread
+from view.erlang_tokens import Misread, byte_tokens
 from view.problems import Problem
 
 COUNT = 400
@@ -40,6 +40,23 @@ MISREAD = (
     *("[a=>b].", "#{a}.", "#{a=>b=>c}.", "#{a=>}.", "#{a:=b}.", "#r{}.", "[37#1].", "[1#0].", "[2#2].", "[a/b].", "[a:b].", "[<<a].", "[>>].", "[\ufeff].", "[€].", "()."),
     *('["\\x{110000}"].', '["\\xg"].', '["\\x{d800}"].', "['" + "a" * 256 + "'].", "[1.0e999].", "\ufeff[].", "[\x7f]."),
 )
+
+
+class ByteTokens(unittest.TestCase):
+    """The tokens that `distac` reads too, with bytes as places."""
+
+    def test_places(self) -> None:
+        rows = (
+            (b"[{a,-5}].", ["[", "{", "a", ",", "-5", "}", "]", "."]),
+            ("%% é\n['é',\"ü\",b]".encode(), ["[", "'é'", ",", '"ü"', ",", "b", "]"]),
+            (b"['\xff',a", ["[", "'\udcff'", ",", "a"]),
+            *((b"[a," + other, ["[", "a", ","]) for other in (b"- 5", b"-a", b"-", b"#{", b"<<>>", b"$a", b"'b", b'"b', b"B", b"", b"(1)", b"~s[]")),
+        )
+        for source, written in rows:
+            tokens = list(byte_tokens(source))
+            self.assertEqual([token.written for token in tokens], written, source)
+            for token in tokens:
+                self.assertEqual(source[token.start : token.end], token.written.encode("utf-8", "surrogateescape"))
 
 
 class OwnReader(unittest.TestCase):
