@@ -4,12 +4,11 @@ from __future__ import annotations
 
 from typing import Iterator
 
-from view.equal_times import Pair, pairs_that_hang
+from view.configuration import Checked
+from view.equal_times import CURE, Pair, pairs_that_hang
 from view.erlang_reader import decoded
 from view.erlang_terms import Atom, Term, term_of
 from view.erlang_tokens import Kind, Misread, Token, byte_tokens
-from view.hangs import CURE
-from view.loading import Checked
 from view.places import Remark, place_of
 from view.sections import Sections, twice_in
 from view.source_file import SourceFile, plain_file

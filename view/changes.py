@@ -4,15 +4,15 @@ from __future__ import annotations
 
 from dataclasses import dataclass, replace
 
-from view.configuration import Configuration
+from view.configuration import Checked, Configuration
 from view.distac import Distac
-from view.loading import Checked, load_config
-from view.naming import node_meant
+from view.loading import load_config
 from view.notes import Note
 from view.noticing import longest_outage
 from view.problems import Problem
 from view.running_now import Placed, placed_by
 from view.settings import LIST, TIME, Differing, differing_settings
+from view.tokens import node_meant
 from view.what_if import Fate, Question, Reply, held_on, reply_on
 from view.what_if_notes import notes_on
 

@@ -8,9 +8,9 @@ from dataclasses import dataclass, field
 from view.config_warnings import warnings_on
 from view.distac import Distac
 from view.json_answers import Fields, json_of
-from view.loading import Faulty, load_config
+from view.loading import load_config
 from view.output import Output
-from view.places import Told
+from view.places import Faulty, Told
 from view.problems import Problem, Status
 from view.remarks import remark_fields, say_fault, told_of, warned, warnings_fields
 

@@ -4,7 +4,7 @@ from __future__ import annotations
 
 import argparse
 import sys
-from typing import IO, Callable
+from typing import Callable
 
 from view.asked import asked_by
 from view.check import check
@@ -13,10 +13,12 @@ from view.distac import MODELS, Distac, found_distac, nobody
 from view.expect import add_expect, expect
 from view.gather import LINES, gather
 from view.help_texts import epilog_of
-from view.loading import Faulty, Loaded, answers_of, load_script
+from view.loading import Loaded, answers_of, load_script
 from view.looking import seen_lines
 from view.output import Output, Progress, drop, open_streams, say, why_not_written
 from view.page_frame import write_page
+from view.parser import Formatter, Parser, Version
+from view.places import Faulty
 from view.playing import answers_in, rows_of, unknown_names
 from view.problems import Problem, Status
 from view.question_commands import add_json, add_load, add_rolling, add_what_if, load, rolling, what_if
@@ -24,7 +26,7 @@ from view.remarks import add_strict, ended_by, warned
 from view.texts import shown
 from view.timeline import Drafting
 from view.verbs import Role, fits
-from view.version import VERSION, version_line
+from view.version import VERSION
 from view.web_page import page_text
 from view.wide_states import too_wide
 
@@ -77,7 +79,7 @@ def drawn_lines(loaded: Loaded, first: int, most: int) -> tuple[range, str]:
 Subcommand = Callable[[Distac, argparse.Namespace, Output], Status]
 
 
-def parser_of_words() -> argparse.ArgumentParser:
+def parser_of_words() -> Parser:
     """The parser of the command line."""
     description = "For people around distac: where a fault is, what a script did, and what happens if a node goes down."
     parser = Parser("distac-view", description=description, epilog=epilog_of(""), formatter_class=Formatter)
@@ -85,52 +87,25 @@ def parser_of_words() -> argparse.ArgumentParser:
     parser.add_argument("--version", action=Version, nargs=0, dest=nowhere, default=nowhere, help="print the version and the commit")
     more = "print what bash reads to complete the words of distac-view"
     parser.add_argument("--print-completion", choices=["bash"], metavar="bash", help=more)
-    program_words(parser, None)
-    shared = Parser(add_help=False)
-    program_words(shared, argparse.SUPPRESS)
+    add_program(parser, None)
     names = " | ".join(name for name, _, _, _ in SUBCOMMANDS)
     commands = parser.add_subparsers(title="subcommands", dest="command", metavar=names)
     for name, about, subcommand, add_words in SUBCOMMANDS:
-        own = commands.add_parser(
-            name, parents=[shared], help=about, description=about, epilog=epilog_of(name), formatter_class=Formatter
-        )
+        own = commands.add_parser(name, help=about, description=about, epilog=epilog_of(name), formatter_class=Formatter)
         own.set_defaults(subcommand=subcommand)
+        add_program(own, argparse.SUPPRESS)
+        parser.subcommands[name] = own
         add_words(own)
     return parser
 
 
-def program_words(parser: argparse.ArgumentParser, default: str | None) -> None:
-    """Which program is asked. It may be said before the subcommand or behind it."""
-    asked = parser.add_mutually_exclusive_group()
-    asked.add_argument("--distac", metavar="PATH", default=default, help="the program distac that is asked")
+def add_program(parser: Parser, default: str | None) -> None:
+    """The words that say which program is asked. They may stand before the subcommand or behind it."""
     more = "ask the models in its place: nothing of them is proved"
-    asked.add_argument("--models", dest="distac", action="store_const", const=MODELS, default=default, help=more)
-
-
-class Parser(argparse.ArgumentParser):
-    """A parser that tells where its help can't be written."""
-
-    def _print_message(self, message: str, file: IO[str] | None = None) -> None:
-        """Prints help, a version or a usage. What goes to standard output has to arrive."""
-        if file is sys.stdout:
-            file.write(message)
-        else:
-            say(message.rstrip("\n"))
-
-
-class Version(argparse.Action):
-    """Prints the version. The commit is looked up only then."""
-
-    def __call__(self, parser: argparse.ArgumentParser, *_: object) -> None:
-        sys.stdout.write(version_line() + "\n")
-        parser.exit()
-
-
-class Formatter(argparse.RawDescriptionHelpFormatter):
-    """Help texts whose lines stay as they are, in a hundred columns."""
-
-    def __init__(self, prog: str) -> None:
-        super().__init__(prog, max_help_position=30, width=100)
+    parser.add_one_of(
+        ("--distac", {"metavar": "PATH", "default": default, "help": "the program distac that is asked"}),
+        ("--models", {"dest": "distac", "action": "store_const", "const": MODELS, "default": default, "help": more}),
+    )
 
 
 def check_words(parser: argparse.ArgumentParser) -> None:

@@ -5,8 +5,9 @@ It offers subcommands, options and the values that an option may have. Where a f
 
 from __future__ import annotations
 
-import argparse
 from typing import Iterator
+
+from view.parser import Parser
 
 BEGIN = """\
 # Completion of distac-view for bash. Put this line into ~/.bashrc:
@@ -33,9 +34,9 @@ complete -o default -F _distac_view distac-view distac-view.pyz
 """
 
 
-def bash_completion(parser: argparse.ArgumentParser) -> str:
+def bash_completion(parser: Parser) -> str:
     """What bash reads: a function that completes the words of this parser, and for which commands."""
-    subcommands = subparsers_of(parser)
+    subcommands = parser.subcommands
     begin = BEGIN.replace("SUBCOMMANDS", "|".join(subcommands))
     values = [line for name, own in [("", parser), *subcommands.items()] for line in values_of(name, own)]
     offered = [f'                -*" {name}") offered="{" ".join(options_of(own))}" ;;' for name, own in subcommands.items()]
@@ -44,22 +45,14 @@ def bash_completion(parser: argparse.ArgumentParser) -> str:
     return begin + "".join(line + "\n" for line in values) + END.replace("OFFERED", "\n".join(offered))
 
 
-def subparsers_of(parser: argparse.ArgumentParser) -> dict[str, argparse.ArgumentParser]:
-    """The parsers of the subcommands by their names."""
-    for action in parser._actions:
-        if isinstance(action, argparse._SubParsersAction):
-            return dict(action.choices)
-    return {}
-
-
-def options_of(parser: argparse.ArgumentParser) -> list[str]:
+def options_of(parser: Parser) -> list[str]:
     """The long names of all options."""
-    return [name for action in parser._actions for name in action.option_strings if name.startswith("--")]
+    return [name for action in parser.actions for name in action.option_strings if name.startswith("--")]
 
 
-def values_of(subcommand: str, parser: argparse.ArgumentParser) -> Iterator[str]:
+def values_of(subcommand: str, parser: Parser) -> Iterator[str]:
     """Behind which options of a subcommand a value stands, and which values those may be. Else bash offers files."""
-    for action in parser._actions:
+    for action in parser.actions:
         if action.option_strings and action.nargs != 0:
             names = "|".join(f'"{subcommand} {name}"' for name in action.option_strings)
             choices = " ".join(str(choice) for choice in action.choices or ())

@@ -6,9 +6,9 @@ from itertools import combinations
 from typing import Iterator
 
 from view.boot_warnings import boot_warnings
+from view.configuration import Checked
 from view.erlang_tokens import Token, byte_tokens
 from view.forbidden import unknown_in
-from view.loading import Checked
 from view.near_names import looks_misspelt, near_to
 from view.places import Remark, place_of
 from view.templates import FILLED_IN, TEMPLATE

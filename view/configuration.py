@@ -47,6 +47,15 @@ class Configuration:
         return {application.name: application.timeout for application in self.applications}
 
 
+@dataclass(frozen=True)
+class Checked:
+    """A configuration that has no fault: its text, its canonical text, and what it says."""
+
+    text: bytes
+    canonical: str
+    configuration: Configuration
+
+
 class TermReader:
     """Reads the terms of a canonical text as lists, names and numbers."""
 

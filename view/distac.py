@@ -20,7 +20,6 @@ BESIDE = (TOP if TOP.is_dir() else TOP.parent) / "distac"
 MODELS = "--models"
 NAMED = "a program distac that was named: distac-view doesn't know whether it is proved"
 ABOUT = {"proved": "the proved program distac", "not proved": "the program distac, which is not proved"}
-MOST_INPUT = 2_097_152
 
 Asked = Callable[[str, bytes], "tuple[bytes, int]"]
 

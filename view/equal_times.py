@@ -14,6 +14,7 @@ from typing import Iterable
 
 from view.configuration import Application, Configuration
 
+CURE = "give each its own time, further apart than a start takes: 100 ms or more"
 FOREVER = 4_294_967_295
 
 

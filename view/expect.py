@@ -17,13 +17,13 @@ from dataclasses import dataclass
 from difflib import unified_diff
 from typing import Iterator
 
-from view.distac import MOST_INPUT, Distac
+from view.distac import Distac
 from view.json_answers import Fields, json_of
-from view.loading import Faulty
-from view.output import Output, say
+from view.output import Output
+from view.places import Faulty
 from view.problems import Problem, Status
 from view.remarks import ended_by
-from view.script import read_bytes
+from view.script import MOST_INPUT, read_bytes
 from view.texts import bytes_of, listed, shown, text_of
 from view.writing import write_whole
 

@@ -8,7 +8,7 @@ from __future__ import annotations
 import re
 from typing import Iterator
 
-from view.loading import Checked
+from view.configuration import Checked
 from view.places import Remark, place_of
 from view.texts import bytes_of, shown, text_of
 from view.tokens import bare_name, name_of

@@ -6,13 +6,13 @@ from dataclasses import dataclass, field
 from typing import Iterable
 
 from view.configuration import name_order
-from view.naming import node_meant
 from view.node_files import NO_NAME, Setting
 from view.node_flags import node_named
 from view.placements import SYNC_LISTS, Entry, Placement
 from view.places import Told
 from view.problems import Problem
 from view.texts import cut, listed, shown
+from view.tokens import node_meant
 
 
 @dataclass

@@ -6,12 +6,10 @@ from typing import Iterable, Iterator
 
 from view.cases import Course
 from view.configuration import Configuration
-from view.equal_times import pairs_among
+from view.equal_times import CURE, pairs_among
 from view.notes import Note
 from view.texts import listed, shown
 from view.tokens import bare_names
-
-CURE = "give each its own time, further apart than a start takes: 100 ms or more"
 
 
 def names_that_hang(course: Course, nodes: Iterable[str], configuration: Configuration) -> list[str]:

@@ -6,33 +6,15 @@ from dataclasses import dataclass
 
 from view.answers import Answered, answered
 from view.config_faults import remark_on
-from view.configuration import Configuration, configuration_of
-from view.distac import MOST_INPUT, Answer, Distac
+from view.configuration import Checked, Configuration, configuration_of
+from view.distac import Answer, Distac
 from view.faults import Part, fault_of
-from view.places import Remark
+from view.places import Faulty, Remark
 from view.problems import Problem
-from view.script import Line, Script, read_bytes, script_of
+from view.script import MOST_INPUT, Line, Script, read_bytes, script_of
 from view.script_faults import remark_on_input, remark_on_line
 from view.telling import fault_in, written_out
 from view.texts import bytes_of
-
-
-class Faulty(Exception):
-    """A file has a fault: what is to be said of it, and the file."""
-
-    def __init__(self, path: str, remark: Remark) -> None:
-        super().__init__(path, remark)
-        self.path = path
-        self.remark = remark
-
-
-@dataclass(frozen=True)
-class Checked:
-    """A configuration that has no fault: its text, its canonical text, and what it says."""
-
-    text: bytes
-    canonical: str
-    configuration: Configuration
 
 
 @dataclass(frozen=True)

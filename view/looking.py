@@ -6,10 +6,10 @@ from dataclasses import dataclass
 from typing import Iterator
 
 from view.answers import Answered
-from view.distac import MOST_INPUT, Distac
+from view.distac import Distac
 from view.loading import Loaded, play_lines
 from view.pages import Page, page_of
-from view.script import Line
+from view.script import MOST_INPUT, Line
 from view.texts import bytes_of
 
 CHANGING = frozenset("boot crash down permit start stop drain takeover tick hear hand".split())

@@ -9,8 +9,7 @@ from typing import Iterable
 from view.erlang_reader import Read, Reader
 from view.erlang_terms import Atom, Term
 from view.erlang_tokens import Misread
-from view.loading import Faulty
-from view.places import Told
+from view.places import Faulty, Told
 from view.sections import SYS_CONFIG, Sections, twice_in
 from view.source_file import SourceFile, file_at
 from view.surroundings import Surroundings

@@ -5,10 +5,10 @@ from __future__ import annotations
 from dataclasses import dataclass, field
 
 from view.cluster import Cluster, come_to_rest, share_all
-from view.configuration import Application
+from view.configuration import Application, Checked
 from view.distac import Distac
 from view.forbidden import forbidden_in
-from view.loading import Checked, answers_of, load_script
+from view.loading import answers_of, load_script
 from view.pages import Page, page_of
 from view.problems import Problem
 from view.script import separator_in

@@ -59,6 +59,15 @@ class Told:
         return Remark(self.place, self.name, self.sentence).text(self.path)
 
 
+class Faulty(Exception):
+    """A file has a fault: what is to be said of it, and the file."""
+
+    def __init__(self, path: str, remark: Remark) -> None:
+        super().__init__(path, remark)
+        self.path = path
+        self.remark = remark
+
+
 def place_of(source: bytes, offset: int) -> Place:
     """The place of a byte of a file. The file's length is the place behind its last byte."""
     start = source.rfind(b"\n", 0, offset) + 1

@@ -6,9 +6,8 @@ import argparse
 from typing import Iterable
 
 from view.json_answers import Fields, json_of, names_of
-from view.loading import Faulty
 from view.output import Output, say
-from view.places import Told
+from view.places import Faulty, Told
 from view.problems import Problem, Status
 from view.tokens import name_of
 

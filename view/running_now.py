@@ -10,17 +10,15 @@ import os
 from dataclasses import dataclass, field
 
 from view.cluster import Cluster, take_round
-from view.configuration import Application, Configuration
-from view.distac import MOST_INPUT, Distac
+from view.configuration import Application, Checked, Configuration
+from view.distac import Distac
 from view.forbidden import forbidden_in
-from view.loading import Checked
-from view.naming import node_meant, spelled
 from view.near_names import near_to
 from view.openings import Side, new_story
 from view.problems import Problem
-from view.script import read_bytes
+from view.script import MOST_INPUT, read_bytes
 from view.texts import cut, listed, shown, text_of
-from view.tokens import bare_name, bare_names
+from view.tokens import bare_name, bare_names, node_meant, spelled
 
 # What erl_call and shells print behind a node's answer.
 ANSWERED = ("{ok, ok}", "{ok,ok}", "ok", ":ok")

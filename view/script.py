@@ -9,6 +9,8 @@ from view.problems import Problem
 from view.texts import text_of
 from view.verbs import TELL, words_of
 
+MOST_INPUT = 2_097_152
+
 
 class Line(NamedTuple):
     """A line of a script: its number in the file, and its text without the line feed."""

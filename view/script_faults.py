@@ -5,11 +5,10 @@ from __future__ import annotations
 import re
 from typing import Callable
 
-from view.distac import MOST_INPUT
 from view.faults import Fault
 from view.near_names import near_to
 from view.places import Remark, place_in, place_of
-from view.script import Line
+from view.script import MOST_INPUT, Line
 from view.texts import bytes_of, cut, listed, shown
 from view.tokens import name_of
 from view.verbs import NAMES, NUMBERS, TELL, VERBS, Role, fits, roles_in, usage

@@ -5,9 +5,8 @@ from __future__ import annotations
 from dataclasses import dataclass
 from typing import Iterator
 
-from view.configuration import Application
+from view.configuration import Application, Checked
 from view.forbidden import forbidden_in
-from view.loading import Checked
 from view.noticing import tick_time_of
 
 LIST, TIME, PERMISSION, FORBIDDEN = "list", "time", "permission", "forbidden"

@@ -9,13 +9,11 @@ from dataclasses import dataclass
 
 from view.arguments import COMMENT as ARGUMENT_COMMENT
 from view.arguments import are_arguments
-from view.distac import MOST_INPUT
 from view.erlang_reader import decoded, decoded_anyway, encoding_of
 from view.erlang_tokens import Misread
-from view.loading import Faulty
-from view.places import Remark, place_of
+from view.places import Faulty, Remark, place_of
 from view.problems import Problem
-from view.script import read_bytes
+from view.script import MOST_INPUT, read_bytes
 from view.templates import COMMENT, Filled, filled_in
 from view.variables import Variables
 

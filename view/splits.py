@@ -10,9 +10,9 @@ from dataclasses import dataclass, replace
 
 from view.cases import Course, Loss, claims_in, wait_out
 from view.cluster import Cluster, come_to_rest, share_all
-from view.configuration import Configuration, name_order
+from view.configuration import Checked, Configuration, name_order
 from view.distac import Distac
-from view.loading import Checked, load_config
+from view.loading import load_config
 from view.noticing import tick_time_of
 from view.openings import Side
 from view.pages import Held, Page, page_of
@@ -20,7 +20,7 @@ from view.problems import Problem
 from view.running_now import Placed, opened_now
 from view.texts import shown
 from view.tokens import bare_name
-from view.what_if import Case, Fate, Question, case_of, held_on, known_nodes, sides_of
+from view.what_if import Case, Question, case_of, held_on, known_nodes, sides_of
 
 BETWEEN = "/"
 

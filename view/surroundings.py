@@ -6,10 +6,9 @@ import os
 from dataclasses import dataclass
 from typing import Iterable
 
-from view.naming import spelled
 from view.problems import Problem
 from view.texts import shown
-from view.tokens import bare_name
+from view.tokens import bare_name, spelled
 from view.variables import Variables, variables_of
 
 

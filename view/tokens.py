@@ -1,4 +1,4 @@
-"""The names of configurations: as `distac` spells them, and without the quotes that they may stand between."""
+"""Names of nodes and applications: as `distac` spells them, without quotes, and as somebody means them."""
 
 from __future__ import annotations
 
@@ -22,3 +22,17 @@ def bare_names(names: Iterable[str]) -> list[str]:
 def bare_name(name: str) -> str:
     """A name as `distac` spells it, without the quotes that it may stand between."""
     return name[1:-1] if name.startswith("'") else name
+
+
+def spelled(word: str) -> str:
+    """A name as `distac` spells it, from one with or without its quotes."""
+    return name_of(word) if BARE_ATOM.match(word) or word.startswith("'") else f"'{word}'"
+
+
+def node_meant(word: str, nodes: list[str]) -> str | None:
+    """Which of some nodes is meant: that of this name, or the only one whose name has it before @."""
+    name = spelled(word)
+    if name in nodes:
+        return name
+    short = [node for node in nodes if bare_name(node).split("@")[0] == bare_name(name)]
+    return short[0] if len(short) == 1 else None

@@ -6,11 +6,9 @@ import re
 from dataclasses import dataclass
 from typing import Iterable
 
-from view.distac import MOST_INPUT
-from view.loading import Faulty
-from view.places import Remark, place_of
+from view.places import Faulty, Remark, place_of
 from view.problems import Problem
-from view.script import read_bytes
+from view.script import MOST_INPUT, read_bytes
 from view.texts import cut, shown
 
 NAME = re.compile(r"[A-Za-z_][A-Za-z0-9_.]*\Z")

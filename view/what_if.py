@@ -13,18 +13,17 @@ from typing import Iterator
 
 from view.cases import Course, Loss, course_of, first_pages
 from view.cluster import Waiter
-from view.configuration import Configuration, name_order
+from view.configuration import Checked, Configuration, name_order
 from view.distac import Distac
 from view.hangs import names_that_hang
-from view.loading import Checked, load_config
-from view.naming import node_meant, spelled
+from view.loading import load_config
 from view.noticing import USUAL_SECONDS, tick_time_of
 from view.openings import Side, opened, opened_after
 from view.pages import Held, Page, marks_in
 from view.problems import Problem
 from view.running_now import Placed, opened_now, placed_by
 from view.texts import shown
-from view.tokens import bare_name, bare_names
+from view.tokens import bare_name, bare_names, node_meant, spelled
 
 MOST_AT_ONCE = 8
 

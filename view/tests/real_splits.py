@@ -18,7 +18,6 @@ import tempfile
 import time
 from collections import Counter
 from dataclasses import dataclass
-from itertools import combinations
 from pathlib import Path
 from typing import Any, Dict, List
 

@@ -11,7 +11,8 @@ from random_scripts import CALM, CONFIGS, DRAINS, LETTERS, PAUSES, ScriptMaker, 
 from check import read_config
 from view.distac import lines_of
 from view.faults import Part, fault_of
-from view.loading import Faulty, answers_of, check_config, checked_lines, plain_of
+from view.loading import answers_of, check_config, checked_lines, plain_of
+from view.places import Faulty
 from view.playing import EXPLAINS, Layout
 from view.script import Line, Script, script_of
 from view.telling import written_out

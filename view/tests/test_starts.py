@@ -18,8 +18,9 @@ from random_scripts import CALM, CONFIGS, DRAINS, PAUSES, ScriptMaker
 from test_what_if import random_config
 from view.cases import Course, Loss, careful_course, first_pages, quick_course
 from view.cluster import share_all
+from view.configuration import Checked
 from view.forbidden import comment_of, forbidden_in
-from view.loading import Checked, check_config
+from view.loading import check_config
 from view.noticing import outage_of
 from view.openings import Side, opened, opened_after
 from view.output import Progress
