@@ -98,7 +98,7 @@ def is_there(documents: Documents, line: Line, path: str) -> bool:
         return True
     crates = root / "crates"
     below = [one for pattern in ("*", "*/src", "*/specs") for one in crates.glob(pattern)]
-    return any((one / path).exists() for one in below) or any((root / one / path).exists() for one in ("view", "models", "tools"))
+    return any((one / path).exists() for one in below) or any((root / one / path).exists() for one in ("distac_view", "models", "tools"))
 
 
 def path_faults(documents: Documents) -> Iterator[str]:
