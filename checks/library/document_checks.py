@@ -98,7 +98,7 @@ def is_there(documents: Documents, line: Line, path: str) -> bool:
         return True
     crates = root / "crates"
     below = [one for pattern in ("*", "*/src", "*/specs") for one in crates.glob(pattern)]
-    folders = (root / one for one in ("view", "models", "checks/library"))
+    folders = (root / one for one in ("distac_view", "models", "checks/library"))
     return any((one / path).exists() for one in (*below, *folders))
 
 

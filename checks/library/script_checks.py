@@ -10,8 +10,8 @@ from typing import Iterator, List, Sequence, Tuple
 
 # the oldest Python that reads the files of a folder or a file at the top; what isn't listed is read by 3.10
 OLDEST: Tuple[Tuple[str, Tuple[int, int]], ...] = (
-    ("view/tests", (3, 10)),
-    ("view", (3, 8)),
+    ("distac_view/tests", (3, 10)),
+    ("distac_view", (3, 8)),
     ("distac-view", (3, 8)),
     ("models", (3, 8)),
     ("checks/library", (3, 8)),
@@ -82,7 +82,7 @@ def python_faults(root: pathlib.Path, files: Sequence[pathlib.Path]) -> Iterator
 def type_faults(root: pathlib.Path) -> Iterator[str]:
     """What mypy says of the files that pyproject.toml names, and then of the models and of the tests of distac-view, which are run
     from their folders."""
-    models, tests = root / "models", root / "view" / "tests"
+    models, tests = root / "models", root / "distac_view" / "tests"
     here = ["mypy", "--config-file", str(root / "pyproject.toml")]
     yield from faults_of_types(*output_of(here, root))
     yield from faults_of_types(*output_of(here + names_in(models), models))

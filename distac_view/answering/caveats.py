@@ -1,0 +1,159 @@
+"""What is to be said below an answer to a what-if question: who waits at a start gate, and where OTP may answer otherwise."""
+
+from __future__ import annotations
+
+from typing import Iterable, Iterator
+
+from distac_view.answering.hangs import hang_notes
+from distac_view.answering.notes import Note
+from distac_view.answering.outages import notice_range, seconds_of
+from distac_view.answering.what_if import Fate, Reply, nowhere_at_first
+from distac_view.asking.cluster import Waiter
+from distac_view.asking.openings import Side
+from distac_view.asking.snapshots import bare_marks, marks_in
+from distac_view.common.names import bare_name, bare_names
+from distac_view.common.texts import listed, shown
+from distac_view.reading.configuration import Configuration
+
+MOST_NAMED = 8
+TEXTS = {
+    "FirstTick": "The wait counts from a node's first tick after it heard of the loss. "
+    "OTP's manual doesn't say who counts.",
+    "TupleLoad": "In a tuple the node with fewer of these applications is chosen, then the least name. "
+    "OTP counts all that run.",
+    "StartedAtOnce": "Now: all was started at once. "
+    "OTP's nodes start one application after another: --now says where each runs.",
+    "StartedAgain": "Back: the node is up and everything of its list is started there again. "
+    "Here a start ends with the node's life.",
+    "StopMoves": "A stopped application fails over with its node. "
+    "In OTP it stays stopped; here, stop it at every node.",
+    "NoSplit": "These nodes are down. "
+    "Were they cut off alone, both sides might run an application: --split says what.",
+}
+
+
+def notes_on(reply: Reply) -> list[Note]:
+    """All notes, each sentence once."""
+    found = [*opening_notes(reply), *gate_notes(reply), *time_notes(reply), *otp_notes(reply)]
+    return list(dict.fromkeys(found))
+
+
+def below(notes: Iterable[Note]) -> Iterator[str]:
+    """Notes as they stand below an answer."""
+    lines = [f"- {note.text}" for note in notes]
+    yield from ["", *lines] if lines else []
+
+
+def opening_notes(reply: Reply) -> Iterator[Note]:
+    """How the question begins: the sides of a split, and nodes that can't act."""
+    sides = [answers.side for answers in reply.sides]
+    if len(sides) > 1:
+        parts = "; ".join(listed(bare_names(side.members)) for side in sides)
+        text = f"--after ends in a split: {parts}. Each side is asked by itself, and both may run an application."
+        yield Note("EndsInSplit", shown(text))
+    for side in sides:
+        yield from start_notes(side, bool(reply.question.now))
+
+
+def start_notes(side: Side, is_now: bool) -> list[Note]:
+    """What to know of a start: what runs nowhere, nodes that can't act, and what moves at once if it is now, or what is guessed."""
+    guessed = [Note("StartedAtOnce", TEXTS["StartedAtOnce"])] if side.is_guessed else []
+    return [*nowhere_notes(side), *side_notes(side), *(now_notes(side) if is_now else ()), *guessed]
+
+
+def nowhere_notes(side: Side) -> Iterator[Note]:
+    """What runs nowhere before any node goes down, and why."""
+    for held in nowhere_at_first(side):
+        yield Note("RunsNowhere", shown(f"{bare_name(held.app)} runs nowhere before any loss: {bare_marks(held.marks) or 'no node is up'}"))
+
+
+def now_notes(side: Side) -> Iterator[Note]:
+    """What distac moves at once from where it runs now, and what runs nowhere."""
+    for held in side.page.held.values():
+        if held.verdict == "takeover":
+            app, at, holder = bare_names((held.app, str(held.at), str(held.holder)))
+            text = f"Here {at} takes over {app} at once: OTP leaves it at {holder} until {at} starts it."
+            yield Note("MovesAtOnce", shown(text))
+    unused = side.cluster.unused
+    if unused:
+        yield Note("NotRunning", shown(f"By --now {few_of(unused)} {'runs' if len(unused) == 1 else 'run'} nowhere: no node starts it."))
+
+
+def side_notes(side: Side) -> Iterator[Note]:
+    """Nodes of a side that can't act."""
+    for node in side.said_down:
+        yield Note("SaidDown", shown(f"{bare_name(node)} runs and was said to be down: it does nothing until it has booted again."))
+    for waiter in side.cluster.ended:
+        yield Note("GaveUp", shown(f"{bare_name(waiter.node)} is down: it waited {wait_of(waiter, side.cluster.configuration)}, and ended."))
+    for waiter in side.cluster.waiting:
+        yield Note("WaitsOn", shown(f"{bare_name(waiter.node)} does nothing yet: it waits {wait_of(waiter, side.cluster.configuration)}."))
+
+
+def gate_notes(reply: Reply) -> Iterator[Note]:
+    """Nodes that can't come back, and that still wait when all others are at rest."""
+    for case in reply.cases:
+        for waiter in case.waiters:
+            wait = wait_of(waiter, reply.configuration)
+            if waiter.gave_up:
+                yield Note("CannotComeBack", shown(f"{bare_name(waiter.node)} can't come back: it waits {wait}, and ends."))
+            else:
+                yield Note("WaitsOn", shown(f"{bare_name(waiter.node)} does nothing when it is back: it waits {wait}."))
+
+
+def wait_of(waiter: Waiter, configuration: Configuration) -> str:
+    """How long a node waits at its start gate, and for whom."""
+    time = configuration.sync_timeout
+    groups = [(waiter.mandatory, "mandatory"), ([] if waiter.gave_up else waiter.optional, "optional")]
+    names = ", and ".join(f"{listed(bare_names(nodes))}, {kind}" for nodes, kind in groups if nodes)
+    return f"without end for {names}" if time == "infinity" else f"{time} ms for {names}"
+
+
+def time_notes(reply: Reply) -> Iterator[Note]:
+    """What the times in the table are counted from."""
+    lost = [fate for case in reply.cases for fate in case.fates if fate.how == "failover" and fate.milliseconds is not None]
+    if lost:
+        least, most = (seconds_of(each) for each in notice_range(reply.tick_time))
+        text = "Outage: the wait, and before it the noticing. A node that ends is noticed at once"
+        yield Note("Outage", f"{text}, a host that dies without a word after {least} to {most} s (net_ticktime {reply.tick_time}).")
+    if any(fate.milliseconds for fate in lost):
+        yield Note("FirstTick", TEXTS["FirstTick"])
+
+
+def otp_notes(reply: Reply) -> Iterator[Note]:
+    """What differs from OTP, where it matters here."""
+    fates = [fate for case in reply.cases for fate in case.fates]
+    yield from hang_notes((case.down, case.may_hang) for case in reply.cases)
+    yield from idle_notes(fates)
+    if any(is_in_tuple(reply.configuration, fate) for fate in fates):
+        yield Note("TupleLoad", TEXTS["TupleLoad"])
+    if any(fate.back != fate.then for fate in fates):
+        yield Note("StartedAgain", TEXTS["StartedAgain"])
+    if any(fate.was_stopped and fate.how == "failover" for fate in fates):
+        yield Note("StopMoves", TEXTS["StopMoves"])
+    if any(len(case.down) > 1 for case in reply.cases):
+        yield Note("NoSplit", TEXTS["NoSplit"])
+
+
+def idle_notes(fates: list[Fate]) -> Iterator[Note]:
+    """Applications that go elsewhere while a node of their list is up and hasn't started them."""
+    found: dict[str, list[str]] = {}
+    for fate in fates:
+        if fate.how not in ("stays", "nobody"):
+            idle = [node for node, mark in marks_in(fate.marks) if mark == "idle"]
+            found.setdefault(fate.app, []).extend(node for node in idle if node not in found.get(fate.app, []))
+    for app, nodes in found.items():
+        if nodes:
+            text = f"{bare_name(app)} isn't started at {few_of(nodes)}: OTP waits for {few_of(nodes)} to start it, without end: it runs nowhere."
+            yield Note("NotStarted", shown(text))
+
+
+def few_of(names: list[str]) -> str:
+    """Some names in a sentence, of many the first ones."""
+    more, names = len(names) - MOST_NAMED, bare_names(names)
+    return listed(names if more <= 0 else [*names[:MOST_NAMED], f"{more} more"])
+
+
+def is_in_tuple(configuration: Configuration, fate: Fate) -> bool:
+    """Whether an application came to a node of a tuple."""
+    application = next(each for each in configuration.applications if each.name == fate.app)
+    return fate.milliseconds is not None and any(fate.then in group and len(group) > 1 for group in application.groups)

@@ -1,0 +1,146 @@
+"""What a new configuration changes: where applications run now, what each loss of a node does, settings, and what is to be noted."""
+
+from __future__ import annotations
+
+from dataclasses import dataclass, replace
+
+from distac_view.answering.caveats import notes_on
+from distac_view.answering.notes import Note
+from distac_view.answering.outages import longest_outage
+from distac_view.answering.settings import LIST, TIME, Differing, differing_settings
+from distac_view.answering.what_if import Fate, Question, Reply, held_on, reply_on
+from distac_view.asking.inputs import load_config
+from distac_view.asking.program import Distac
+from distac_view.asking.running_now import Placed, placed_by
+from distac_view.common.names import node_meant
+from distac_view.common.problems import Problem
+from distac_view.reading.configuration import Checked, Configuration
+
+
+@dataclass(frozen=True)
+class Answer:
+    """Where an application is, now or in the end of a loss, and after how many milliseconds it comes there.
+
+    With it go how long it is away at most, where it is once the nodes are back, whether no other node could run it, and whether the
+    nodes are back before its wait is over.
+    """
+
+    place: str | None
+    milliseconds: int | None = None
+    longest_outage: int | None = None
+    back: str | None = None
+    is_alone: bool = False
+    waits: bool = False
+
+
+@dataclass(frozen=True)
+class Change:
+    """An answer that another configuration changes: of which application, and with which nodes down. Without any it is about now."""
+
+    app: str
+    down: list[str]
+    old: Answer
+    new: Answer
+
+
+@dataclass(frozen=True)
+class Changes:
+    """All that another configuration changes, and how many answers both have."""
+
+    old: Reply
+    new: Reply
+    changes: list[Change]
+    compared: int
+    settings: list[Differing]
+
+    @property
+    def are_any(self) -> bool:
+        """Whether the two configurations differ in anything: in what is answered, noted or set."""
+        return any((self.changes, self.settings, *self.apps, *self.nodes, *self.notes))
+
+    @property
+    def apps(self) -> tuple[list[str], list[str]]:
+        """The applications that only the new configuration has, and those that only the old one has."""
+        return differences(self.old.configuration.names, self.new.configuration.names)
+
+    @property
+    def nodes(self) -> tuple[list[str], list[str]]:
+        """The nodes that only the new configuration has, and those that only the old one has."""
+        return differences(self.old.configuration.nodes, self.new.configuration.nodes)
+
+    @property
+    def notes(self) -> tuple[list[Note], list[Note]]:
+        """The notes that stand below the new answer alone, and those that stand below the old one alone."""
+        old, new = notes_on(self.old), notes_on(self.new)
+        return [note for note in new if note not in old], [note for note in old if note not in new]
+
+    @property
+    def other_lists(self) -> list[str]:
+        """The applications whose lists differ. Where nodes with both files meet, OTP ends one of them."""
+        return [each.app for each in self.settings if each.name == LIST and each.app]
+
+    @property
+    def other_times(self) -> list[str]:
+        """The applications whose times differ. OTP doesn't compare them."""
+        return [each.app for each in self.settings if each.name == TIME and each.app]
+
+
+def differences(old: list[str], new: list[str]) -> tuple[list[str], list[str]]:
+    """What only the new list has, and what only the old one has."""
+    return [name for name in new if name not in old], [name for name in old if name not in new]
+
+
+def changes_by(distac: Distac, question: Question, path: str) -> Changes:
+    """What a new configuration changes."""
+    if question.after:
+        raise Problem("--then can't stand beside --after: a script has one configuration; --now says where applications run")
+    old, new = load_config(distac, question.config), load_config(distac, path)
+    return changes_between(distac, question, old, new)
+
+
+def changes_between(distac: Distac, question: Question, old: Checked, new: Checked) -> Changes:
+    """What a configuration changes that was read."""
+    first = reply_on(distac, old, question)
+    second = reply_on(distac, new, fitting(question, old.configuration, new.configuration))
+    answers, others = answers_in(first), answers_in(second)
+    both = [key for key in answers if key in others]
+    found = [Change(key[0], list(key[1]), answers[key], others[key]) for key in both if answers[key] != others[key]]
+    return Changes(first, second, found, len(both), differing_settings(old, new))
+
+
+def fitting(question: Question, old: Configuration, new: Configuration) -> Question:
+    """The question for the new configuration: of nodes and places only those that it has."""
+    named = (question.down, question.not_started, question.back)
+    down, not_started, back = ([word for word in words if node_meant(word, new.nodes)] for words in named)
+    if question.down and not down:
+        raise Problem("the new configuration has none of the nodes of --down")
+    placed = placed_in_both(placed_by(question.now, old), old, new) if question.now else None
+    return replace(question, down=down, not_started=not_started, back=back, placed=placed)
+
+
+def placed_in_both(placed: Placed, old: Configuration, new: Configuration) -> Placed:
+    """Where applications run now, as far as the new configuration allows it. What it has to place anew is started everywhere."""
+    lists = {each.name: each.nodes for each in new.applications}
+    places = {app: node for app, node in placed.places.items() if node in lists.get(app, [])}
+    fresh = [name for name in new.names if name not in places and (name not in old.names or name in placed.places)]
+    return Placed(places, [node for node in new.nodes if node in placed.up or node not in old.nodes], fresh)
+
+
+def answers_in(reply: Reply) -> dict[tuple[str, tuple[str, ...]], Answer]:
+    """All answers of a reply: by application, and by the nodes that are down."""
+    found: dict[tuple[str, tuple[str, ...]], Answer] = {(name, ()): answer for name, answer in answers_now(reply).items()}
+    for case in reply.cases:
+        found.update({(fate.app, tuple(case.down)): answer_of(fate, reply.tick_time) for fate in case.fates})
+    return found
+
+
+def answers_now(reply: Reply) -> dict[str, Answer]:
+    """Where each application is now, or where it goes next if it stands where it isn't left."""
+    held = held_on(reply.sides[0].side.page, reply.configuration)
+    return {name: Answer(each.at if each.is_pending else each.runs_at, is_alone=each.is_alone) for name, each in held.items()}
+
+
+def answer_of(fate: Fate, tick_time: int) -> Answer:
+    """What a loss does to an application."""
+    outage = None if fate.wait is None else longest_outage(fate.wait, tick_time)
+    return Answer(fate.then, fate.milliseconds, outage, fate.back, fate.is_alone, fate.waits)

@@ -1,0 +1,40 @@
+"""After how long the loss of a node is noticed, and how long an application is away then."""
+
+from __future__ import annotations
+
+import re
+
+from distac_view.reading.config_warnings import Source
+from distac_view.reading.erlang_tokens import Kind
+
+USUAL_SECONDS = 60
+REMEMBERED = re.compile(rb"^%+ *net_ticktime (?P<seconds>[0-9]{1,9})\s*$", re.MULTILINE)
+
+
+def tick_time_of(text: bytes) -> int:
+    """Kernel's net_ticktime in seconds: that of the file or of a comment of `gather`, else what OTP takes without one."""
+    values = Source(text).values_of("net_ticktime")
+    if len(values) == 1 and values[0].kind is Kind.NUMBER and len(values[0].written) < 10 and int(values[0].written) > 0:
+        return int(values[0].written)
+    found = REMEMBERED.search(text)
+    return int(found["seconds"]) if found else USUAL_SECONDS
+
+
+def notice_range(tick_time: int) -> tuple[int, int]:
+    """After how many milliseconds a host that dies without a word is noticed, at least and at most."""
+    return tick_time * 750, tick_time * 1250
+
+
+def longest_outage(wait: int, tick_time: int) -> int:
+    """For how many milliseconds an application is away at most: its wait, and the noticing of a dead host before it."""
+    return wait + notice_range(tick_time)[1]
+
+
+def outage_of(wait: int, tick_time: int) -> str:
+    """How long an application is away: its wait alone if its node ends, and up to the noticing of a dead host more."""
+    return f"{seconds_of(wait)} to {seconds_of(longest_outage(wait, tick_time))} s"
+
+
+def seconds_of(milliseconds: int) -> str:
+    """Milliseconds as seconds."""
+    return f"{milliseconds / 1000:.3f}".rstrip("0").rstrip(".")

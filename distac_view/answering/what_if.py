@@ -1,0 +1,205 @@
+"""What becomes of each application if nodes go down, and once they are back.
+
+A script is made for each answer, and `distac sim` plays it: all nodes come up, everything is started, and all comes to rest. Then
+the nodes go down, another one is told, and those that are left tick at each moment at which a wait is over.
+"""
+
+from __future__ import annotations
+
+import os
+from concurrent.futures import ThreadPoolExecutor
+from dataclasses import dataclass, field
+from typing import Iterator
+
+from distac_view.answering.hangs import names_that_hang
+from distac_view.answering.outages import USUAL_SECONDS, tick_time_of
+from distac_view.asking.cases import Course, Loss, course_of, first_pages
+from distac_view.asking.cluster import Waiter
+from distac_view.asking.inputs import load_config
+from distac_view.asking.openings import Side, opened, opened_after
+from distac_view.asking.program import Distac
+from distac_view.asking.running_now import Placed, opened_now, placed_by
+from distac_view.asking.snapshots import Held, Page, marks_in
+from distac_view.common.names import bare_name, bare_names, node_meant, spelled
+from distac_view.common.problems import Problem
+from distac_view.common.texts import shown
+from distac_view.reading.configuration import Checked, Configuration, name_order
+
+MOST_AT_ONCE = 8
+
+
+@dataclass(frozen=True)
+class Question:
+    """What is asked: the configuration, which nodes go down together and come back, where nothing is started, and how it begins.
+
+    It begins after a script, or with applications where they run now, or with a cluster that just came up. A restart takes so many
+    milliseconds, or longer than all waits.
+    """
+
+    config: str
+    down: list[str] = field(default_factory=list)
+    not_started: list[str] = field(default_factory=list)
+    after: str | None = None
+    back: list[str] = field(default_factory=list)
+    now: list[str] = field(default_factory=list)
+    placed: Placed | None = None
+    takes: int | None = None
+    split: list[str] = field(default_factory=list)
+
+
+@dataclass(frozen=True)
+class Fate:
+    """What becomes of an application: where it is, then and later, how it comes there, after how long, and its list's marks.
+
+    It waits if its nodes are back before its time is over.
+    """
+
+    app: str
+    now: str | None
+    then: str | None
+    how: str
+    milliseconds: int | None
+    back: str | None
+    marks: str
+    was_stopped: bool
+    waits: bool = False
+
+    @property
+    def stays(self) -> bool:
+        """Whether nothing becomes of it: it is in one place all the time."""
+        return self.how in ("stays", "nobody") and self.now == self.then == self.back
+
+    @property
+    def wait(self) -> int | None:
+        """For how many milliseconds it waits for its failover, if it fails over."""
+        return self.milliseconds if self.how == "failover" else None
+
+    @property
+    def is_alone(self) -> bool:
+        """Whether it is then at the last node that can run it."""
+        return self.then is not None and all(node == self.then for node, mark in marks_in(self.marks) if mark == "ok")
+
+
+@dataclass(frozen=True)
+class Case:
+    """Some nodes that go down together, what becomes of each application, which nodes come back, and who waits at a start gate then.
+
+    With it go the applications that OTP may fail to restart.
+    """
+
+    down: list[str]
+    fates: list[Fate]
+    back: list[str] = field(default_factory=list)
+    waiters: list[Waiter] = field(default_factory=list)
+    may_hang: list[str] = field(default_factory=list)
+
+
+@dataclass(frozen=True)
+class Answers:
+    """What is answered for nodes that hear each other: their start, and a case for each loss."""
+
+    side: Side
+    cases: list[Case]
+
+
+@dataclass(frozen=True)
+class Reply:
+    """The whole answer: for each side of a split, or for the one side that there is."""
+
+    configuration: Configuration
+    question: Question
+    sides: list[Answers]
+    tick_time: int = USUAL_SECONDS
+
+    @property
+    def cases(self) -> list[Case]:
+        """The cases of all sides."""
+        return [case for answers in self.sides for case in answers.cases]
+
+
+def reply_to(distac: Distac, question: Question) -> Reply:
+    """The answer to a question."""
+    return reply_on(distac, load_config(distac, question.config), question)
+
+
+def reply_on(distac: Distac, checked: Checked, question: Question) -> Reply:
+    """The answer to a question on a configuration that was read."""
+    down, not_started, back = (known_nodes(words, checked.configuration) for words in (question.down, question.not_started, question.back))
+    if any(node not in down for node in back):
+        raise Problem("a node of --back has to be one of --down")
+    found = []
+    for side in sides_of(distac, checked, question, not_started):
+        groups = [[node for node in down if node in side.members]] if down else [[node] for node in side.members]
+        returns = [(group, [node for node in group if node in back or not back]) for group in groups if group]
+        losses = [Loss(group, returning, not_started, question.takes) for group, returning in returns]
+        found.append(Answers(side, cases_of(distac, side, losses)))
+    return Reply(checked.configuration, question, found, tick_time_of(checked.text))
+
+
+def sides_of(distac: Distac, checked: Checked, question: Question, not_started: list[str]) -> list[Side]:
+    """How the question begins."""
+    if question.now:
+        if question.after or not_started:
+            raise Problem("--now can't stand beside --after or --not-started: it says itself what runs where")
+        return [opened_now(distac, checked, question.placed or placed_by(question.now, checked.configuration))]
+    if question.after:
+        return opened_after(distac, checked, question.after)
+    return [opened(distac, checked, not_started)]
+
+
+def known_nodes(words: list[str], configuration: Configuration) -> list[str]:
+    """Nodes that the command line names, as the configuration spells them."""
+    return sorted({known_node(word, configuration) for word in words}, key=name_order)
+
+
+def known_node(word: str, configuration: Configuration) -> str:
+    """A node that somebody names, as the configuration spells it."""
+    name = node_meant(word, configuration.nodes)
+    if name is None:
+        some = shown(", ".join(bare_names(configuration.nodes)))
+        raise Problem(f"the configuration has no node {shown(bare_name(spelled(word)))}: its nodes are {some}")
+    return name
+
+
+def courses_of(distac: Distac, side: Side, losses: list[Loss]) -> Iterator[Course]:
+    """How some cases go, each told to the progress."""
+    pages = first_pages(distac, side.cluster, losses)
+    distac.cases += len(losses)
+    with ThreadPoolExecutor(min(MOST_AT_ONCE, os.cpu_count() or 1)) as pool:
+        for course in pool.map(lambda each: course_of(distac, side.cluster, *each), zip(losses, pages)):
+            distac.cases_done += 1
+            yield course
+
+
+def cases_of(distac: Distac, side: Side, losses: list[Loss]) -> list[Case]:
+    """What becomes of each application in some cases."""
+    return [case_of(side, course) for course in courses_of(distac, side, losses)]
+
+
+def case_of(side: Side, course: Course) -> Case:
+    """What becomes of each application in a case."""
+    now, at_once, then, back = (held_on(page, side.cluster.configuration) for page in (side.page, course.at_once, course.then, course.back))
+    claims = {each.app: each.milliseconds for each in course.claims}
+    fates = [fate_of(now[name], at_once[name], then[name], back[name], claims.get(name), name in course.waiting) for name in now]
+    old = side.cluster
+    waiters = [*course.cluster.ended[len(old.ended) :], *course.cluster.waiting]
+    return Case(course.loss.down, fates, course.loss.back, waiters, names_that_hang(course, side.nodes, old.configuration))
+
+
+def held_on(page: Page, configuration: Configuration) -> dict[str, Held]:
+    """The applications on a page. If there is no node that knows anything, nobody has any."""
+    return {name: page.held.get(name) or Held(name, None, 0, 0, "", "nobody", None, "") for name in configuration.names}
+
+
+def nowhere_at_first(side: Side) -> list[Held]:
+    """The applications that run nowhere before any node goes down."""
+    return [held for held in held_on(side.page, side.cluster.configuration).values() if held.runs_at is None]
+
+
+def fate_of(now: Held, at_once: Held, then: Held, back: Held, claimed: int | None, waits: bool) -> Fate:
+    """What becomes of an application, by the pages before, at once behind, later and in the end."""
+    how = at_once.verdict
+    if how in ("kept", "halted") or (how == "nobody" and at_once.runs_at):
+        how = "stays"
+    was_stopped = now.verdict == "halted"
+    return Fate(now.app, now.runs_at, then.runs_at, how, claimed, back.runs_at, then.marks, was_stopped, waits)

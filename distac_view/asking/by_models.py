@@ -1,0 +1,31 @@
+"""The models in place of the program `distac`: Python, and no proof."""
+
+from __future__ import annotations
+
+import sys
+from importlib import import_module
+from pathlib import Path
+from typing import Callable
+
+from distac_view.common.problems import Problem
+
+PACKAGE = Path(__file__).resolve().parents[1]
+# Where the package is installed the models are within it, and otherwise beside it.
+INSTALLED = PACKAGE / "models"
+FOLDER = INSTALLED if INSTALLED.is_dir() else PACKAGE.parent / "models"
+
+
+def asked_of_models() -> Callable[[str, bytes], "tuple[bytes, int]"]:
+    """What answers as the program does: a function from a subcommand and its input to what is printed and the exit status."""
+    sys.path.insert(0, str(FOLDER))
+    models = {"check": import_module("check").check, "sim": import_module("simulator").simulate}
+
+    def asked(word: str, source: bytes) -> tuple[bytes, int]:
+        """The answer of a model."""
+        try:
+            printed, status = models[word](source)
+        except Exception as error:
+            raise Problem(f"the model of distac {word} gave no answer: {error or type(error).__name__}") from error
+        return printed, status
+
+    return asked

@@ -1,0 +1,128 @@
+"""How a question begins: with a cluster that just came up, behind a script, or with applications where they run now."""
+
+from __future__ import annotations
+
+from dataclasses import dataclass, field
+
+from distac_view.asking.cluster import Cluster, come_to_rest, share_all
+from distac_view.asking.inputs import answers_of, load_script
+from distac_view.asking.program import Distac
+from distac_view.asking.script_builder import Story
+from distac_view.asking.snapshots import Page, page_of
+from distac_view.common.problems import Problem
+from distac_view.common.texts import bytes_of, shown
+from distac_view.reading.configuration import Application, Checked
+from distac_view.reading.forbidden import forbidden_in
+from distac_view.reading.script_file import separator_in
+from distac_view.reading.verbs import MOST_NUMBER, Role, word_of
+
+LATEST = MOST_NUMBER - 2**40
+
+
+@dataclass(frozen=True)
+class Side:
+    """Nodes that hear each other, at the start of a question: their cluster, what they know, and which nodes are asked about here.
+
+    Beside the nodes that can act these are the ones that are off, or were said to be down: they would come back to this side. Of
+    some applications nobody said where they run.
+    """
+
+    cluster: Cluster
+    page: Page
+    members: list[str]
+    said_down: list[str] = field(default_factory=list)
+    unsaid: list[str] = field(default_factory=list)
+
+    @property
+    def is_guessed(self) -> bool:
+        """Whether nobody said where an application runs, and the load of a tuple's nodes decides it."""
+        applications = self.cluster.configuration.applications
+        return len(applications) > 1 and any(self.is_chosen(each) for each in applications if each.name in self.unsaid)
+
+    def is_chosen(self, application: Application) -> bool:
+        """Whether an application runs at a node of a tuple."""
+        held = self.page.held.get(application.name)
+        return held is not None and any(held.runs_at in group and len(group) > 1 for group in application.groups)
+
+    @property
+    def nodes(self) -> list[str]:
+        """The nodes that can act."""
+        return self.cluster.nodes
+
+
+def new_story(checked: Checked) -> Story:
+    """An empty script of a configuration."""
+    configuration = checked.configuration
+    for name in (*configuration.nodes, *configuration.names):
+        if " " in name:
+            raise Problem(f"the name {shown(name)} has a space, and no script can name it: it can't be played")
+    return Story(playable(checked), configuration)
+
+
+def playable(checked: Checked) -> bytes:
+    """The configuration as a script begins with it: its own text, unless a line of that would end it."""
+    return checked.text if separator_in(checked.text) is None else bytes_of(checked.canonical + "\n")
+
+
+def opened(distac: Distac, checked: Checked, not_started: list[str]) -> Side:
+    """All nodes came up, everything was started but at some nodes, and all is at rest."""
+    cluster = Cluster(new_story(checked), [], forbidden=forbidden_in(checked))
+    nodes = checked.configuration.nodes
+    cluster.boot(nodes, not_started)
+    come_to_rest(distac, cluster)
+    return Side(cluster, cluster.page(distac), nodes, unsaid=checked.configuration.names)
+
+
+def opened_after(distac: Distac, checked: Checked, path: str) -> list[Side]:
+    """The sides of a cluster behind a script, each at rest. Only one of them, if no node is cut off from another one."""
+    story = story_after(distac, checked, path)
+    nodes = checked.configuration.nodes
+    pages = {one.actor: page_of(one.answer) for one in story.play(distac, *(f"page {node}" for node in nodes))}
+    groups = groups_of({node: page for node, page in pages.items() if page.can_act(node)}) or [[]]
+    others = [node for node in nodes if not any(node in group for group in groups)]
+    sides: list[Side] = []
+    for group in groups:
+        cluster = Cluster(story.copy(), group, forbidden=forbidden_in(checked))
+        share_all(distac, cluster)
+        unsaid = [held.app for held in cluster.page(distac).held.values() if held.holder is None]
+        come_to_rest(distac, cluster)
+        sides.append(side_of(distac, cluster, group, [] if sides else others, pages, unsaid))
+    return sides
+
+
+def side_of(distac: Distac, cluster: Cluster, group: list[str], others: list[str], pages: dict[str, Page], unsaid: list[str]) -> Side:
+    """A side by its cluster, by the nodes that it began with, by those that no side has, and by what nobody held."""
+    members = [node for node in cluster.configuration.nodes if node in group or node in others]
+    said_down = [node for node in others if pages[node].inc is not None]
+    return Side(cluster, cluster.page(distac), members, said_down, unsaid)
+
+
+def groups_of(pages: dict[str, Page]) -> list[list[str]]:
+    """The nodes that can act, parted so that no node says of another one of its group that it is down."""
+    groups: list[list[str]] = []
+    for node in pages:
+        group = next((group for group in groups if not any(are_parted(pages, node, other) for other in group)), None)
+        if group is None:
+            groups.append([node])
+        else:
+            group.append(node)
+    return groups
+
+
+def are_parted(pages: dict[str, Page], one: str, other: str) -> bool:
+    """Whether one of two nodes says that the other one's present life is down."""
+    return any(pages[by].lives.get(of) == ("down", pages[of].inc) for by, of in ((one, other), (other, one)))
+
+
+def story_after(distac: Distac, checked: Checked, path: str) -> Story:
+    """The lines of a script of the same configuration, up to its last moment."""
+    loaded = load_script(distac, path)
+    if distac.check(loaded.script.config).lines != [checked.canonical]:
+        raise Problem(f"{path} has another configuration: the script of --after has to begin with the same one")
+    events = [one.line for one in answers_of(distac, loaded) if one.line.is_event]
+    story = new_story(checked)
+    story.add_uncounted(*(line.text for line in events))
+    story.now = max((int(word_of(line.words, Role.MOMENT) or 0) for line in events), default=0)
+    if story.now > LATEST:
+        raise Problem(f"{path} ends at the moment {story.now}, and there is no room for later ones")
+    return story

@@ -1,0 +1,140 @@
+"""Where applications run now: read from a file or from the command line, and brought about in a script.
+
+A line of the file is a node that is up and the distributed applications that run there. A node that the file doesn't name is off.
+The file may be what nodes answered to the line of `gather --print-command now`.
+"""
+
+from __future__ import annotations
+
+import os
+from dataclasses import dataclass, field
+
+from distac_view.asking.cluster import Cluster, take_round
+from distac_view.asking.openings import Side, new_story
+from distac_view.asking.program import Distac
+from distac_view.common.misspellings import near_to
+from distac_view.common.names import bare_name, bare_names, node_meant, spelled
+from distac_view.common.problems import Problem
+from distac_view.common.texts import cut, listed, shown, text_of
+from distac_view.reading.configuration import Application, Checked, Configuration
+from distac_view.reading.forbidden import forbidden_in
+from distac_view.reading.script_file import MOST_INPUT, read_bytes
+
+# What erl_call and shells print behind a node's answer.
+ANSWERED = ("{ok, ok}", "{ok,ok}", "ok", ":ok")
+
+
+@dataclass(frozen=True)
+class Placed:
+    """Where each application runs that runs at all, which nodes are up, and what is started everywhere and runs nowhere yet."""
+
+    places: dict[str, str]
+    up: list[str]
+    fresh: list[str] = field(default_factory=list)
+
+
+def placed_by(words: list[str], configuration: Configuration) -> Placed:
+    """What `--now` says: the name of a file, or APP=NODE for each application that runs. In that form all nodes are up."""
+    if names_a_file(words):
+        return placed_in(words[0], text_of(read_bytes(words[0], MOST_INPUT)), configuration)
+    places: dict[str, str] = {}
+    for word in words:
+        app, equals, node = parted(word)
+        if not equals:
+            raise Problem(f"--now takes one file, or APP=NODE for each application: {shown(word)} is neither")
+        put(places, "--now", app, node, configuration)
+    return Placed(places, configuration.nodes)
+
+
+def names_a_file(words: list[str]) -> bool:
+    """Whether `--now` names a file."""
+    return len(words) == 1 and ("=" not in words[0] or os.path.exists(words[0]))
+
+
+def parted(word: str) -> tuple[str, str, str]:
+    """A word in two at its first equals sign that no quotes hold."""
+    start = word.find("'", 1) if word.startswith("'") else 0
+    place = word.find("=", max(start, 0))
+    return (word, "", "") if place < 0 else (word[:place], "=", word[place + 1 :])
+
+
+def placed_in(path: str, text: str, configuration: Configuration) -> Placed:
+    """What a file says."""
+    places: dict[str, str] = {}
+    up = set()
+    for number, line in enumerate(text.split("\n"), 1):
+        words = line.split()
+        if words and not words[0].startswith(("%", "#")) and line.strip() not in ANSWERED:
+            where = f"{path}:{number}"
+            up.add(named("node", words[0], configuration.nodes, where))
+            for app in words[1:]:
+                put(places, where, app, words[0], configuration)
+    if not up:
+        raise Problem(f"{path} names no node: each of its lines is a node and what runs there")
+    return Placed(places, [node for node in configuration.nodes if node in up])
+
+
+def put(places: dict[str, str], where: str, app_word: str, node_word: str, configuration: Configuration) -> None:
+    """Notes where an application runs."""
+    app = named("application", app_word, configuration.names, where)
+    node = named("node", node_word, configuration.nodes, where)
+    if places.setdefault(app, node) != node:
+        raise Problem(f"{where}: {shown(bare_name(app))} can't run at {shown(bare_name(places[app]))} and at {shown(bare_name(node))}: name one of them")
+    if node not in application_of(app, configuration).nodes:
+        raise Problem(f"{where}: {shown(bare_name(node))} isn't in the list of {shown(bare_name(app))}: it can't run there")
+
+
+def application_of(name: str, configuration: Configuration) -> Application:
+    """An application by its name."""
+    return next(each for each in configuration.applications if each.name == name)
+
+
+def named(what: str, word: str, names: list[str], where: str) -> str:
+    """A node or an application as the configuration spells it. Of a node the part before @ is enough."""
+    name = spelled(word)
+    found = node_meant(word, names) if what == "node" else name
+    if found in names:
+        return found
+    meant = near_to(name, names)
+    cure = f"is {shown(bare_name(meant))} meant?" if meant else f"it has {cut(shown(listed(bare_names(names))), 200)}"
+    raise Problem(f"{where}: the configuration has no {what} {cut(shown(bare_name(name)), 60)}: {cure}")
+
+
+def opened_now(distac: Distac, checked: Checked, placed: Placed) -> Side:
+    """A cluster in which applications run where they do. What would move at the next ticks hasn't moved yet."""
+    configuration = checked.configuration
+    unused = [name for name in configuration.names if name not in placed.places and name not in placed.fresh]
+    cluster = Cluster(new_story(checked), [], unused=unused, forbidden=forbidden_in(checked))
+    open_gates(distac, cluster, placed.up)
+    for app, node in placed.places.items():
+        if not application_of(app, configuration).is_permitted or (node, app) in cluster.forbidden:
+            cluster.story.command(f"permit {cluster.hub} {app} {node} true")
+    if placed.places:
+        cluster.start_at(placed.places.items())
+        take_round(distac, cluster)
+    start_elsewhere(cluster, placed)
+    page = cluster.page(distac)
+    for app, node in placed.places.items():
+        if page.held[app].runs_at != node:
+            raise Problem(f"distac doesn't place {shown(bare_name(app))} at {shown(bare_name(node))}: it says {page.held[app].verdict}")
+    return Side(cluster, page, configuration.nodes, unsaid=placed.fresh)
+
+
+def open_gates(distac: Distac, cluster: Cluster, up: list[str]) -> None:
+    """All nodes come up and pass their start gates, and then those go down that aren't up now."""
+    nodes = cluster.configuration.nodes
+    cluster.boot(nodes, not_started=nodes)
+    take_round(distac, cluster)
+    off = [node for node in nodes if node not in up]
+    if off:
+        cluster.tell_all()
+        cluster.crash(off)
+
+
+def start_elsewhere(cluster: Cluster, placed: Placed) -> None:
+    """What runs is started at all other nodes of its list too, and no node ticks."""
+    apps = [*placed.places, *placed.fresh]
+    listed_ones = [(app, node) for app in apps for node in application_of(app, cluster.configuration).nodes]
+    others = [(app, node) for app, node in listed_ones if node in cluster.nodes and node != placed.places.get(app)]
+    if others:
+        cluster.start_at(others)

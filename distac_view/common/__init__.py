@@ -1,0 +1,1 @@
+"""What all parts share: texts, names, places in files, standard output, and files that are written whole."""

@@ -1,0 +1,59 @@
+"""Files that are written whole or not at all, and never over what was read."""
+
+from __future__ import annotations
+
+import os
+import shutil
+from typing import Iterable
+
+from distac_view.common.problems import Problem
+
+PIPE = "-"
+
+
+def write_whole(path: str, data: bytes, inputs: Iterable[str]) -> None:
+    """Writes a file beside its place and then moves it there, so that a failed write leaves what was there before.
+
+    What is no plain file, as a pipe or a device, is written to. None of the inputs is written over.
+    """
+    try:
+        place = os.path.realpath(path)
+        if any(is_same(place, source) for source in inputs):
+            raise Problem(f"{path} is read by this command, and isn't written over: give -o another name")
+        if os.path.exists(place) and not os.path.isfile(place):
+            write_to(place, data)
+        else:
+            write_beside(place, data)
+    except (OSError, ValueError) as error:
+        raise Problem(f"{path} can't be written: {getattr(error, 'strerror', None) or error}") from error
+
+
+def is_same(place: str, source: str) -> bool:
+    """Whether a file is the one that an input names. A dash is standard input."""
+    try:
+        return os.path.samestat(os.stat(place), os.fstat(0) if source == PIPE else os.stat(source))
+    except OSError:
+        return False
+
+
+def write_beside(place: str, data: bytes) -> None:
+    """Writes a new file beside a place, and moves it there."""
+    beside = os.path.join(os.path.dirname(place), f".distac-view-{os.urandom(6).hex()}")
+    try:
+        write_to(beside, data)
+        if os.path.exists(place):
+            shutil.copymode(place, beside)
+        os.replace(beside, place)
+    except BaseException:
+        if os.path.exists(beside):
+            os.unlink(beside)
+        raise
+
+
+def write_to(place: str, data: bytes) -> None:
+    """Writes bytes to a place, down to the disk where it is a file."""
+    with open(place, "wb") as file:
+        file.write(data)
+        file.flush()
+        if os.path.isfile(place):
+            os.fsync(file.fileno())

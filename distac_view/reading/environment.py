@@ -1,0 +1,61 @@
+"""What a node finds where it runs: its variables, and where files with absolute names are, as the command line says them."""
+
+from __future__ import annotations
+
+import os
+from dataclasses import dataclass
+from typing import Iterable
+
+from distac_view.common.names import bare_name, spelled
+from distac_view.common.problems import Problem
+from distac_view.common.texts import shown
+from distac_view.reading.variables import Variables, variables_of
+
+
+@dataclass(frozen=True)
+class Surroundings:
+    """The variables of a node, and the folder in which absolute names of files are looked for, if one is given."""
+
+    variables: Variables = Variables()
+    root: "str | None" = None
+
+    def config_of(self, name: str, folder: str) -> str:
+        """The path of a configuration that a file of a folder names. OTP adds `.config` where it is left out."""
+        return self.path_of(name if name.endswith(".config") else f"{name}.config", folder)
+
+    def path_of(self, name: str, folder: str) -> str:
+        """The path of a file that a file of a folder names: beside that one if it is there, else as it is written."""
+        if os.path.isabs(name) and self.root is not None:
+            return os.path.join(self.root, name.lstrip("/"))
+        beside = os.path.normpath(os.path.join(folder, name))
+        return beside if os.path.exists(beside) else name
+
+
+class EachSurroundings:
+    """The surroundings of each node, by the words of `--env` and `--root`."""
+
+    def __init__(self, env: Iterable[str], roots: Iterable[str]) -> None:
+        self.variables = variables_of(env)
+        self.roots: "dict[str, str]" = {}
+        for word in roots:
+            node, sign, folder = word.partition("=")
+            if not sign:
+                node, folder = "", word
+            if not os.path.isdir(folder):
+                raise Problem(f"--root {shown(word)} names no folder: write DIR, or NODE=DIR for one node")
+            self.roots[spelled(node) if node else ""] = folder
+
+    def of(self, node: str, variable_files: Iterable[str]) -> Surroundings:
+        """Those of a node. The variables of its own files win."""
+        variables = self.variables
+        for path in variable_files:
+            variables = variables.with_file(path)
+        names = (node, spelled(bare_name(node).split("@")[0]), "")
+        return Surroundings(variables, next((self.roots[name] for name in names if name in self.roots), None))
+
+    def want_known(self, nodes: Iterable[str]) -> None:
+        """Each node of `--root` is one of some nodes."""
+        known = {name for node in nodes for name in (node, spelled(bare_name(node).split("@")[0]))}
+        unknown = next((node for node in self.roots if node and node not in known), None)
+        if unknown is not None:
+            raise Problem(f"--root names the node {shown(unknown)}, and no files are given for it: write NODE=FILE with the same NODE")

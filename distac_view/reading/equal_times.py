@@ -1,0 +1,89 @@
+"""Which applications OTP's own controller may fail to restart: those that wait equally long, if their nodes wait for each other.
+
+If a node goes down, OTP restarts its applications one after another, at each node of their lists at once. The node that restarts
+the first one tells the others only when it is free. If it turns to the next one at once, it may wait for those others: for their
+loads where it has a tuple before it, or for the one of them that comes first in the list. They wait for its word meanwhile, so all
+of them hang. Times that lie further apart than the first one takes to start leave the node free between the two.
+"""
+
+from __future__ import annotations
+
+from dataclasses import dataclass
+from itertools import combinations
+from typing import Iterable
+
+from distac_view.reading.configuration import Application, Configuration
+
+CURE = "give each its own time, further apart than a start takes: 100 ms or more"
+FOREVER = 4_294_967_295
+
+
+@dataclass(frozen=True)
+class Pair:
+    """Two applications that may hang once a node goes down, in file order, and the first such node in name order."""
+
+    one: Application
+    other: Application
+    node: str
+
+
+def pairs_that_hang(configuration: Configuration) -> list[Pair]:
+    """The pairs of applications that may run at one node together and hang if it goes down."""
+    found = []
+    for one, other in combinations([each for each in configuration.applications if each.is_permitted], 2):
+        node = next((node for node in configuration.nodes if hang_without(one, other, node, configuration)), None)
+        if node is not None:
+            found.append(Pair(one, other, node))
+    return found
+
+
+def hang_without(one: Application, other: Application, node: str, configuration: Configuration) -> bool:
+    """Whether two applications that run at a node may hang once it is down.
+
+    All other nodes are left then, or all but those before it in a list: else the applications wouldn't be at this one.
+    """
+    if node not in one.nodes or node not in other.nodes:
+        return False
+    others = set(configuration.nodes).difference([node])
+    return any(hang_together(one, other, left) for left in (others, others - before(one, node) - before(other, node)))
+
+
+def before(application: Application, node: str) -> set[str]:
+    """The nodes of the groups before that of a node."""
+    place = next(place for place, group in enumerate(application.groups) if node in group)
+    return {each for group in application.groups[:place] for each in group}
+
+
+def pairs_among(lost: Iterable[Application], left: Iterable[str]) -> list[tuple[Application, Application]]:
+    """Of the applications that fail over because nodes went down together, the pairs that may hang with these nodes left."""
+    nodes = list(left)
+    return [(one, other) for one, other in combinations(lost, 2) if hang_together(one, other, nodes)]
+
+
+def hang_together(one: Application, other: Application, left: Iterable[str]) -> bool:
+    """Whether two applications that fail over at one moment may hang, in the one order or the other. Weeks aren't waited for."""
+    nodes = set(left)
+    if one.timeout != other.timeout or one.timeout == FOREVER:
+        return False
+    return hang_in_turn(one, other, nodes) or hang_in_turn(other, one, nodes)
+
+
+def hang_in_turn(first: Application, second: Application, left: set[str]) -> bool:
+    """Whether a node that restarted the first application waits, for the second one, for a node that waits for its word."""
+    for node in first_group(first, left).intersection(left):
+        waiting = left.intersection(first.nodes).difference([node])
+        if node in second.nodes and waiting & waited_for(second, node, left):
+            return True
+    return False
+
+
+def waited_for(application: Application, node: str, left: set[str]) -> set[str]:
+    """For whom a node waits before an application is restarted: for all in a tuple's case, else for the first one of the list."""
+    group = first_group(application, left)
+    others = left.intersection(application.nodes if len(group) > 1 else group)
+    return set() if len(group) == 1 and node in group else others.difference([node])
+
+
+def first_group(application: Application, left: set[str]) -> set[str]:
+    """The first group of an application's list of which a node is left."""
+    return next((set(group) for group in application.groups if left.intersection(group)), set())

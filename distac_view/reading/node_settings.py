@@ -1,0 +1,170 @@
+"""The configuration files of a node as OTP puts them together, with the place that each parameter of kernel comes from."""
+
+from __future__ import annotations
+
+import os
+from dataclasses import dataclass, field
+from typing import Iterable
+
+from distac_view.common.diagnostics import Faulty, Told
+from distac_view.common.texts import bytes_of, shown
+from distac_view.reading.environment import Surroundings
+from distac_view.reading.erlang_reader import Read, Reader
+from distac_view.reading.erlang_terms import Atom, Term
+from distac_view.reading.erlang_tokens import Misread
+from distac_view.reading.sections import SYS_CONFIG, Sections, twice_in
+from distac_view.reading.source_file import SourceFile, file_at
+from distac_view.reading.templates import FILLED_IN, template_in
+from distac_view.reading.variables import Variables
+
+NO_NAME = "nonode@nohost"
+NO_TERMS = ".exs"
+TWICE = "the parameter {} stands twice: OTP doesn't boot with that, and the last one is taken here"
+
+
+@dataclass(frozen=True)
+class Origin:
+    """Where a parameter stands: its file, and its first character there."""
+
+    file: SourceFile
+    place: int
+
+    @property
+    def line(self) -> str:
+        """The file and the line, as a person names them."""
+        return f"{self.file.path}:{self.file.remark(self.place, '', '').place.line}"
+
+
+@dataclass(frozen=True)
+class Setting:
+    """The value of a parameter of kernel, and where it comes from."""
+
+    value: Term
+    origin: Origin
+
+    def fault(self, name: str, sentence: str) -> Faulty:
+        """What is raised for a fault of the parameter."""
+        return self.origin.file.fault(self.origin.place, name, sentence)
+
+
+@dataclass
+class NodeSettings:
+    """What the files of a node say of kernel, the files, and what is to be warned of."""
+
+    node: str
+    files: list[SourceFile] = field(default_factory=list)
+    kernel: dict[str, Setting] = field(default_factory=dict)
+    warnings: list[Told] = field(default_factory=list)
+
+
+class Library:
+    """Files that were read, each once with the same variables, and their terms by one reader."""
+
+    def __init__(self, reader: Reader) -> None:
+        self.reader = reader
+        self.files: "dict[tuple[str, Variables], SourceFile]" = {}
+        self.terms: "dict[str, Read]" = {}
+
+    def file(self, path: str, variables: Variables) -> SourceFile:
+        """A file by its path."""
+        if (path, variables) not in self.files:
+            self.files[path, variables] = file_at(path, variables)
+        return self.files[path, variables]
+
+    def read(self, texts: Iterable[str]) -> None:
+        """Reads texts: many at once, because a reader may take long to begin."""
+        new = [text for text in dict.fromkeys(texts) if text not in self.terms]
+        if new:
+            self.terms.update(zip(new, self.reader(new)))
+
+    def term(self, text: str) -> Read:
+        """The term of a text, or what is wrong with it."""
+        self.read([text])
+        return self.terms[text]
+
+    def sections(self, file: SourceFile) -> list[Term]:
+        """The outer list of a file."""
+        term = self.term(file.text)
+        if isinstance(term, Misread):
+            raise fault_of_syntax(file, term)
+        if not isinstance(term, list):
+            raise file.fault(0, "NoList", "a configuration is a list of sections: [{kernel,[..]}].")
+        return term
+
+
+def fault_of_syntax(file: SourceFile, misread: Misread) -> Faulty:
+    """What is raised for a text that is no term: a template is told as such."""
+    template = template_in(file.text)
+    if template is not None:
+        return file.fault(template, "Template", FILLED_IN)
+    if file.path.endswith(NO_TERMS):
+        sentence = "this is no file of Erlang terms: ask the running node for its values, by the line of gather --print-command"
+        return file.fault(misread.place, "NoTerms", sentence)
+    return file.fault(misread.place, "Syntax", misread.sentence)
+
+
+def settings_of(node: str, files: list[SourceFile], surroundings: Surroundings, library: Library) -> NodeSettings:
+    """What the files of a node say, in the order of `-config`. Names of other files in their outer lists are followed."""
+    settings = NodeSettings(node)
+    library.read(inner.text for file in files for inner in named_in(file, surroundings, library))
+    for file in files:
+        add_file(settings, file, named_in(file, surroundings, library), library)
+    return settings
+
+
+def named_in(file: SourceFile, surroundings: Surroundings, library: Library) -> list[SourceFile]:
+    """The files that a file names in its outer list."""
+    names = map(file_name, library.sections(file))
+    paths = [surroundings.config_of(name, os.path.dirname(file.path)) for name in names if name]
+    return [library.file(path, surroundings.variables) for path in paths]
+
+
+def file_name(item: Term) -> str:
+    """The name of the file that an item of the outer list names: a string. Any other item names none."""
+    numbers = [number for number in item if type(number) is int and 0 < number <= 0x10FFFF] if isinstance(item, list) else []
+    return "".join(map(chr, numbers)) if numbers == item else ""
+
+
+def add_file(settings: NodeSettings, file: SourceFile, named: list[SourceFile], library: Library) -> None:
+    """A file of `-config`, with those that it names."""
+    settings.files.append(file)
+    places = Sections(file.text)
+    inner = iter(named)
+    for item in library.sections(file):
+        if file_name(item):
+            follow(settings, file, next(inner), library)
+        else:
+            add_section(settings, file, item, places)
+    if named and os.path.basename(file.path) not in SYS_CONFIG:
+        sentence = "OTP follows names of files in sys.config alone, and refuses this file under another name"
+        settings.warnings.append(file.remark(places.first_string, "NotSysConfig", sentence).told(file.path))
+    settings.warnings += [remark.told(file.path) for remark in twice_in(file, places, TWICE)]
+
+
+def follow(settings: NodeSettings, file: SourceFile, named: SourceFile, library: Library) -> None:
+    """A file that another one names. OTP follows no name in it."""
+    settings.files.append(named)
+    places = Sections(named.text)
+    for item in library.sections(named):
+        if file_name(item):
+            raise named.fault(places.first_string, "NamedTwice", f"{file.path} names this file, and in such a one OTP follows no name")
+        add_section(settings, named, item, places)
+    settings.warnings += [remark.told(named.path) for remark in twice_in(named, places, TWICE)]
+
+
+def add_section(settings: NodeSettings, file: SourceFile, item: Term, places: Sections) -> None:
+    """A section: of kernel's parameters each one wins over an earlier one of its name."""
+    if not (isinstance(item, tuple) and len(item) == 2 and isinstance(item[0], Atom) and isinstance(item[1], list)):
+        raise file.fault(0, "BadSection", "each item of the outer list is a section {APPLICATION,[{PARAMETER,VALUE}]}, and one isn't")
+    if item[0].name != "kernel":
+        return
+    for parameter in item[1]:
+        if not (isinstance(parameter, tuple) and len(parameter) == 2 and isinstance(parameter[0], Atom)):
+            raise file.fault(places.of_section("kernel"), "BadParameter", "each parameter of kernel is {NAME,VALUE}, and one isn't")
+        name = parameter[0].name
+        settings.kernel[name] = Setting(parameter[1], Origin(file, places.of_parameter(name)))
+
+
+def path_text(path: str) -> str:
+    """A path as it is shown in a comment."""
+    return shown(bytes_of(path).decode("utf-8", "replace"))

@@ -1,0 +1,92 @@
+"""Where the sections of a file and their parameters stand, and which of them stand twice."""
+
+from __future__ import annotations
+
+import os
+from typing import Iterable, Iterator, TypeVar
+
+from distac_view.common.diagnostics import Remark
+from distac_view.common.texts import cut, shown
+from distac_view.reading.erlang_tokens import Kind, Misread, Token, tokens_of, unescaped
+from distac_view.reading.source_file import SourceFile
+
+Name = TypeVar("Name")
+
+OPENING = frozenset(("[", "{", "(", "#{", "<<"))
+CLOSED = frozenset(("]", "}", ")", ">>"))
+# OTP takes two sections of a name for one in files of these names alone.
+SYS_CONFIG = ("sys.config", "sys.config.src")
+
+
+class Sections:
+    """The names of sections and of parameters with their places. A text that our own tokens don't tell has them up to there."""
+
+    def __init__(self, text: str) -> None:
+        self.sections: list[tuple[str, int]] = []
+        self.parameters: list[tuple[int, str, int]] = []
+        self.first_string = 0
+        try:
+            self.find(text)
+        except Misread:
+            pass
+
+    def find(self, text: str) -> None:
+        """Walks through the tokens. A section's name stands two brackets deep, that of a parameter four."""
+        depth, before = 0, ""
+        for token in tokens_of(text):
+            if token.kind is Kind.MARK:
+                depth += 1 if token.written in OPENING else -1 if token.written in CLOSED else 0
+            elif before == "{" and token.is_name and depth in (2, 4):
+                self.add(depth, name_in(token), token.start)
+            elif depth == 1 and token.kind is Kind.STRING:
+                self.first_string = self.first_string or token.start
+            before = token.written
+
+    def add(self, depth: int, name: str, place: int) -> None:
+        """A name that stands behind an opening bracket."""
+        if depth == 2:
+            self.sections.append((name, place))
+        elif self.sections:
+            self.parameters.append((len(self.sections) - 1, name, place))
+
+    def of_section(self, name: str) -> int:
+        """The last section of a name."""
+        return max((place for section, place in self.sections if section == name), default=0)
+
+    def of_parameter(self, name: str) -> int:
+        """The last parameter of kernel of a name."""
+        found = (place for number, parameter, place in self.parameters if (self.sections[number][0], parameter) == ("kernel", name))
+        return max(found, default=0)
+
+    def twice_sections(self) -> Iterator[tuple[str, int]]:
+        """The sections that were there before."""
+        return again(self.sections)
+
+    def twice_parameters(self) -> Iterator[tuple[str, int]]:
+        """The parameters that were there before in their section."""
+        found = again(((number, name), place) for number, name, place in self.parameters)
+        return ((name, place) for (_, name), place in found)
+
+
+def name_in(token: Token) -> str:
+    """The name that an atom is, without quotes and escapes."""
+    return token.written if token.kind is Kind.ATOM else unescaped(token.written[1:-1], token.start + 1)
+
+
+def again(named: Iterable[tuple[Name, int]]) -> Iterator[tuple[Name, int]]:
+    """Of some names with their places those that stood before."""
+    seen: set[Name] = set()
+    for name, place in named:
+        if name in seen:
+            yield name, place
+        seen.add(name)
+
+
+def twice_in(file: SourceFile, sections: Sections, about_parameter: str) -> Iterator[Remark]:
+    """Sections and parameters that stand twice in one file, with what is said of a parameter: OTP boots with no such file."""
+    for name, place in sections.twice_sections():
+        if os.path.basename(file.path) not in SYS_CONFIG:
+            sentence = f"the section {cut(shown(name), 60)} stands twice: OTP boots with that in sys.config alone; put both into one"
+            yield file.remark(place, "TwiceSection", sentence)
+    for name, place in sections.twice_parameters():
+        yield file.remark(place, "TwiceParameter", about_parameter.format(cut(shown(name), 60)))

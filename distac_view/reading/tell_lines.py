@@ -1,0 +1,171 @@
+"""Lines `tell NODE NODE ..` written out as `ship` and `hear`, so that some nodes share among themselves alone.
+
+As in a share, nodes that are off are left out, and so are ships that are refused. The numbers of messages come of `distac`: a
+script is run under guesses of what each line ships, and each answer says whether its guess was right. All before the first wrong
+guess stays right when the guesses are mended and the script is run again. A line that is added at the end changes nothing before.
+"""
+
+from __future__ import annotations
+
+import re
+from copy import copy
+from dataclasses import dataclass, field
+from enum import Enum
+from typing import Callable
+
+from distac_view.common.diagnostics import Remark
+from distac_view.common.names import name_of
+from distac_view.common.texts import cut, shown
+from distac_view.reading.configuration import name_order
+from distac_view.reading.script_faults import RETURN, has_return, no_such, offset_of, remark_in_line
+from distac_view.reading.script_file import Line
+from distac_view.reading.verbs import TELL, is_name, usage
+
+SHIPPED = re.compile(r"shipped (?P<number>\d+) ")
+HEARER_OFF = "refused 1 Off"
+SHARED = re.compile(r"shared (?P<count>\d+)\Z")
+
+# From lines to their answers, each the first output line alone.
+Run = Callable[["list[Line]"], "list[str]"]
+
+
+class Outcome(Enum):
+    """What a ship of a `tell` comes to: it is heard, it is refused, or the node that it is for is off and left out."""
+
+    HEARD = "heard"
+    REFUSED = "refused"
+    LEFT_OUT = "left out"
+
+
+@dataclass
+class Turn:
+    """A line of the script, with how many messages it is taken to ship."""
+
+    line: Line
+    count: int
+
+    def tried(self, _: int) -> list[Line]:
+        """The lines that are run to see whether the guess is right."""
+        return [self.line]
+
+    def written(self, _: int) -> list[Line]:
+        """The lines that stand in the script in the end."""
+        return [self.line]
+
+    def mend(self, answers: list[str]) -> None:
+        """Takes what the tried lines were answered as the guess."""
+        self.count = shipped_by(answers[0])
+
+
+@dataclass
+class Told(Turn):
+    """A ship of a `tell`, with the node that is to hear it, and what it is taken to come to."""
+
+    hearer: str
+    outcome: Outcome = Outcome.HEARD
+
+    def tried(self, number: int) -> list[Line]:
+        """The ship and, where it is taken to be heard, its delivery. In place of what is left out stands a look at the node."""
+        if self.outcome is Outcome.LEFT_OUT:
+            return [Line(self.line.number, f"same {self.hearer} {self.hearer}")]
+        return self.written(number) or [self.line]
+
+    def written(self, number: int) -> list[Line]:
+        """The ship and its delivery, or nothing. The number is that of the last message."""
+        if self.outcome is not Outcome.HEARD:
+            return []
+        return [self.line, Line(self.line.number, f"hear {self.hearer} {number}")]
+
+    def mend(self, answers: list[str]) -> None:
+        """Takes what the tried lines were answered as the guess."""
+        if self.outcome is Outcome.LEFT_OUT:
+            is_left_out, is_shipped = answers[0] != "same", True
+        else:
+            is_left_out, is_shipped = answers[-1] == HEARER_OFF and len(answers) == 2, bool(shipped_by(answers[0]))
+        self.outcome = Outcome.LEFT_OUT if is_left_out else Outcome.HEARD if is_shipped else Outcome.REFUSED
+        self.count = int(self.outcome is Outcome.HEARD)
+
+
+@dataclass
+class Writing:
+    """A script that is written out."""
+
+    run: Run
+    turns: list[Turn] = field(default_factory=list)
+
+    def lines(self, form: Callable[[Turn, int], list[Line]]) -> list[Line]:
+        """The script by the guesses as they are, each turn in a form that takes the number of the last message."""
+        found, number = [], 0
+        for turn in self.turns:
+            number += turn.count
+            found += form(turn, number)
+        return found
+
+    def settle(self) -> None:
+        """Runs the script until each guess is what `distac` answers."""
+        while not self.mend(self.run(self.lines(lambda turn, number: turn.tried(number)))):
+            pass
+
+    def mend(self, answers: list[str]) -> bool:
+        """Takes the answers as the guesses. Whether all were right."""
+        place, were_right = 0, True
+        for turn in self.turns:
+            end, guess = place + len(turn.tried(0)), copy(turn)
+            turn.mend(answers[place:end])
+            were_right, place = were_right and turn == guess, end
+        return were_right
+
+
+def shipped_by(answer: str) -> int:
+    """How many messages a line shipped, by its answer."""
+    shared = SHARED.match(answer)
+    return int(shared["count"]) if shared else int(bool(SHIPPED.match(answer)))
+
+
+def written_out(lines: list[Line], run: Run) -> list[Line]:
+    """A script with each `tell` written out behind a comment that says it. All its lines have to be in order."""
+    writing = Writing(run)
+    for line in lines:
+        writing.turns += turns_of(line) if line.is_tell else [Turn(line, guess_of(line))]
+    writing.settle()
+    return writing.lines(lambda turn, number: turn.written(number))
+
+
+def guess_of(line: Line) -> int:
+    """How many messages a line is first taken to ship."""
+    return 1 if line.is_event and line.verb == "ship" else 0
+
+
+def turns_of(line: Line) -> list[Turn]:
+    """The ships of a `tell` behind a comment: each of its nodes to each other one, in name order."""
+    names = sorted((name_of(word) for word in line.words[1:]), key=name_order)
+    pairs = [(one, other) for one in names for other in names if one != other]
+    comment = Turn(Line(line.number, f"% {line.text.strip()}"), 0)
+    ships = [Told(Line(line.number, f"ship {one} {other}"), 1, other) for one, other in pairs]
+    return [comment, *ships]
+
+
+def fault_in(line: Line, nodes: list[str]) -> Remark | None:
+    """What is wrong with a `tell`."""
+    if has_return(line):
+        return remark_in_line(line, offset_of(line, len(line.words) - 1), "BadName", RETURN)
+    if len(line.words) < 3:
+        offset = offset_of(line, len(line.words))
+        return remark_in_line(line, offset, "BadCount", f"two nodes or more tell each other what they know: {usage(TELL)}")
+    for place, word in enumerate(line.words[1:], 1):
+        fault = fault_of_name(word, [name_of(other) for other in line.words[1:place]], nodes)
+        if fault:
+            return remark_in_line(line, offset_of(line, place), *fault)
+    return None
+
+
+def fault_of_name(word: str, earlier: list[str], nodes: list[str]) -> tuple[str, str] | None:
+    """The name and the sentence of what is wrong with a node of a `tell`."""
+    if not is_name(word):
+        name = cut(shown(word.strip("'")), 60)
+        return "BadName", f"only a small letter followed by letters, digits, _ and @ needs no quotes: is '{name}' meant?"
+    if name_of(word) not in nodes:
+        return "UnknownActor", no_such("node", name_of(word), nodes)
+    if name_of(word) in earlier:
+        return "TwiceInTell", f"{shown(name_of(word))} stands in this line already: take one of them out"
+    return None

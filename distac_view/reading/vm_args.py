@@ -1,0 +1,103 @@
+"""Files of arguments such as `vm.args`: their words as `erl -args_file` reads them, and the flags that say a node's configuration."""
+
+from __future__ import annotations
+
+import re
+from dataclasses import dataclass, field
+from typing import Iterable, NamedTuple
+
+from distac_view.reading.erlang_tokens import Misread
+
+ENDINGS = (".args", ".args.src", ".args.eex")
+FIRST = re.compile(r"(?:\s|#[^\n]*(?:\n|\Z))*[-+][A-Za-z]")
+COMMENT = r"#.*"
+BLANK = " \t\n\r\v\f"
+
+
+class Word(NamedTuple):
+    """A word of a file of arguments: its text without quotes, the file's path, and its first character there."""
+
+    text: str
+    path: str
+    place: int
+
+
+@dataclass
+class Flags:
+    """What flags say: the configuration files, kernel's parameters with their values, and the node's name, of which the first counts."""
+
+    configs: list[Word] = field(default_factory=list)
+    kernel: "list[tuple[Word, Word]]" = field(default_factory=list)
+    names: list[Word] = field(default_factory=list)
+
+
+def are_arguments(path: str, text: str) -> bool:
+    """Whether a file holds arguments: by its name, or because it begins with a flag."""
+    return path.endswith(ENDINGS) or FIRST.match(text) is not None
+
+
+def words_of(path: str, text: str) -> list[Word]:
+    """The words of a file: quotes keep all that is in them, a backslash outside of them keeps the sign behind it."""
+    found, place = [], 0
+    while place < len(text):
+        if text[place] in BLANK:
+            place += 1
+        elif text[place] == "#":
+            place = line_end(text, place)
+        else:
+            word, end = word_at(text, place)
+            found.append(Word(word, path, place))
+            place = end
+    return found
+
+
+def word_at(text: str, place: int) -> "tuple[str, int]":
+    """The word that begins at a character, and the character behind it."""
+    parts = []
+    while place < len(text) and text[place] not in BLANK + "#":
+        sign = text[place]
+        if sign in "\"'":
+            end = text.find(sign, place + 1)
+            if end < 0:
+                raise Misread(place, f"this {sign} is never closed: erl takes all behind it for one word")
+            parts.append(text[place + 1 : end])
+            place = end + 1
+        elif sign == "\\":
+            parts.append(text[place + 1 : place + 2])
+            place += 2
+        else:
+            parts.append(sign)
+            place += 1
+    return "".join(parts), place
+
+
+def line_end(text: str, place: int) -> int:
+    """Where the line of a character ends."""
+    end = text.find("\n", place)
+    return len(text) if end < 0 else end
+
+
+def flags_of(words: Iterable[Word]) -> Flags:
+    """The flags of some words, as a node reads them: a flag has all words up to the next one. Nothing behind `-extra` is a flag."""
+    flags = Flags()
+    for flag, values in grouped(words):
+        if flag == "-config":
+            flags.configs += values
+        elif flag == "-kernel":
+            flags.kernel += zip(values[::2], values[1::2])
+        elif flag in ("-name", "-sname"):
+            flags.names += values[:1]
+    return flags
+
+
+def grouped(words: Iterable[Word]) -> "list[tuple[str, list[Word]]]":
+    """Each flag with its values. An emulator's flag, which begins with a plus, has none here."""
+    found: "list[tuple[str, list[Word]]]" = []
+    for word in words:
+        if word.text == "-extra":
+            break
+        if word.text[:1] in ("-", "+"):
+            found.append((word.text, []))
+        elif found:
+            found[-1][1].append(word)
+    return found

@@ -1,0 +1,74 @@
+"""Answers as JSON, in the form that docs/FORMATS.md describes.
+
+It is an interface: within a version a field keeps its name and its meaning, and later programs add fields alone.
+"""
+
+from __future__ import annotations
+
+import json
+from typing import Dict, Iterable, List
+
+from distac_view.answering.notes import Note
+from distac_view.answering.outages import longest_outage
+from distac_view.answering.what_if import Case, Fate, Reply
+from distac_view.asking.snapshots import marks_in
+from distac_view.common.names import bare_name
+
+VERSION = 1
+
+Fields = Dict[str, object]
+
+
+def json_of(question: str, fields: Fields, notes: Iterable[Note]) -> str:
+    """A whole answer: the version, which question it answers, the fields that the question has, and the notes."""
+    head: Fields = {"version": VERSION, "question": question}
+    return json.dumps({**head, **fields, "notes": notes_fields(notes)}, indent=2)
+
+
+def notes_fields(notes: Iterable[Note]) -> List[Fields]:
+    """The fields of notes."""
+    return [{"id": note.id, "text": note.text} for note in notes]
+
+
+def names_of(names: Iterable[str]) -> List[str]:
+    """Some names of nodes or applications, each without quotes."""
+    return [bare_name(name) for name in names]
+
+
+def name_or_none(name: str | None) -> str | None:
+    """The name of a node without quotes, or none where there is no node."""
+    return None if name is None else bare_name(name)
+
+
+def what_if_answer(reply: Reply, notes: Iterable[Note]) -> str:
+    """The answer of `what-if`."""
+    fields: Fields = {
+        "nodes": names_of(reply.configuration.nodes),
+        "net_ticktime": reply.tick_time,
+        "takes": reply.question.takes,
+        "sides": [{"nodes": names_of(answers.side.members)} for answers in reply.sides],
+        "cases": [case_fields(case, reply.tick_time) for case in reply.cases],
+    }
+    return json_of("what-if", fields, notes)
+
+
+def case_fields(case: Case, tick_time: int) -> Fields:
+    """The fields of a case."""
+    nodes = {"down": names_of(case.down), "returning": names_of(case.back)}
+    return {**nodes, "applications": [fate_fields(fate, tick_time) for fate in case.fates], "may_hang": names_of(case.may_hang)}
+
+
+def fate_fields(fate: Fate, tick_time: int) -> Fields:
+    """The fields of an application in a case."""
+    return {
+        "application": bare_name(fate.app),
+        "now": name_or_none(fate.now),
+        "then": name_or_none(fate.then),
+        "how": fate.how,
+        "milliseconds": fate.milliseconds,
+        "longest_outage": None if fate.wait is None else longest_outage(fate.wait, tick_time),
+        "back": name_or_none(fate.back),
+        "waits": fate.waits,
+        "stopped": fate.was_stopped,
+        "list": [{"node": bare_name(node), "mark": mark} for node, mark in marks_in(fate.marks)],
+    }

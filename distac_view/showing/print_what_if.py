@@ -1,0 +1,87 @@
+"""The answer to a what-if question as a table with notes."""
+
+from __future__ import annotations
+
+from typing import Iterable, Iterator
+
+from distac_view.answering.caveats import notes_on
+from distac_view.answering.outages import outage_of
+from distac_view.answering.what_if import Answers, Case, Fate, Reply, nowhere_at_first
+from distac_view.asking.snapshots import bare_marks
+from distac_view.common.names import bare_name, bare_names
+from distac_view.common.texts import columns_of, listed, padded, shown
+from distac_view.reading.configuration import Configuration
+
+HEADS = ("down", "application", "now", "then", "how", "after", "outage", "back")
+
+
+def table_of(reply: Reply, shows_all: bool = False) -> Iterator[str]:
+    """How long nodes are down, a table for each side, and what is to be said of it. Rows that stay are left out, unless asked for."""
+    yield f"each loss lasts {lasting(reply.question.takes, reply.configuration)}"
+    for number, answers in enumerate(reply.sides):
+        if len(reply.sides) > 1:
+            yield from [""] if number else []
+            yield shown(f"side of {listed(bare_names(answers.side.members))}:")
+        yield from side_table(reply, answers, shows_all)
+    notes = [*nobody_lines(reply), *(f"- {note.text}" for note in notes_on(reply))]
+    if notes:
+        yield ""
+        yield from notes
+
+
+def lasting(takes: int | None, configuration: Configuration) -> str:
+    """How long a restart takes, or is presumed to take."""
+    return f"longer than {max(configuration.timeouts.values())} ms" if takes is None else f"{takes} ms"
+
+
+def side_table(reply: Reply, answers: Answers, shows_all: bool) -> Iterator[str]:
+    """The table of one side."""
+    yield from lines_of_rows([HEADS, *rows_of_side(reply, answers, shows_all)])
+
+
+def rows_of_side(reply: Reply, answers: Answers, shows_all: bool) -> Iterator[tuple[str, ...]]:
+    """The rows of one side. What runs nowhere from the start on is told below them."""
+    nowhere = [held.app for held in nowhere_at_first(answers.side)]
+    for case in answers.cases:
+        yield from case_rows(case, nowhere, reply.tick_time, shows_all)
+
+
+def case_rows(case: Case, nowhere: list[str], tick_time: int, shows_all: bool) -> Iterator[tuple[str, ...]]:
+    """The rows of a case: the applications that go anywhere, and how many stay. What runs nowhere all the time is in neither."""
+    down, shown_ones = " ".join(bare_names(case.down)), case.fates if shows_all else [fate for fate in case.fates if not fate.stays]
+    for fate in shown_ones:
+        yield tuple(shown(text) for text in (down, *cells_of(fate, tick_time)))
+    count = sum(fate.app not in nowhere for fate in case.fates if fate.stays)
+    if count and not shows_all:
+        stay = "stays" if count == 1 else "stay"
+        yield ("" if shown_ones else shown(down), f"+ {count} {stay}")
+
+
+def cells_of(fate: Fate, tick_time: int) -> tuple[str, ...]:
+    """The row of an application, without the nodes that are down."""
+    app, now, then, back = (bare_name(name or "-") for name in (fate.app, fate.now, fate.then, fate.back))
+    if fate.waits:
+        return (app, now, then, "waits", "", "", back)
+    after = "" if fate.milliseconds is None else f"{fate.milliseconds} ms"
+    outage = "" if fate.wait is None else outage_of(fate.wait, tick_time)
+    how = "stays stopped" if fate.was_stopped and fate.how == "stays" else fate.how
+    return (app, now, then, how, after, outage, back)
+
+
+def lines_of_rows(rows: Iterable[tuple[str, ...]]) -> Iterator[str]:
+    """Rows as lines with columns of equal width. A row may end early, and what it ends with widens no column."""
+    all_rows = list(rows)
+    count = max(map(len, all_rows), default=0)
+    whole = [row for row in all_rows if len(row) == count]
+    widths = [max(columns_of(row[place]) for row in whole) for place in range(count)]
+    widths[:1] = [max(columns_of(row[0]) for row in all_rows)] if all_rows else []
+    for row in all_rows:
+        yield "  ".join(padded(cell, width) for cell, width in zip(row, widths)).rstrip()
+
+
+def nobody_lines(reply: Reply) -> Iterator[str]:
+    """Why nobody has an application that ran before, by the marks of its list."""
+    for case in reply.cases:
+        for fate in case.fates:
+            if fate.then is None and fate.now is not None and fate.marks and not fate.waits:
+                yield shown(f"{bare_name(fate.app)} without {listed(bare_names(case.down))}: {bare_marks(fate.marks)}")

@@ -1,0 +1,89 @@
+"""What a page says of its origin: the command, the moment, the files with their sums, the version, and who answered."""
+
+from __future__ import annotations
+
+import argparse
+import hashlib
+import os
+import shlex
+from dataclasses import dataclass
+from datetime import datetime, timezone
+from typing import Iterable, List
+
+from distac_view.common.version import version_line
+from distac_view.common.writing import PIPE
+from distac_view.showing.html_elements import section, text_in
+
+# The moment that a build gives its files, so that they are equal each time they are built.
+EPOCH = "SOURCE_DATE_EPOCH"
+
+
+@dataclass(frozen=True)
+class File:
+    """A file that was read: its name without folders, and the sum of what stands in it, unless it is a pipe, which is read once."""
+
+    name: str
+    mark: str
+
+    @property
+    def line(self) -> str:
+        """The file in a line."""
+        return f"{self.name}, SHA-256 {self.mark}" if self.mark else self.name
+
+
+@dataclass(frozen=True)
+class Asked:
+    """The origin of a page."""
+
+    command: str
+    moment: str
+    files: List[File]
+    version: str
+    program: str
+
+    @property
+    def section(self) -> str:
+        """The part of a page that tells it."""
+        files = [(f"File {number}" if len(self.files) > 1 else "File", file.line) for number, file in enumerate(self.files, 1)]
+        rows = [("Command", self.command), *files, ("When", self.moment), ("Version", self.version), ("Answered by", self.program)]
+        pairs = "".join(f"<dt>{text_in(name)}</dt><dd>{text_in(value)}</dd>" for name, value in rows)
+        return section("How this was asked", f"<dl>{pairs}</dl>")
+
+
+def asked_by(words: argparse.Namespace, read: Iterable[str], program: str) -> Asked:
+    """The origin of a page by a command line and the files that it read."""
+    paths = list(read)
+    named = [*paths, words.output, *([words.distac] if words.distac else [])]
+    command = shlex.join(["distac-view", *(without_folders(word, named) for word in words.arguments)])
+    return Asked(command, moment(), [file_at(path) for path in paths], version_line(), program)
+
+
+def file_name(path: str) -> str:
+    """The name of a file without its folders."""
+    return "standard input" if path == PIPE else os.path.basename(path) or path
+
+
+def without_folders(word: str, paths: List[str]) -> str:
+    """A word of a command line in which a path has no folders, as in `--after=scripts/repair.distac`."""
+    longest = max((path for path in paths if os.sep in path and word.endswith(path)), key=len, default="")
+    return word[: len(word) - len(longest)] + os.path.basename(longest)
+
+
+def file_at(path: str) -> File:
+    """A file with its sum."""
+    if path == PIPE or not os.path.isfile(path):
+        return File(file_name(path), "")
+    try:
+        with open(path, "rb") as file:
+            return File(file_name(path), hashlib.sha256(file.read()).hexdigest())
+    except OSError:
+        return File(file_name(path), "")
+
+
+def moment() -> str:
+    """The moment of the question, in UTC."""
+    try:
+        now = datetime.fromtimestamp(int(os.environ[EPOCH]), timezone.utc)
+    except (KeyError, ValueError, OverflowError, OSError):
+        now = datetime.now(timezone.utc)
+    return now.strftime("%Y-%m-%d %H:%M UTC")

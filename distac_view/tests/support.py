@@ -1,0 +1,74 @@
+"""What the tests share: the repository, `distac`, and `distac-view` run in this process or in one of its own."""
+
+from __future__ import annotations
+
+import io
+import os
+import subprocess
+import sys
+from dataclasses import dataclass
+from pathlib import Path
+from unittest import mock
+
+TOP = Path(__file__).resolve().parents[2]
+EXAMPLES = TOP / "examples"
+MISTAKES = Path(__file__).resolve().parent / "mistakes"
+STAND_IN = Path(__file__).resolve().parent / "stand_in.py"
+PROGRAM = os.environ.get("DISTAC") or str(STAND_IN)
+IS_STAND_IN = PROGRAM == str(STAND_IN)
+
+sys.path[:0] = [str(TOP), str(TOP / "models")]
+
+from distac_view.asking.program import Distac, found_distac
+from distac_view.cli import command_line
+
+
+@dataclass(frozen=True)
+class Said:
+    """What `distac-view` did: its exit status, and what it printed."""
+
+    status: int
+    output: str
+    errors: str
+
+
+def distac() -> Distac:
+    """The program that DISTAC names, or the models in this process."""
+    if not IS_STAND_IN:
+        return found_distac(PROGRAM)
+    from stand_in import MODELS
+
+    return Distac(lambda word, source: MODELS[word](source))
+
+
+def view(*words: str, program: str | None = None) -> Said:
+    """Runs `distac-view` in this process, and has it ask a program, or what the tests ask. A file has to be named."""
+    output, errors = io.TextIOWrapper(io.BytesIO()), io.TextIOWrapper(io.BytesIO())
+    with mock.patch.object(sys, "stdout", output), mock.patch.object(sys, "stderr", errors):
+        with mock.patch.object(command_line, "found_distac", lambda _: found_distac(program) if program else distac()):
+            status = status_of(list(words))
+    return Said(status, written(output), written(errors))
+
+
+def status_of(words: list[str]) -> int:
+    """The exit status of `distac-view`, also where its command line ends it."""
+    try:
+        return int(command_line.run(words))
+    except SystemExit as end:
+        return int(end.code or 0)
+
+
+def written(stream: io.TextIOWrapper) -> str:
+    """What was written to a stream in memory."""
+    stream.flush()
+    kept = stream.buffer
+    assert isinstance(kept, io.BytesIO)
+    return kept.getvalue().decode("utf-8", "surrogateescape")
+
+
+def run_view(*words: str, source: bytes = b"", program: str = PROGRAM) -> Said:
+    """Runs `distac-view` in a process of its own."""
+    surroundings = {**os.environ, "DISTAC": program}
+    done = subprocess.run([sys.executable, str(TOP / "distac-view"), *words], input=source, capture_output=True, env=surroundings)
+    decoded = (stream.decode("utf-8", "surrogateescape") for stream in (done.stdout, done.stderr))
+    return Said(done.returncode, *decoded)
