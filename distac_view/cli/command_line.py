@@ -30,9 +30,6 @@ from distac_view.showing.provenance import asked_by
 from distac_view.showing.script_rows import answers_in, rows_of, unknown_names
 from distac_view.showing.timeline import Drafting
 
-if TYPE_CHECKING:
-    from _typeshed import SupportsWrite
-
 MOST_DRAWN = 1_000
 
 
