@@ -25,10 +25,10 @@ from typing import Any, Dict
 sys.dont_write_bytecode = True
 sys.path.insert(0, str(Path(__file__).resolve().parent))
 
-from distac_view.reading.configuration import configuration_of
-from distac_view.reading.equal_times import pairs_among
 from erlang_nodes import HOST, Cluster, is_installed, release_of_otp
 from support import run_view
+from distac_view.reading.configuration import configuration_of
+from distac_view.reading.equal_times import pairs_among
 
 NODES = tuple(f"{name}@{HOST}" for name in ("cp1", "cp2", "cp3"))
 SINGLE = tuple((node,) for node in NODES)

@@ -4,10 +4,10 @@ from __future__ import annotations
 
 import unittest
 
+from support import distac
 from distac_view.asking.inputs import check_config
 from distac_view.reading.configuration import Configuration
 from distac_view.reading.equal_times import pairs_among, pairs_that_hang
-from support import distac
 
 LIST, TUPLE, OTHER_WAY = "[cp1,cp2,cp3]", "[cp1,{cp2,cp3}]", "[cp1,cp3,cp2]"
 HUNG = (

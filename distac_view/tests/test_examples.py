@@ -7,9 +7,9 @@ import unittest
 from html.parser import HTMLParser
 from pathlib import Path
 
+from support import EXAMPLES, distac, view
 from distac_view.asking.inputs import answers_of, load_script
 from distac_view.showing.script_rows import EXPLAINS
-from support import EXAMPLES, distac, view
 
 SCRIPTS = sorted(path for path in EXAMPLES.glob("*.distac") if not path.name.startswith("live-"))
 CONFIGS = sorted(EXAMPLES.glob("*.config"))

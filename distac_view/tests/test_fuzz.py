@@ -16,9 +16,9 @@ from pathlib import Path
 from random import Random
 from typing import List, Tuple
 
-from distac_view.cli.command_line import SUBCOMMANDS
 from json_schema import documented
 from support import EXAMPLES, IS_STAND_IN, MISTAKES, PROGRAM, TOP, Said, view
+from distac_view.cli.command_line import SUBCOMMANDS
 
 SEED = os.environ.get("DISTAC_VIEW_SEED", "1")
 COUNT = int(os.environ.get("DISTAC_VIEW_INPUTS", "160" if IS_STAND_IN else "400"))

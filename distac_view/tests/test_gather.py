@@ -12,10 +12,10 @@ from pathlib import Path
 from random import Random
 from unittest import mock
 
-from distac_view.reading.erlang_reader import has_erlang
 from hostile_files import FINE, hostile_sources
 from random_clusters import random_cluster
 from support import EXAMPLES, Said, distac, run_view, view
+from distac_view.reading.erlang_reader import has_erlang
 
 COUNT = 200
 NODES = Path(__file__).resolve().parent / "nodes"

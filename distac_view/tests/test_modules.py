@@ -58,6 +58,13 @@ class Modules(unittest.TestCase):
         for one, other in permutations(MODULES, 2):
             self.assertFalse(other.startswith(one), (one, other))
 
+    def test_each_test_runs_alone(self) -> None:
+        """A file of tests finds the package by the module support, so it imports that before anything of the package."""
+        for path in sorted((PACKAGE / "tests").glob("test_*.py")):
+            modules = [str(node.module) for node in ast.parse(path.read_text("utf-8")).body if isinstance(node, ast.ImportFrom)]
+            is_ours = [module.startswith("distac_view") for module in modules]
+            self.assertEqual(is_ours, sorted(is_ours), path.name)
+
     def test_each_import_is_used(self) -> None:
         for path in (*MODULES.values(), *sorted((PACKAGE / "tests").glob("*.py"))):
             text = path.read_text("utf-8")

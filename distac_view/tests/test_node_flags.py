@@ -10,12 +10,12 @@ import unittest
 from pathlib import Path
 from random import Random
 
+from support import Said, distac, view
 from distac_view.cli.gather import ERLANG_LINE
 from distac_view.reading.erlang_reader import has_erlang
 from distac_view.reading.erlang_tokens import Misread
 from distac_view.reading.templates import filled_in
 from distac_view.reading.vm_args import words_of
-from support import Said, distac, view
 
 HERE = Path(__file__).resolve().parent
 FLAGS = HERE / "nodes" / "flags"

@@ -13,9 +13,9 @@ import unittest
 from pathlib import Path
 from typing import Iterator, List
 
+from support import EXAMPLES, PROGRAM, TOP, view
 from distac_view.cli.command_line import SUBCOMMANDS, parser_of_words
 from distac_view.cli.help_texts import EXAMPLES as HELP_EXAMPLES
-from support import EXAMPLES, PROGRAM, TOP, view
 
 MANUAL = str(EXAMPLES / "manual.config")
 PACKAGE = TOP / "distac_view"

@@ -14,11 +14,11 @@ from pathlib import Path
 from typing import Any, Dict, List, Tuple
 from unittest import mock
 
+from support import EXAMPLES, PROGRAM, Said, run_view, view
 from distac_view.asking.program import NAMED
 from distac_view.common.version import version_line
 from distac_view.showing.html_elements import wrapped
 from distac_view.showing.provenance import EPOCH
-from support import EXAMPLES, PROGRAM, Said, run_view, view
 
 MANUAL = str(EXAMPLES / "manual.config")
 FLEET = """[{kernel,[{distributed,[{billing,8000,['shop-1@10.0.0.11',{'shop-2@10.0.0.12',c@h}]},{mail,5000,['shop-2@10.0.0.12',{'shop-1@10.0.0.11',c@h}]},

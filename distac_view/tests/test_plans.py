@@ -11,6 +11,10 @@ from pathlib import Path
 from random import Random
 from unittest import mock
 
+from json_schema import documented
+from support import EXAMPLES, IS_STAND_IN, distac, view
+from test_starts import checked_of, random_places
+from test_what_if import random_config
 from distac_view.answering import load as loads
 from distac_view.answering.changes import changes_between
 from distac_view.answering.load import load_on
@@ -20,10 +24,6 @@ from distac_view.asking.openings import Side, opened
 from distac_view.asking.running_now import opened_now
 from distac_view.asking.snapshots import marks_in
 from distac_view.showing.print_load import budget_faults
-from json_schema import documented
-from support import EXAMPLES, IS_STAND_IN, distac, view
-from test_starts import checked_of, random_places
-from test_what_if import random_config
 
 COUNT = 16 if IS_STAND_IN else 200
 SHOP = (

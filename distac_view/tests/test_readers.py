@@ -10,12 +10,12 @@ from random import Random
 from unittest import mock
 
 import support
+from hostile_files import hostile_sources
+from random_terms import changed, random_file
 from distac_view.common.problems import Problem
 from distac_view.reading.erlang_reader import decoded, has_erlang, read_by_erlang, read_by_own
 from distac_view.reading.erlang_terms import Atom, Other, term_of
 from distac_view.reading.erlang_tokens import Misread, byte_tokens
-from hostile_files import hostile_sources
-from random_terms import changed, random_file
 
 COUNT = 400
 ASIDE = Other("list with a tail")

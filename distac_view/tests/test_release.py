@@ -13,8 +13,8 @@ import unittest
 from pathlib import Path
 from typing import Dict, List
 
-from distac_view.common.version import CHANGED, UNKNOWN, VERSION, commit_of
 from support import TOP, view
+from distac_view.common.version import CHANGED, UNKNOWN, VERSION, commit_of
 
 PARTS = ("distac_view/*.py", "distac_view/[!t]*/*.py", "models/*.py", "distac-view", "docs/distac-view.schema.json", "LICENSE")
 FAKE = """#!/bin/sh

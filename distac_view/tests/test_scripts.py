@@ -5,8 +5,9 @@ from __future__ import annotations
 import unittest
 from random import Random
 
-from check import MOST_INPUT
-from check import read_config
+from support import IS_STAND_IN, distac
+from check import MOST_INPUT, read_config
+from random_scripts import CALM, CONFIGS, DRAINS, LETTERS, PAUSES, ScriptMaker, decorated, odd_input, with_fault
 from distac_view.asking.inputs import answers_of, check_config, checked_lines, plain_of
 from distac_view.asking.program import lines_of
 from distac_view.common.diagnostics import Faulty
@@ -15,8 +16,6 @@ from distac_view.reading.faults import Part, fault_of
 from distac_view.reading.script_file import Line, Script, script_of
 from distac_view.reading.tell_lines import written_out
 from distac_view.showing.script_rows import EXPLAINS, Layout
-from random_scripts import CALM, CONFIGS, DRAINS, LETTERS, PAUSES, ScriptMaker, decorated, odd_input, with_fault
-from support import IS_STAND_IN, distac
 
 COUNT = 150 if IS_STAND_IN else 400
 

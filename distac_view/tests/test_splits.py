@@ -9,10 +9,10 @@ from pathlib import Path
 from random import Random
 from typing import Any, Iterator
 
-from distac_view.asking.snapshots import page_of
 from json_schema import documented
 from support import Said, distac, view
 from test_what_if import random_config
+from distac_view.asking.snapshots import page_of
 
 FOUR = (
     "[{kernel,[{distributed,[{a1,400,[c1@h,c2@h,c3@h,c4@h]},{a2,700,[c3@h,c1@h,c4@h,c2@h]},"

@@ -12,7 +12,10 @@ from functools import partial
 from pathlib import Path
 from random import Random
 
+from support import EXAMPLES, IS_STAND_IN, distac, view
 from check import read_config
+from random_scripts import CALM, CONFIGS, DRAINS, PAUSES, ScriptMaker
+from test_what_if import random_config
 from distac_view.answering.caveats import notes_on
 from distac_view.answering.outages import outage_of
 from distac_view.answering.what_if import Question, Reply, reply_on
@@ -26,9 +29,6 @@ from distac_view.asking.snapshots import page_of
 from distac_view.common.output import Progress
 from distac_view.reading.configuration import Checked
 from distac_view.reading.forbidden import comment_of, forbidden_in
-from random_scripts import CALM, CONFIGS, DRAINS, PAUSES, ScriptMaker
-from support import EXAMPLES, IS_STAND_IN, distac, view
-from test_what_if import random_config
 
 COUNT = 60 if IS_STAND_IN else 300
 # In this random case two rounds are needed at the moment at which the waits of a return are over.

@@ -12,9 +12,9 @@ import unittest
 from pathlib import Path
 from typing import List
 
+from support import EXAMPLES, PROGRAM, TOP, Said, view
 from distac_view.common.problems import Problem
 from distac_view.common.writing import write_whole
-from support import EXAMPLES, PROGRAM, TOP, Said, view
 
 MANUAL, FAILOVER = str(EXAMPLES / "manual.config"), str(EXAMPLES / "failover.distac")
 UNWRITABLE = (">&-", ">/dev/full", "1</dev/null", ">&- 2>&-", ">&- 2>&- <&-", ">/dev/full 2>/dev/full")

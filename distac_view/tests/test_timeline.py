@@ -10,13 +10,13 @@ from pathlib import Path
 from typing import Dict, List, Tuple
 from xml.etree import ElementTree
 
+from support import EXAMPLES, view
 from distac_view.reading.configuration import Application, Configuration
 from distac_view.reading.script_file import script_of
 from distac_view.showing.html_frame import DARK, LIGHT, PAPER
 from distac_view.showing.html_timeline import first_rows
 from distac_view.showing.svg_timeline import HUES, ROWS_OF_PART, color_of
 from distac_view.showing.timeline import Claimed, Timeline
-from support import EXAMPLES, view
 
 SCRIPTS = sorted(path for path in EXAMPLES.glob("*.distac") if not path.name.startswith("live-"))
 PICTURE = re.compile(r"<svg .*?</svg>", re.DOTALL)

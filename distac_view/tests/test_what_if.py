@@ -14,9 +14,9 @@ from typing import Optional, Tuple
 from support import IS_STAND_IN, distac
 import placement
 from check import Config, read_config
+from world import Refused, World
 from distac_view.answering.what_if import Question, reply_on
 from distac_view.asking.inputs import check_config
-from world import Refused, World
 
 COUNT = 500
 PENDING = (placement.START, placement.FAILOVER, placement.MOVE, placement.TAKEOVER)

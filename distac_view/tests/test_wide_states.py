@@ -7,10 +7,10 @@ import unittest
 from pathlib import Path
 from typing import List
 
+from support import IS_STAND_IN, view
 from distac_view.asking.sim_output import Answered
 from distac_view.asking.wide_states import MOST_LIVES, too_wide
 from distac_view.reading.script_file import Line
-from support import IS_STAND_IN, view
 
 HEAD = "[{kernel,[{distributed,[{a,[x,y]}]}]}].\n--\n"
 
