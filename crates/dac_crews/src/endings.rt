@@ -28,14 +28,14 @@ fn put_back<L: SiteName, H: Watch>(
     seats: &mut Vec<Seat<L>>,
     all: &mut Vec<Seen>,
 ) -> Result<(), RunFault> {
-    let (seat, fresh) = task.into_parts();
+    let (seat, reads) = task.into_parts();
     let caller = seat.number();
     seats.push(seat)?;
-    if let Some(fresh) = fresh {
+    if let Some(reads) = reads {
         all.push(Seen {
             node,
             caller,
-            fresh,
+            reads,
         })?;
     }
     Ok(())

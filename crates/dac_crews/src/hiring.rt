@@ -122,7 +122,7 @@ fn caller_of<'a, L: SiteName>(
             seat,
             reader,
             last: None,
-            fresh: Vec::new(post.alloc),
+            reads: Vec::new(post.alloc),
         }),
         None => Err(RunFault::NoPage { node: post.node }),
     }

@@ -2,7 +2,7 @@
 
 use dac_base::NodeId;
 use dac_messages::Event;
-use dac_workers::{Closed, Page};
+use dac_workers::{Closed, Page, Reading};
 
 /// What a caller's line asks for.
 #[derive(Drop)]
@@ -31,15 +31,15 @@ pub struct Phase {
     pub lines: Vec<Line>,
 }
 
-/// What a caller of a node read: of each of its lines that reads, whether the page was fresh.
+/// What a caller of a node read.
 #[derive(Drop)]
 pub struct Seen {
     /// The node.
     pub node: NodeId,
     /// The caller, by its number.
     pub caller: u16,
-    /// Of each of its lines that reads.
-    pub fresh: Vec<bool>,
+    /// Of each of its lines that reads, in order: the page, and whether it was fresh.
+    pub reads: Vec<Reading>,
 }
 
 /// What came of the phases: the journals, the final pages, and what the callers read.

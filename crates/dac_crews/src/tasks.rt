@@ -23,8 +23,8 @@ pub(crate) struct Caller<'a, L: SiteName> {
     pub(crate) reader: PageReader<L>,
     /// The receipt that it was given last.
     pub(crate) last: Option<Receipt<L>>,
-    /// Of each of its lines that reads, whether the page was fresh.
-    pub(crate) fresh: Vec<bool>,
+    /// What its lines read so far, in order.
+    pub(crate) reads: Vec<Reading>,
 }
 
 impl<L: SiteName> Caller<'_, L> {
@@ -56,13 +56,10 @@ impl<L: SiteName> Caller<'_, L> {
         }
     }
 
-    /// Reads the page of its node, and notes whether it was fresh.
+    /// Reads the page of its node behind its last receipt, and keeps it.
     fn read(&mut self) -> Result<(), RunFault> {
-        let fresh = match fresh_page(&mut self.last, &mut self.reader) {
-            Reading::Fresh(_) => true,
-            Reading::Stale(_) => false,
-        };
-        self.fresh.push(fresh)?;
+        let reading = fresh_page(&mut self.last, &mut self.reader);
+        self.reads.push(reading)?;
         Ok(())
     }
 
@@ -189,10 +186,10 @@ impl<L: SiteName, H: Watch> Task<'_, L, H> {
         }
     }
 
-    /// Its seat, and of each of its lines that reads, if it is a caller, whether the page was fresh.
-    pub(crate) fn into_parts(self) -> (Seat<L>, Option<Vec<bool>>) {
+    /// Its seat, and what its lines read, if it is a caller.
+    pub(crate) fn into_parts(self) -> (Seat<L>, Option<Vec<Reading>>) {
         match self {
-            Task::Call(caller) => (caller.seat, Some(caller.fresh)),
+            Task::Call(caller) => (caller.seat, Some(caller.reads)),
             Task::Ship(shipper) => (shipper.seat, None),
             Task::Hear(listener) => (listener.seat, None),
         }
