@@ -6,7 +6,7 @@
 #![tactic(auto)]
 
 pub use dac_workers::compare::{SHIPS_OF_PHASE, are_heard, are_ships, event_of, sent_by};
-pub use dac_workers::{Answer, CloseFault, Closed, Gate, Page, Record, RunFault, replay};
+pub use dac_workers::{Answer, CloseFault, Closed, Gate, Page, Record, RunFault};
 pub use hiring::{CALLERS, ROOM};
 pub use phases::{Ask, Line, Outcome, Phase, Seen};
 pub use sites::{MAX_SITES, run_sites};

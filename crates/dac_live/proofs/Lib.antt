@@ -1,3 +1,5 @@
+mod Followed
+mod Passed
 mod Repeated
 mod Seating
 mod Shipped

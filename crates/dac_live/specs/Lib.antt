@@ -1,7 +1,9 @@
 pub mod Asked
+pub mod Following
 pub mod Lines
 pub mod Nodes
 pub mod Pairs
+pub mod Reads
 pub mod Seating
 pub use Rattle.dac_sites.specs.Sites
 pub use Rattle.dac_crews.specs.RunFault

@@ -4,6 +4,9 @@ use Rattle.std.specs.List.{AllZip}
 use Rattle.dac_messages.specs.declared.event.Event.{Event}
 use Rattle.dac_messages.specs.declared.reply.Reply.{Reply}
 use Rattle.dac_events.specs.declared.refusal.Refusal.{Refusal}
+use Rattle.dac_pages.specs.declared.page.Page.{Page}
+use Rattle.dac_workers.specs.declared.reading.Reading.{Reading}
+use Rattle.dac_workers.specs.declared.reading.Reading.TheVariants as reading
 use Rattle.dac_crews.specs.Record.{Record}
 use Rattle.dac_crews.specs.Journals.{JournalValue}
 use Rattle.dac_crews.specs.Compared.{found, event_one}
@@ -80,21 +83,21 @@ abbrev pub AreAnswered : List Phase → List (List LineAnswer) → Type 0
 AreAnswered phases answers =
     AllZip (λ (p : Phase) (all : List LineAnswer). LinesAnswered p.lines.items all) phases answers
 
--- ---- what is handed out to a caller's lines, by what it saw: the next one stands last
--- of a page that was seen fresh, or was not
-abbrev pub seen_as : Bool → LineAnswer
-seen_as true = Fresh
-seen_as false = Stale
+-- ---- what is handed out to a caller's lines, by what it read: the next one stands last
+-- what came of a line that read so, and its page
+abbrev pub seen_as : Reading → LineAnswer × Option Page
+seen_as (reading.Fresh page) = (Fresh, Some page)
+seen_as (reading.Stale page) = (Stale, page)
 
--- a line that reads is handed out what was seen next, and nothing where no more was seen
-abbrev pub HandedReading : List Bool → List Bool → Option LineAnswer → Type 0
-HandedReading seen left None = seen ≡ []
-HandedReading seen left (Some answer) = (fresh : Bool) × (seen ≡ left ++ fresh ∷ []) × (answer ≡ seen_as fresh)
+-- a line that reads is handed out what was read next, and nothing where no more was read
+abbrev pub HandedReading : List Reading → List Reading → Option (LineAnswer × Option Page) → Type 0
+HandedReading reads left None = reads ≡ []
+HandedReading reads left (Some told) = (one : Reading) × (reads ≡ left ++ one ∷ []) × (told ≡ seen_as one)
 
--- a line that asks leaves what was seen as it is
-abbrev pub Handed : Ask → List Bool → List Bool → Option LineAnswer → Type 0
-Handed (Do event) seen left answer = left ≡ seen
-Handed Read seen left answer = HandedReading seen left answer
+-- a line that asks leaves what was read as it is
+abbrev pub Handed : Ask → List Reading → List Reading → Option (LineAnswer × Option Page) → Type 0
+Handed (Do event) reads left told = left ≡ reads
+Handed Read reads left told = HandedReading reads left told
 
 -- ---- callers' seats
 -- the records of this caller's seat are what its lines ask, in order, and were answered as the lines are

@@ -1,13 +1,14 @@
-//! Answers and readings, handed out to the lines that they are of.
+//! Answers and pages, handed out to the lines that they are of.
 
 ghost use Rattle.std.specs.Prelude.{◌≡◌, IfOk, reverse};
 ghost use Rattle.dac_live.specs.Lines.{seen_as, Handed, HandedReading};
 
 use crate::callers::answers_of;
-use crate::lists::AnswerList;
+use crate::lists::{AnswerList, ReadList};
 use crate::report::LineAnswer;
 use dac_base::NodeId;
-use dac_crews::{Answer, Ask, CloseFault, Closed, Line, Phase, RunFault, Seen};
+use dac_crews::{Answer, Ask, CloseFault, Closed, Line, Page, Phase, RunFault, Seen};
+use dac_workers::Reading;
 use std::alloc::Global;
 
 /// What is still to be handed out of what a caller was answered and read. The next one stands last.
@@ -16,65 +17,65 @@ struct Rest {
     node: NodeId,
     caller: u16,
     answers: Vec<Answer>,
-    fresh: Vec<bool>,
+    reads: Vec<Reading>,
 }
 
-/// What came of a line that reads, where the page was fresh or was not.
-fn reading_of(fresh: bool) -> LineAnswer
-    ensures { result ≡ seen_as fresh }
+/// What came of a line that read so, and its page.
+fn seen_as(reading: Reading) -> (LineAnswer, Option<Page>)
+    ensures { result ≡ seen_as reading }
 {
-    if fresh {
-        LineAnswer::Fresh
-    } else {
-        LineAnswer::Stale
+    match reading {
+        Reading::Fresh(page) => (LineAnswer::Fresh, Some(page)),
+        Reading::Stale(page) => (LineAnswer::Stale, page),
     }
 }
 
-/// What came of the next line that reads. `None` where the caller read no further one.
-fn next_reading(fresh: &mut Vec<bool>) -> Option<LineAnswer>
-    ensures { HandedReading fresh.old.items fresh.new.items result }
+/// What came of the next line that reads, and its page. `None` where the caller read no further one.
+fn next_reading(reads: &mut Vec<Reading>) -> Option<(LineAnswer, Option<Page>)>
+    ensures { HandedReading reads.old.items reads.new.items result }
 {
-    match fresh.pop() {
-        Some(one) => Some(reading_of(one)),
+    match reads.pop() {
+        Some(one) => Some(seen_as(one)),
         None => None,
     }
 }
 
 impl Rest {
-    /// What came of its next line, which asks for this. `None` where it was not answered so often, or read no further page.
-    fn next(&mut self, what: &Ask) -> Option<LineAnswer>
-        ensures { Handed what.now self.old.fresh.items self.new.fresh.items result }
+    /// What came of its next line, which asks for this, and the page if it reads one. `None` where it was not answered so often, or
+    /// read no further page.
+    fn next(&mut self, what: &Ask) -> Option<(LineAnswer, Option<Page>)>
+        ensures { Handed what.now self.old.reads.items self.new.reads.items result }
     {
         match what {
             Ask::Do(_) => match self.answers.pop() {
-                Some(answer) => Some(LineAnswer::Done(answer)),
+                Some(answer) => Some((LineAnswer::Done(answer), None)),
                 None => None,
             },
-            Ask::Read => next_reading(&mut self.fresh),
+            Ask::Read => next_reading(&mut self.reads),
         }
     }
 }
 
 /// What is to be handed out to a caller.
 fn rest_of(alloc: Global, closed: &[Closed], seen: Seen) -> Result<Rest, RunFault>
-    ensures { IfOk result (λ rest. rest.fresh.items ≡ reverse seen.fresh.items) }
+    ensures { IfOk result (λ rest. rest.reads.items ≡ reverse seen.reads.items) }
 {
     let Seen {
         node,
         caller,
-        mut fresh,
+        mut reads,
     } = seen;
     let Some(one) = closed.get(usize::from(node.0)) else {
         return Err(RunFault::NoPage { node });
     };
     let mut answers = answers_of(alloc, one.records(), caller)?;
     answers.reverse();
-    fresh.reverse();
+    reads.reverse();
     Ok(Rest {
         node,
         caller,
         answers,
-        fresh,
+        reads,
     })
 }
 
@@ -88,8 +89,8 @@ fn rests_of(alloc: Global, closed: &[Closed], all: Vec<Seen>) -> Result<Vec<Rest
     Ok(rests)
 }
 
-/// What came of the next line of its caller. `None` where there is no such caller, or it was not answered so often.
-fn next_of(rests: &mut [Rest], line: &Line) -> Option<LineAnswer> {
+/// What came of the next line of its caller, and its page. `None` where there is no such caller, or it was not answered so often.
+fn next_of(rests: &mut [Rest], line: &Line) -> Option<(LineAnswer, Option<Page>)> {
     for i in 0..rests.len() {
         let rest = &mut rests[i];
         if rest.node == line.node && rest.caller == u16::from(line.caller) {
@@ -99,17 +100,23 @@ fn next_of(rests: &mut [Rest], line: &Line) -> Option<LineAnswer> {
     None
 }
 
-/// What came of each line of a phase.
-fn answers_in(alloc: Global, rests: &mut [Rest], lines: &[Line]) -> Result<AnswerList, RunFault> {
-    let mut all = Vec::new(alloc);
+/// What came of each line of a phase, and the page that it read.
+fn told_in(
+    alloc: Global,
+    rests: &mut [Rest],
+    lines: &[Line],
+) -> Result<(AnswerList, ReadList), RunFault> {
+    let mut answers = Vec::new(alloc);
+    let mut reads = Vec::new(alloc);
     for i in 0..lines.len() {
         let line = &lines[i];
-        let Some(answer) = next_of(rests, line) else {
+        let Some((answer, read)) = next_of(rests, line) else {
             return Err(mismatch(line.node));
         };
-        all.push(answer)?;
+        answers.push(answer)?;
+        reads.push(read)?;
     }
-    Ok(AnswerList::new(all))
+    Ok((AnswerList::new(answers), ReadList::new(reads)))
 }
 
 /// The records of a caller's seat aren't what its lines ask, and so no record is named.
@@ -118,20 +125,23 @@ pub(crate) fn mismatch(node: NodeId) -> RunFault {
     RunFault::Close { node, why }
 }
 
-/// What came of each line of each phase, by what the callers read and what the journals, which stand by name, say of them.
-/// Whether it is so is left to [`are_answered`](crate::are_answered) and [`strange_node`](crate::strange_node).
-pub(crate) fn all_answers(
+/// What came of each line of each phase, and the page that it read, by what the callers read and what the journals, which stand by
+/// name, say of them. Whether it is so is left to [`are_answered`](crate::are_answered), [`strange_node`](crate::strange_node),
+/// [`last_pages`](crate::last_pages) and [`strange_read`](crate::receipts::strange_read).
+pub(crate) fn all_told(
     alloc: Global,
     phases: &[Phase],
     closed: &[Closed],
     seen: Vec<Seen>,
-) -> Result<Vec<AnswerList>, RunFault> {
+) -> Result<(Vec<AnswerList>, Vec<ReadList>), RunFault> {
     let mut rests = rests_of(alloc, closed, seen)?;
-    let mut all = Vec::new(alloc);
+    let mut answers = Vec::new(alloc);
+    let mut reads = Vec::new(alloc);
     for i in 0..phases.len() {
         let phase = &phases[i];
-        let answers = answers_in(alloc, rests.as_mut_slice(), phase.lines.as_slice())?;
-        all.push(answers)?;
+        let (told, read) = told_in(alloc, rests.as_mut_slice(), phase.lines.as_slice())?;
+        answers.push(told)?;
+        reads.push(read)?;
     }
-    Ok(all)
+    Ok((answers, reads))
 }

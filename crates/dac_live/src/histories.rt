@@ -1,15 +1,20 @@
-//! Whether a journal's records are a history of its node.
+//! A journal's records, replayed once: the answers, the pages that were read, and the page after all of them.
 
-ghost use Rattle.std.specs.Prelude.{◌≡◌, ◌≢◌, true, IfErr, IfOk, OnOk};
+ghost use Rattle.std.specs.Prelude.{◌≡◌, ◌≢◌, ◌≤◌, true, All, IfErr, IfOk, IfSome, OnOk, length, map};
+ghost use Rattle.std.specs.List.{AllWithin};
+ghost use Rattle.dac_crews.specs.Paged.{page_of, page_after};
 ghost use Rattle.dac_journal.specs.Journals.{beginning_of, AreHistory};
 ghost use Rattle.dac_journal.specs.Step.{Steps};
+ghost use Rattle.dac_live.specs.Reads.{IsPageOf};
 
 use crate::callers::same_answer;
+use crate::same_pages::same_page;
 use dac_base::{NoMemory, NodeId};
 use dac_config::Config;
-use dac_crews::{Answer, Record};
+use dac_crews::{Answer, Page, Record};
 use dac_events::Refusal;
 use dac_journal::Node;
+use dac_sites::page_of;
 use std::alloc::Global;
 
 /// Refuses an answer that memory was refused: nothing was answered.
@@ -34,28 +39,74 @@ fn repeats(config: &Config, me: NodeId, node: &mut Node, one: &Record) -> Result
         (λ same. same ≡ true → Steps config.now me node.old one.now.event node.new one.now.answer) }
 {
     let event = one.event.copy()?;
+    node.warm(&event);
     let answer = node.step(config, me, event);
     is_answered(&answer)?;
     Ok(same_answer(&answer, &one.answer))
 }
 
-/// Whether the records are a history of this node, which had no incarnation before them: each answer is that of a node of
-/// this configuration, one after another from one that is off. [`NoMemory`] is the only error.
-pub fn are_history(
+/// Goes past the pages of this place, of pages that stand by their places, from this one on. `None` where one of them isn't the
+/// node's page.
+fn passed(
+    alloc: Global,
+    config: &Config,
+    place: u64,
+    node: &Node,
+    reads: &[&Page],
+    from: usize,
+) -> Option<usize>
+    requires { from ≤ length reads.now }
+    ensures { IfSome result (λ to. (to ≤ length reads.now)
+        × AllWithin (λ p. p.now ≡ page_of config.now place node.now) reads.now from to) }
+{
+    if from >= reads.len() || reads[from].place != place {
+        return Some(from);
+    }
+    let there = page_of(alloc, config, place, node);
+    for i in from..reads.len() {
+        if reads[i].place != place {
+            return Some(i);
+        }
+        if !same_page(&there, reads[i]) {
+            return None;
+        }
+    }
+    Some(reads.len())
+}
+
+/// The page after all records, if they are a history of this node, which had no incarnation before them, and each of the pages is
+/// the one after as many of them as its place says. The pages stand by their places. [`NoMemory`] is the only error.
+pub fn page_of_history(
     alloc: Global,
     config: &Config,
     me: NodeId,
     records: &[Record],
-) -> Result<bool, NoMemory>
-    ensures { IfOk result (λ b. b ≡ true → AreHistory (beginning_of config.now me 0) records.now) }
+    reads: &[&Page],
+) -> Result<Option<Page>, NoMemory>
+    ensures page { IfOk result
+        (λ o. IfSome o (λ page. page ≡ page_after (beginning_of config.now me 0) records.now)) }
+    ensures history { IfOk result
+        (λ o. IfSome o (λ _. AreHistory (beginning_of config.now me 0) records.now)) }
+    ensures reads { IfOk result (λ o. IfSome o (λ _.
+        All (IsPageOf (beginning_of config.now me 0) records.now) (map (λ p. p.now) reads.now))) }
 {
     let mut node = Node::off(alloc, 0);
+    let mut next = 0;
     for i in 0..records.len() {
         let one = &records[i];
+        match passed(alloc, config, i as u64, &node, reads, next) {
+            Some(to) => next = to,
+            None => return Ok(None),
+        }
         let same = repeats(config, me, &mut node, one)?;
         if !same {
-            return Ok(false);
+            return Ok(None);
         }
     }
-    Ok(true)
+    match passed(alloc, config, records.len() as u64, &node, reads, next) {
+        Some(to) if to == reads.len() => {
+            Ok(Some(page_of(alloc, config, records.len() as u64, &node)))
+        }
+        _ => Ok(None),
+    }
 }

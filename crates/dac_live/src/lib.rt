@@ -11,9 +11,8 @@ pub use dac_sites::{
     SiteBlank, SiteName, blank_site, laws, open_site,
 };
 pub use dac_workers::{Reading, fresh_page, links};
-pub use histories::are_history;
 pub use lines::{are_answered, asked_by, told_to};
-pub use lists::{AnswerList, AnswersByPhase, ClosedList, PageList};
+pub use lists::{AnswerList, AnswersByPhase, ClosedList, PageList, ReadList, ReadsByPhase};
 pub use live::run_live;
 pub use nodes::last_pages;
 pub use owed::are_runnable;
@@ -32,6 +31,8 @@ mod nodes;
 mod owed;
 mod pages;
 mod pairs;
+mod reads;
+mod receipts;
 mod report;
 mod same_pages;
 mod seats;

@@ -13,7 +13,7 @@ use dac_messages::Event;
 use std::alloc::Global;
 
 /// Whether the line is this caller's of this node.
-fn is_of(line: &Line, node: NodeId, caller: u8) -> bool
+pub(crate) fn is_of(line: &Line, node: NodeId, caller: u8) -> bool
     ensures { result ≡ is_of node.0 caller line.now }
 {
     line.node == node && line.caller == caller

@@ -104,6 +104,104 @@ impl AnswersByPhase {
     }
 }
 
+/// What the lines of a phase read, in their order: a page, or none. Contracts see it as the list.
+pub struct ReadList {
+    reads: Vec<Option<Page>>,
+}
+
+/// Written out: a drop is one call for a proof, wherever it stands.
+impl Drop for ReadList {
+    fn drop(self) {
+        let ReadList { reads: _reads } = self;
+    }
+}
+
+impl Model for ReadList {
+    ghost use Rattle.std.specs.Prelude.{List, Option};
+    ghost use Rattle.std.specs.Coded.{coded_list, coded_option};
+    ghost use Rattle.dac_pages.specs.declared.page.Page.{Page};
+    ghost use Rattle.dac_pages.specs.contracts.page.Page as page_row;
+
+    ghost Value = { List (Option Page) };
+
+    ghost coded = { coded_list (coded_option page_row.the_row.coded) };
+
+    ghost view = { λ a. a.reads.items };
+}
+
+impl ReadList {
+    /// The list of a vector, in its order. It takes no memory.
+    pub fn new(reads: Vec<Option<Page>>) -> Self
+        ensures { result ≡ reads.items }
+    {
+        ReadList { reads }
+    }
+
+    /// The vector of what was read. It takes no memory.
+    pub fn into_vec(self) -> Vec<Option<Page>>
+        ensures { result.items ≡ self }
+    {
+        let ReadList { reads } = self;
+        reads
+    }
+
+    /// What was read, in order.
+    pub fn as_slice(&self) -> &[Option<Page>]
+        ensures { result.now ≡ self.now }
+    {
+        self.reads.as_slice()
+    }
+}
+
+/// What the lines of each phase read, in the order of the phases. Contracts see it as the list of lists.
+pub struct ReadsByPhase {
+    phases: Vec<ReadList>,
+}
+
+/// Written out: a drop is one call for a proof, wherever it stands.
+impl Drop for ReadsByPhase {
+    fn drop(self) {
+        let ReadsByPhase { phases: _phases } = self;
+    }
+}
+
+impl Model for ReadsByPhase {
+    ghost use Rattle.std.specs.Prelude.{List, Option};
+    ghost use Rattle.std.specs.Coded.{coded_list};
+    ghost use Rattle.dac_pages.specs.declared.page.Page.{Page};
+    ghost use Rattle.dac_live.specs.contracts.lists.ReadList as list_row;
+
+    ghost Value = { List (List (Option Page)) };
+
+    ghost coded = { coded_list list_row.the_row.coded };
+
+    ghost view = { λ a. a.phases.items };
+}
+
+impl ReadsByPhase {
+    /// The lists of a vector, in its order. It takes no memory.
+    pub fn new(phases: Vec<ReadList>) -> Self
+        ensures { result ≡ phases.items }
+    {
+        ReadsByPhase { phases }
+    }
+
+    /// The vector of the lists. It takes no memory.
+    pub fn into_vec(self) -> Vec<ReadList>
+        ensures { result.items ≡ self }
+    {
+        let ReadsByPhase { phases } = self;
+        phases
+    }
+
+    /// The lists in their order.
+    pub fn as_slice(&self) -> &[ReadList]
+        ensures { result.now ≡ self.now }
+    {
+        self.phases.as_slice()
+    }
+}
+
 /// The pages of nodes, by name. Contracts see it as the list.
 pub struct PageList {
     pages: Vec<Page>,

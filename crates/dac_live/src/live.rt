@@ -6,13 +6,16 @@ ghost use Rattle.dac_config.specs.Table.{node_count};
 ghost use Rattle.dac_live.specs.Lines.{HasLines, AreAnswered, CallersHold};
 ghost use Rattle.dac_live.specs.Nodes.{AreNodes, PagesHold, AreTrueOf};
 ghost use Rattle.dac_live.specs.Pairs.{LinksHold, SeatsHold};
+ghost use Rattle.dac_live.specs.Reads.{AreNoted, PagesAreRead, ReadsHold};
 
 use crate::callers::strange_node;
-use crate::handing::{all_answers, mismatch};
+use crate::handing::{all_told, mismatch};
 use crate::lines::are_answered;
-use crate::lists::{AnswerList, AnswersByPhase, ClosedList, PageList};
+use crate::lists::{AnswerList, AnswersByPhase, ClosedList, PageList, ReadList, ReadsByPhase};
 use crate::nodes::last_pages;
 use crate::pairs::lost_link;
+use crate::reads::are_noted;
+use crate::receipts::strange_read;
 use crate::report::LiveReport;
 use crate::seats::check_seats;
 use dac_base::NodeId;
@@ -53,6 +56,38 @@ fn check_callers(
     }
 }
 
+/// Refuses lists that don't have an entry for each line.
+fn check_noted(phases: &[Phase], reads: &[ReadList]) -> Result<(), RunFault>
+    ensures { OnOk result (AreNoted phases.now reads.now) }
+{
+    if !are_noted(phases, reads) {
+        return Err(mismatch(NodeId(0)));
+    }
+    Ok(())
+}
+
+/// Refuses lines that were told otherwise than by their callers' last receipts before them and the pages that they read. These pages
+/// are of the journals.
+fn check_reads(
+    alloc: Global,
+    config: &Config,
+    phases: &[Phase],
+    answers: &[AnswerList],
+    reads: &[ReadList],
+    closed: &[Closed],
+) -> Result<(), RunFault>
+    requires few { length closed.now ≤ MAX_NODES }
+    requires answered { AreAnswered phases.now answers.now }
+    requires noted { AreNoted phases.now reads.now }
+    requires pages { PagesAreRead config.now phases.now reads.now closed.now }
+    ensures { OnOk result (ReadsHold config.now phases.now answers.now reads.now closed.now) }
+{
+    match strange_read(alloc, phases, answers, reads, closed)? {
+        None => Ok(()),
+        Some(node) => Err(mismatch(node)),
+    }
+}
+
 /// The fault of a run of at most four nodes, which aren't too many. If they were taken for too many, nothing would run, and the
 /// first node would leave no page.
 fn fault_of_few(why: RunFault) -> RunFault
@@ -79,19 +114,27 @@ fn report_of(
     ensures read { IfOk result (λ r. r.pages ≡ outcome.pages.items) }
     ensures callers { IfOk result (λ r. CallersHold phases.now r.answers r.closed) }
     ensures lines { IfOk result (λ r. AreAnswered phases.now r.answers) }
+    ensures reads { IfOk result
+        (λ r. ReadsHold config.now phases.now r.answers r.reads r.closed) }
 {
     let Outcome {
         closed,
         pages,
         seen,
     } = outcome;
-    let pages = last_pages(alloc, config, closed.as_slice(), pages.as_slice())?;
-    check_seats(closed.as_slice())?;
-    check_links(alloc, phases.len(), closed.as_slice())?;
-    let answers = all_answers(alloc, phases, closed.as_slice(), seen)?;
-    check_callers(alloc, phases, answers.as_slice(), closed.as_slice())?;
+    let (answers, reads) = all_told(alloc, phases, closed.as_slice(), seen)?;
+    let journals = closed.as_slice();
+    let told = answers.as_slice();
+    let read = reads.as_slice();
+    check_noted(phases, read)?;
+    let pages = last_pages(alloc, config, phases, read, journals, pages.as_slice())?;
+    check_seats(journals)?;
+    check_links(alloc, phases.len(), journals)?;
+    check_callers(alloc, phases, told, journals)?;
+    check_reads(alloc, config, phases, told, read, journals)?;
     Ok(LiveReport {
         answers: AnswersByPhase::new(answers),
+        reads: ReadsByPhase::new(reads),
         pages: PageList::new(pages),
         closed: ClosedList::new(closed),
     })
@@ -102,9 +145,11 @@ fn report_of(
 ///
 /// `TooManyNodes` comes of more than four nodes alone, before anything runs. `NoThread`, `Open` and `Site` come of the run
 /// itself, as do `Close`, `NoPage`, `LinkLost` and `NoMemory`. `LinkLost` comes too where the journals differ on what a link
-/// carried. `NoPage` comes too where a node's journal or last page is missing, the page isn't that of the whole journal, or
-/// this is no history of the node. `Close` with a `Mismatch` comes too where a record is of a seat that no node has, at its
-/// place. It comes at place 0 where the records of a caller's seat aren't what its lines ask, or a line lacks its answer.
+/// carried. `NoPage` comes too where a node's journal or last page is missing, the page isn't that of the whole journal, a page
+/// that a line read isn't that after as many records as its place says, or this is no history of the node. `Close` with a
+/// `Mismatch` comes too where a record is of a seat that no node has, at its place. It comes at place 0 where the records of a
+/// caller's seat aren't what its lines ask, a line lacks its answer, or a line that reads is fresh or stale otherwise than by
+/// its page and its caller's last receipt.
 pub fn run_live<G: Gate, R: Threads + Wait + Sync>(
     rt: &R,
     alloc: Global,
@@ -129,6 +174,10 @@ pub fn run_live<G: Gate, R: Threads + Wait + Sync>(
     ensures callers { IfOk result (λ r. CallersHold phases.now r.answers r.closed) }
     // Each line is answered: one that asks by an answer, and one that reads by a fresh or a stale page.
     ensures lines { IfOk result (λ r. AreAnswered phases.now r.answers) }
+    // A fresh line read the page after as many records of its node's journal as its place says, and not before its caller's last
+    // record before the line that was no refusal. A stale one read an older page or none.
+    ensures reads { IfOk result
+        (λ r. ReadsHold config.now phases.now r.answers r.reads r.closed) }
     ensures many { 4 < node_count config.now → result ≡ Err RunFault.TooManyNodes }
     ensures few { result ≡ Err RunFault.TooManyNodes → 4 < node_count config.now }
 {

@@ -1,30 +1,58 @@
-//! The journals and the last pages of all nodes.
+//! The journals and the pages of all nodes.
 
-ghost use Rattle.std.specs.Prelude.{◌≡◌, ◌≤◌, IfOk, length};
+ghost use Rattle.std.specs.Prelude.{◌≡◌, ◌≤◌, All, IfOk, length, map};
+ghost use Rattle.std.specs.List.Sorted.{IsPermutation};
 ghost use Rattle.dac_base.specs.declared.limits.TheConstants.{MAX_NODES};
 ghost use Rattle.dac_config.specs.Table.{node_count};
+ghost use Rattle.dac_crews.specs.Journals.{beginning_of};
 ghost use Rattle.dac_live.specs.Nodes.{AreNodes, IsFirstOf, PagesHold, IsTrueOf, AreTrueOf, last_page_of};
+ghost use Rattle.dac_live.specs.Reads.{AreNoted, IsPageOf, PagesAreRead, pages_read};
 
+use crate::lists::ReadList;
 use crate::pages::last_page;
-use dac_base::NodeId;
+use crate::reads::pages_read;
+use dac_base::{NoMemory, NodeId};
 use dac_config::Config;
-use dac_crews::{Closed, Page, RunFault};
+use dac_crews::{Closed, Page, Phase, RunFault};
 use std::alloc::Global;
 
-/// The page that was read last of a node, if it is that of the whole journal.
+/// The pages that lines of this node read, by their places.
+fn pages_by_place<'a>(
+    alloc: Global,
+    phases: &[Phase],
+    reads: &'a [ReadList],
+    node: NodeId,
+) -> Result<Vec<&'a Page>, NoMemory>
+    requires { AreNoted phases.now reads.now }
+    ensures { IfOk result (λ all.
+        IsPermutation (pages_read node.0 phases.now reads.now) (map (λ p. p.now) all.items)) }
+{
+    let mut all = pages_read(alloc, phases, reads, node)?;
+    all.sort_unstable_by_key(|page| page.place);
+    Ok(all)
+}
+
+/// The page that was read last of a node, if it is that of the whole journal. The pages that its lines read are of the journal too.
 fn page_of(
     alloc: Global,
     config: &Config,
     me: NodeId,
+    phases: &[Phase],
+    reads: &[ReadList],
     closed: &Closed,
     read: &Page,
 ) -> Result<Page, RunFault>
+    requires { AreNoted phases.now reads.now }
     ensures page { IfOk result (λ page. page ≡ last_page_of config.now closed.now) }
     ensures read { IfOk result (λ page. page ≡ read.now) }
+    ensures reads { IfOk result
+        (λ _. All (IsPageOf (beginning_of config.now me 0) closed.now.records)
+        (pages_read me.0 phases.now reads.now)) }
     ensures history { IfOk result (λ _. IsTrueOf config.now closed.now) }
     ensures named { IfOk result (λ _. IsFirstOf me.0 closed.now) }
 {
-    match last_page(alloc, config, me, closed, read)? {
+    let all = pages_by_place(alloc, phases, reads, me)?;
+    match last_page(alloc, config, me, closed, read, all.as_slice())? {
         Some(page) => Ok(page),
         None => Err(RunFault::NoPage { node: me }),
     }
@@ -36,19 +64,25 @@ fn missing(found: usize, nodes: u8) -> RunFault {
     RunFault::NoPage { node }
 }
 
-/// The pages that were read last, if each is that after all records of its node's journal. The journals stand by name, and so do
-/// the pages.
+/// The pages that were read last, if each is that after all records of its node's journal, and each page that a line read is that
+/// after as many of them as its place says. The journals stand by name, and so do the last pages.
 ///
-/// `NoPage` names the first node whose journal is missing, or the first whose page is missing. If none is, it names the first node
-/// whose journal or page isn't the one that it is to be. The only other error is [`NoMemory`](RunFault::NoMemory).
+/// `NoPage` names the first node whose journal is missing, or the first whose last page is missing. If none is, it names the first
+/// node whose journal or one of whose pages isn't the one that it is to be. The only other error is
+/// [`NoMemory`](RunFault::NoMemory).
 pub fn last_pages(
     alloc: Global,
     config: &Config,
+    phases: &[Phase],
+    reads: &[ReadList],
     closed: &[Closed],
     read: &[Page],
 ) -> Result<Vec<Page>, RunFault>
+    // Of each line the page that it read, or none.
+    requires { AreNoted phases.now reads.now }
     ensures pages { IfOk result (λ all. PagesHold config.now closed.now all.items) }
     ensures read { IfOk result (λ all. all.items ≡ read.now) }
+    ensures reads { IfOk result (λ _. PagesAreRead config.now phases.now reads.now closed.now) }
     ensures histories { IfOk result (λ _. AreTrueOf config.now closed.now) }
     ensures nodes { IfOk result (λ _. AreNodes (node_count config.now) closed.now) }
     ensures few { IfOk result (λ _. length closed.now ≤ MAX_NODES) }
@@ -63,7 +97,8 @@ pub fn last_pages(
     let mut all = Vec::new(alloc);
     for i in 0..closed.len() {
         let one = &closed[i];
-        let page = page_of(alloc, config, NodeId(i as u8), one, &read[i])?;
+        let node = NodeId(i as u8);
+        let page = page_of(alloc, config, node, phases, reads, one, &read[i])?;
         all.push(page)?;
     }
     Ok(all)

@@ -1,6 +1,6 @@
 //! What a run reports.
 
-use crate::lists::{AnswersByPhase, ClosedList, PageList};
+use crate::lists::{AnswersByPhase, ClosedList, PageList, ReadsByPhase};
 use dac_events::Refusal;
 use dac_messages::Reply;
 
@@ -20,6 +20,8 @@ pub enum LineAnswer {
 pub struct LiveReport {
     /// Of each phase, what came of each line.
     pub answers: AnswersByPhase,
+    /// Of each phase, the page that each line read, if it read one.
+    pub reads: ReadsByPhase,
     /// The last page of each node, by name.
     pub pages: PageList,
     /// The journal of each node, by name.

@@ -9,6 +9,7 @@ use Rattle.dac_live.specs.Lines.{CallersHold, AreAnswered}
 use Rattle.dac_live.specs.Nodes.{AreNodes, PagesHold, AreTrueOf}
 use Rattle.dac_live.specs.Pairs.{LinksHold, SeatsHold}
 use Rattle.dac_live.specs.Phase.{Phase}
+use Rattle.dac_live.specs.Reads.{ReadsHold}
 use Rattle.dac_weave.specs.Converging.{IsConverged}
 use Rattle.dac_weave.specs.Recording.{IsRecorded}
 use Rattle.dac_weave.specs.Woven.{Gives, IsUnwoven}
@@ -20,7 +21,8 @@ use Rattle.dac_live_play.specs.Phases.{parts_of, AsksAs}
 -- What a run in these phases leaves: a journal and a page of each node. Each journal is a history of its node. Each
 -- record is of a seat of its node. All that a link's worker asked is to hear what its shipper shipped, and all that
 -- this one asked is to ship. The pages are those of the whole journals. Each caller's seat has exactly its lines as
--- records, and was answered so.
+-- records, and was answered so. A fresh line read a page of its node's journal that isn't before its caller's last
+-- receipt, and a stale one an older page or none.
 pub record IsReport (table : Table) (phases : List Phase) (report : LiveReport) : Type 0 where
   pub nodes : AreNodes (node_count table) report.closed
   pub histories : AreTrueOf table report.closed
@@ -29,6 +31,7 @@ pub record IsReport (table : Table) (phases : List Phase) (report : LiveReport) 
   pub pages : PagesHold table report.closed report.pages
   pub callers : CallersHold phases report.answers report.closed
   pub lines : AreAnswered phases report.answers
+  pub reads : ReadsHold table phases report.answers report.reads report.closed
 
 -- a run reports this, whose phases ask what the script says
 pub record IsReportOf (table : Table) (script : List LiveLine) (report : LiveReport) : Type 0 where

@@ -32,7 +32,7 @@
 pub use blank::{SiteBlank, SiteName, blank_site};
 pub use dac_journal::{Answer, Call, Closed, Journal, MAX_RECORDS, Record};
 pub use dac_pages::Page;
-pub use desk::Desk;
+pub use desk::{Desk, page_of};
 pub use faults::{CloseFault, LiveFault, OpenFault};
 pub use reader::PageReader;
 pub use receipt::Receipt;

@@ -1,7 +1,11 @@
+use Rattle.std.proofs.Common.{subst}
+use Rattle.dac_journal.specs.NodeValue.{NodeValue}
+use Rattle.dac_journal.specs.Step.{Steps}
 use Rattle.dac_live.proofs.Repeated.{repeated}
 use Rattle.dac_live.proofs.histories.repeats.Goals as goal
 
 pub returns : goal.returns
 returns c =
-    λ yes. repeated c.args.config.now c.args.me c.args.node.now c.step-answer.new.self c.in_ok-event.event c.args.one.now.event c.step-answer.result c.args.one.now.answer
-    c.step-answer.ensures.ok c.step-answer.ensures.refused c.in_ok-is_answered.ensures c.in_ok-event.ensures (c.same_answer.ensures.0 yes)
+    λ yes. subst (λ (v : NodeValue). Steps c.args.config.now c.args.me v c.args.one.now.event c.step-answer.new.self c.args.one.now.answer) c.warm.ensures
+    (repeated c.args.config.now c.args.me c.warm.new.self c.step-answer.new.self c.in_ok-event.event c.args.one.now.event c.step-answer.result c.args.one.now.answer
+    c.step-answer.ensures.ok c.step-answer.ensures.refused c.in_ok-is_answered.ensures c.in_ok-event.ensures (c.same_answer.ensures.0 yes))

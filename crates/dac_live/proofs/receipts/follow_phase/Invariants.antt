@@ -1,0 +1,8 @@
+use Rattle.std.proofs.Common.{take, zip}
+use Rattle.dac_crews.specs.Compared.{found}
+use Rattle.dac_live.specs.Reads.{own_one}
+use Rattle.dac_live.specs.Following.{Follows}
+use Rattle.dac_live.proofs.receipts.follow_phase.Given as goal
+
+abbrev pub invariant-loop-i : goal.invariant-loop-i
+invariant-loop-i l = Follows l.receipts l.asked l.next (found (own_one l.node.0 l.caller) (take l.i (zip l.lines (zip l.answers l.reads))))

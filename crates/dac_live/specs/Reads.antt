@@ -1,0 +1,111 @@
+-- What the lines of callers read.
+use Rattle.std.specs.Prelude.{⊤, ℕ, ◌≡◌, ◌<◌, ◌≤◌, ◌==◌, ◌++◌, ◌∷◌, [], All, List, Option, Some, None, Result, Ok, Err, flat_map, if◌then◌else◌, length, take, zip}
+use Rattle.std.specs.List.{AllZip}
+use Rattle.dac_config.specs.Table.{Table}
+use Rattle.dac_messages.specs.declared.reply.Reply.{Reply}
+use Rattle.dac_events.specs.declared.refusal.Refusal.{Refusal}
+use Rattle.dac_pages.specs.declared.page.Page.{Page}
+use Rattle.dac_sites.specs.Call.{Call}
+use Rattle.dac_crews.specs.Record.{Record}
+use Rattle.dac_crews.specs.Journals.{JournalValue, Beginning, beginning_of, calls_of}
+use Rattle.dac_crews.specs.Paged.{page_after}
+use Rattle.dac_crews.specs.Compared.{found}
+use Rattle.dac_crews.specs.declared.phases.Line.{Line}
+use Rattle.dac_crews.specs.declared.phases.Phase.{Phase}
+use Rattle.dac_live.specs.declared.report.LineAnswer.{LineAnswer}
+use Rattle.dac_live.specs.declared.report.LineAnswer.TheVariants.{Done, Fresh, Stale}
+use Rattle.dac_live.specs.Lines.{is_of, answer_in}
+use Rattle.dac_live.specs.Pairs.{records_at}
+
+-- each line of each phase has an entry: the page that it read, or none
+abbrev pub AreNoted : List Phase → List (List (Option Page)) → Type 0
+AreNoted phases reads =
+    AllZip (λ (p : Phase) (noted : List (Option Page)). length noted ≡ length p.lines.items) phases reads
+
+-- ---- pages
+-- the page is that of a node after as many of these records as its place says
+abbrev pub IsPageOf : Beginning → List Record → Page → Type 0
+IsPageOf o rs page = page ≡ page_after o (take page.place rs)
+
+-- the page that a line of this node read, if any
+abbrev pub page_one : ℕ → Line × Option Page → Option Page
+page_one node read = if read.0.node.0 == node then read.1 else None
+
+-- the pages that these lines of it read, in order
+abbrev pub pages_in : ℕ → List Line → List (Option Page) → List Page
+pages_in node lines reads = found (page_one node) (zip lines reads)
+
+-- those that its lines read over all phases, in order
+abbrev pub pages_read : ℕ → List Phase → List (List (Option Page)) → List Page
+pages_read node phases reads =
+    flat_map (λ (p : Phase × List (Option Page)). pages_in node p.0.lines.items p.1) (zip phases reads)
+
+-- each page that a line of a node read is the node's after as many records of its journal as the page's place says
+abbrev pub PagesAreRead : Table → List Phase → List (List (Option Page)) → List JournalValue → Type 0
+PagesAreRead t phases reads closed = (node : ℕ) → node < length closed
+    → All (IsPageOf (beginning_of t (record { 0 = node }) 0) (records_at closed node)) (pages_read node phases reads)
+
+-- ---- receipts
+-- the place of a caller's last receipt once a call at this place was answered so: a refusal gives no receipt
+abbrev pub receipt_by : ℕ → ℕ → Result Reply Refusal → ℕ
+receipt_by last place (Ok reply) = place
+receipt_by last place (Err why) = last
+
+-- the same once all these calls were answered
+abbrev pub receipt_after : ℕ → List Call → ℕ
+receipt_after last [] = last
+receipt_after last (c ∷ cs) = receipt_after (receipt_by last c.place c.answer) cs
+
+-- What came of a line and the page that it read, where its caller's last receipt is at this place: a fresh page isn't
+-- before that place. A stale one is, or there is none. A line that asks reads none.
+abbrev pub IsTold : ℕ → LineAnswer → Option Page → Type 0
+IsTold receipt (Done answer) None = ⊤
+IsTold receipt (Done answer) (Some page) = ⊥
+IsTold receipt Fresh None = ⊥
+IsTold receipt Fresh (Some page) = receipt ≤ page.place
+IsTold receipt Stale None = ⊤
+IsTold receipt Stale (Some page) = page.place < receipt
+
+-- ---- a caller's lines
+-- what came of a line, and the page that it read, if it is this caller's of this node
+abbrev pub own_one : ℕ → ℕ → Line × (LineAnswer × Option Page) → Option (LineAnswer × Option Page)
+own_one node caller told = if is_of node caller told.0 then Some told.1 else None
+
+-- the same of those of these lines that are, in order
+abbrev pub own_in : ℕ → ℕ → List Line → List LineAnswer → List (Option Page) → List (LineAnswer × Option Page)
+own_in node caller lines answers reads = found (own_one node caller) (zip lines (zip answers reads))
+
+-- the same over all phases, in order
+abbrev pub own_of : ℕ → ℕ → List Phase → List (List LineAnswer) → List (List (Option Page)) → List (LineAnswer × Option Page)
+own_of node caller phases answers reads =
+    flat_map (λ (p : Phase × (List LineAnswer × List (Option Page))). own_in node caller p.0.lines.items p.1.0 p.1.1)
+    (zip phases (zip answers reads))
+
+-- how many of these lines ask
+abbrev pub asked_in : List (LineAnswer × Option Page) → ℕ
+asked_in lines = length (found (λ (l : LineAnswer × Option Page). answer_in l.0) lines)
+
+-- Each of a caller's lines goes by the caller's last receipt before it. That is the last one of as many of its calls as
+-- lines before this one ask; it is at place 0 if there is none.
+pub record FollowsReceipts (calls : List Call) (lines : List (LineAnswer × Option Page)) : Type 0 where
+  pub each : (before after : List (LineAnswer × Option Page)) (answer : LineAnswer) (read : Option Page)
+      → lines ≡ before ++ (answer, read) ∷ after → IsTold (receipt_after 0 (take (asked_in before) calls)) answer read
+
+-- those of all callers of a node do
+abbrev pub NodeFollows : ℕ → List Phase → List (List LineAnswer) → List (List (Option Page)) → List Record → Type 0
+NodeFollows node phases answers reads records = (caller : ℕ) → 1 ≤ caller → caller ≤ 4
+    → FollowsReceipts (calls_of caller records) (own_of node caller phases answers reads)
+
+-- those of all callers of all nodes do
+abbrev pub FollowReceipts : List Phase → List (List LineAnswer) → List (List (Option Page)) → List JournalValue → Type 0
+FollowReceipts phases answers reads closed =
+    (node : ℕ) → node < length closed → NodeFollows node phases answers reads (records_at closed node)
+
+-- ---- both
+-- A line that reads has a page of its node's journal, or none if it is stale. It is fresh if its page isn't before its
+-- caller's last receipt.
+pub record ReadsHold (t : Table) (phases : List Phase) (answers : List (List LineAnswer))
+    (reads : List (List (Option Page))) (closed : List JournalValue) : Type 0 where
+  pub noted : AreNoted phases reads
+  pub pages : PagesAreRead t phases reads closed
+  pub receipts : FollowReceipts phases answers reads closed

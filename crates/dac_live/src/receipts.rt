@@ -1,0 +1,201 @@
+//! Whether pages that were read are told by receipts.
+
+ghost use Rattle.std.specs.Prelude.{◌≡◌, ◌≤◌, ◌+◌, true, length, IfOk, IfSome, [], ◌∷◌, option_to_list};
+ghost use Rattle.dac_base.specs.declared.limits.TheConstants.{MAX_NODES};
+ghost use Rattle.dac_crews.specs.Journals.{calls_of};
+ghost use Rattle.dac_live.specs.Lines.{AreAnswered};
+ghost use Rattle.dac_live.specs.Reads.{AreNoted, IsTold, receipt_by, own_one, own_in, own_of, asked_in, FollowsReceipts, NodeFollows, FollowReceipts};
+ghost use Rattle.dac_live.specs.Following.{receipts_from, Follows};
+
+use crate::lines::is_of;
+use crate::lists::{AnswerList, ReadList};
+use crate::report::LineAnswer;
+use dac_base::{NoMemory, NodeId};
+use dac_crews::{Answer, CALLERS, Closed, Line, Page, Phase, Record};
+use std::alloc::Global;
+
+/// The place of a caller's last receipt after a record at this place, where it was this one before. A refusal gives none.
+fn receipt_by(last: u64, place: u64, answer: &Answer) -> u64
+    ensures { result ≡ receipt_by last place answer.now }
+{
+    match answer {
+        Ok(_) => place,
+        Err(_) => last,
+    }
+}
+
+/// The places of the last receipts of a seat: before its first record, and after each of them.
+fn receipts_of(alloc: Global, records: &[Record], seat: u16) -> Result<Vec<u64>, NoMemory>
+    ensures { IfOk result (λ all. all.items ≡ receipts_from 0 (calls_of seat records.now)) }
+{
+    let mut all = Vec::new(alloc);
+    let mut last = 0;
+    all.push(last)?;
+    for i in 0..records.len() {
+        let one = &records[i];
+        if one.seat == seat {
+            last = receipt_by(last, i as u64 + 1, &one.answer);
+            all.push(last)?;
+        }
+    }
+    Ok(all)
+}
+
+/// Whether what came of a line is told by the caller's last receipt before it, and the page that the line read.
+fn is_told(receipt: u64, answer: &LineAnswer, read: &Option<Page>) -> bool
+    ensures { result ≡ true → IsTold receipt answer.now read.now }
+{
+    match (answer, read) {
+        (LineAnswer::Done(_), None) => true,
+        (LineAnswer::Fresh, Some(page)) => receipt <= page.place,
+        (LineAnswer::Stale, Some(page)) => page.place < receipt,
+        (LineAnswer::Stale, None) => true,
+        _ => false,
+    }
+}
+
+/// How many calls the caller has made after a line of its own.
+fn asked_after(asked: usize, answer: &LineAnswer) -> usize
+    requires { asked + 1 ≤ usize.MAX }
+    ensures { result ≡ asked + asked_in ((answer.now, None) ∷ []) }
+{
+    match answer {
+        LineAnswer::Done(_) => asked + 1,
+        _ => asked,
+    }
+}
+
+/// Goes on over a line, where the caller has made so many calls before it. `None` where the line is one of its own and was told otherwise.
+fn follow_line(
+    receipts: &[u64],
+    asked: usize,
+    line: &Line,
+    answer: &LineAnswer,
+    read: &Option<Page>,
+    node: NodeId,
+    caller: u8,
+) -> Option<usize>
+    ensures { IfSome result (λ more. Follows receipts.now asked more
+        (option_to_list (own_one node.0 caller (line.now, (answer.now, read.now))))) }
+{
+    if !is_of(line, node, caller) {
+        return Some(asked);
+    }
+    if asked >= receipts.len() || !is_told(receipts[asked], answer, read) {
+        return None;
+    }
+    Some(asked_after(asked, answer))
+}
+
+/// Goes on over the lines of a phase, where the caller has made so many calls before it. `None` where a line of its own was told otherwise.
+fn follow_phase(
+    receipts: &[u64],
+    asked: usize,
+    lines: &[Line],
+    answers: &[LineAnswer],
+    reads: &[Option<Page>],
+    node: NodeId,
+    caller: u8,
+) -> Option<usize>
+    requires answers { length answers.now ≡ length lines.now }
+    requires reads { length reads.now ≡ length lines.now }
+    ensures { IfSome result (λ more. Follows receipts.now asked more
+        (own_in node.0 caller lines.now answers.now reads.now)) }
+{
+    let mut next = asked;
+    for i in 0..lines.len() {
+        let line = &lines[i];
+        let answer = &answers[i];
+        let read = &reads[i];
+        match follow_line(receipts, next, line, answer, read, node, caller) {
+            Some(more) => next = more,
+            None => return None,
+        }
+    }
+    Some(next)
+}
+
+/// Whether each line of a caller was told by its last receipt before it.
+fn caller_follows(
+    alloc: Global,
+    phases: &[Phase],
+    answers: &[AnswerList],
+    reads: &[ReadList],
+    node: NodeId,
+    caller: u8,
+    records: &[Record],
+) -> Result<bool, NoMemory>
+    requires answered { AreAnswered phases.now answers.now }
+    requires noted { AreNoted phases.now reads.now }
+    ensures { IfOk result (λ b. b ≡ true → FollowsReceipts (calls_of caller records.now)
+        (own_of node.0 caller phases.now answers.now reads.now)) }
+{
+    let receipts = receipts_of(alloc, records, u16::from(caller))?;
+    let mut asked = 0;
+    for i in 0..phases.len() {
+        let phase = &phases[i];
+        let given = &answers[i];
+        let noted = &reads[i];
+        match follow_phase(
+            receipts.as_slice(),
+            asked,
+            phase.lines.as_slice(),
+            given.as_slice(),
+            noted.as_slice(),
+            node,
+            caller,
+        ) {
+            Some(more) => asked = more,
+            None => return Ok(false),
+        }
+    }
+    Ok(true)
+}
+
+/// Whether those of all callers of a node were.
+fn node_follows(
+    alloc: Global,
+    phases: &[Phase],
+    answers: &[AnswerList],
+    reads: &[ReadList],
+    node: NodeId,
+    records: &[Record],
+) -> Result<bool, NoMemory>
+    requires answered { AreAnswered phases.now answers.now }
+    requires noted { AreNoted phases.now reads.now }
+    ensures { IfOk result
+        (λ b. b ≡ true → NodeFollows node.0 phases.now answers.now reads.now records.now) }
+{
+    for before in 0..CALLERS {
+        let caller = before + 1;
+        if !caller_follows(alloc, phases, answers, reads, node, caller, records)? {
+            return Ok(false);
+        }
+    }
+    Ok(true)
+}
+
+/// Names the first node, of these journals that stand by name, where a line of a caller was told otherwise than by the page that it
+/// read and by its caller's last receipt before it. [`NoMemory`] is the only error.
+pub fn strange_read(
+    alloc: Global,
+    phases: &[Phase],
+    answers: &[AnswerList],
+    reads: &[ReadList],
+    closed: &[Closed],
+) -> Result<Option<NodeId>, NoMemory>
+    requires few { length closed.now ≤ MAX_NODES }
+    requires answered { AreAnswered phases.now answers.now }
+    requires noted { AreNoted phases.now reads.now }
+    ensures { IfOk result (λ strange. strange ≡ None
+        → FollowReceipts phases.now answers.now reads.now closed.now) }
+{
+    for i in 0..closed.len() {
+        let one = &closed[i];
+        let node = NodeId(i as u8);
+        if !node_follows(alloc, phases, answers, reads, node, one.records())? {
+            return Ok(Some(node));
+        }
+    }
+    Ok(None)
+}
