@@ -139,7 +139,7 @@ class OwnCommands(unittest.TestCase):
     def test_a_signal_to_the_tests_removes_what_they_keep(self) -> None:
         for number in (signal.SIGTERM, signal.SIGHUP, signal.SIGINT):
             with tempfile.TemporaryDirectory() as room:
-                shutil.copy(TOP / "view" / "tests" / "run.py", room)
+                shutil.copy(TOP / "distac_view" / "tests" / "run.py", room)
                 shutil.copy(TOP / "models" / "processes.py", room)
                 Path(room, "support.py").write_text("PROGRAM = 'nothing'\n")
                 Path(room, "test_waiting.py").write_text(WAITING)
