@@ -51,5 +51,5 @@ returns-in-Some-passed-clause-reads c =
     let read = c.args.reads.now in
     let at : c.loop-i.i ≡ length rs = omega arith in
     let ends : EndsAt o (take (length rs) rs) c.loop-i.node = subst (λ k. EndsAt o (take k rs) c.loop-i.node) at c.loop-i.invariant.ends in
-    pass_all o rs read c.in-Some-passed.to c.if-to-read.true
+    pass_all o rs read c.in-Some-passed.to c.if-to-reads.true
     (pass_on o rs read (length rs) c.loop-i.node c.loop-i.next c.in-Some-passed.to (omega arith) ends c.loop-i.invariant.read c.in-Some-passed.ensures.1)

@@ -1,5 +1,6 @@
 use Rattle.std.proofs.Common.{ℕ, ◌<◌}
-use Rattle.dac_live.specs.Reads.{NodeFollows, records_at}
+use Rattle.dac_live.specs.Pairs.{records_at}
+use Rattle.dac_live.specs.Reads.{NodeFollows}
 use Rattle.dac_live.proofs.receipts.strange_read.Given as goal
 
 abbrev pub invariant-loop-i : goal.invariant-loop-i
