@@ -102,7 +102,9 @@ class Nightly(unittest.TestCase):
         rows = self.rows()
         self.assertEqual(list(rows), [*PARTS, "fuzz"])
         self.assertEqual(rows["fuzz"], ["", "", "", "not run", ""])
-        self.assertEqual(rows["stacks"], ["`checks/stacks`", commit, "0:00:00", "status 0", "`checks/stacks ! right`"])
+        command, at, took, *ended = rows["stacks"]
+        self.assertEqual((command, at, ended), ("`checks/stacks`", commit, ["status 0", "`checks/stacks ! right`"]))
+        self.assertRegex(took, r"0:\d\d:\d\d\Z")
         self.assertEqual({rows[name][3] for name in PARTS}, {"status 0"})
         self.assertEqual(self.run_it("--only", "fuzz")[0], 0)
         self.assertEqual(self.run_it("--record")[0], 0)
