@@ -72,10 +72,10 @@ follows_at receipts from to (b ∷ front) after l follows =
 pub follows_receipts : (calls : List Call) (receipts : List ℕ) (to : ℕ) (ls : List (LineAnswer × Option Page)) → receipts ≡ receipts_from 0 calls → Follows receipts 0 to ls → FollowsReceipts calls ls
 follows_receipts calls receipts to ls are follows = record {
   each = λ front after answer read is.
-    let here = follows_at (receipts_from 0 calls) 0 to front after (answer, read) (subst (λ (x : List ℕ × List (LineAnswer × Option Page)). Follows x.0 0 to x.1) (λ i. (are i, is i)) follows) in
-    let count : 0 + asked_in front ≡ asked_in front = omega arith in
-    let there = subst (λ k. (k < length (receipts_from 0 calls)) × IsTold (get_or (receipts_from 0 calls) k 0) answer read) count here in
-    subst (λ k. IsTold k answer read) (receipt_there 0 (asked_in front) calls there.0) there.1;
+      let here = follows_at (receipts_from 0 calls) 0 to front after (answer, read) (subst (λ (x : List ℕ × List (LineAnswer × Option Page)). Follows x.0 0 to x.1) (λ i. (are i, is i)) follows) in
+      let count : 0 + asked_in front ≡ asked_in front = omega arith in
+      let there = subst (λ k. (k < length (receipts_from 0 calls)) × IsTold (get_or (receipts_from 0 calls) k 0) answer read) count here in
+      subst (λ k. IsTold k answer read) (receipt_there 0 (asked_in front) calls there.0) there.1;
 }
 
 -- one more of what is found, as one or none
