@@ -7,6 +7,7 @@ from typing import Callable, Iterator, List, NamedTuple, Sequence
 from checks.library import crate_checks, document_checks, edit_checks, script_checks, tests
 from checks.library.contracts import Sources
 from checks.library.crates import HERE, read_crates
+from checks.library.dead_names import dead_faults
 from checks.library.definition_sources import DefinitionSources
 from checks.library.modules import Modules
 from checks.library.promises import Promises
@@ -40,6 +41,7 @@ def document_list() -> List[Check]:
         Check("paths lead somewhere", lambda: document_checks.path_faults(documents)),
         Check("promised clauses are there, with what they rest on", Promises(modules, sources, resting).faults),
         Check("docs/sources.txt names definitions that are there", lambda: DefinitionSources(HERE).faults(modules)),
+        Check("a contract, a proof or a document reaches each definition", dead_faults),
         Check("pages CALLING.md name each public call", lambda: document_checks.calling_faults(HERE, sources)),
         Check("the index of decisions has their titles", lambda: document_checks.decision_faults(documents)),
     ]

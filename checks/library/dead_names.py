@@ -15,14 +15,16 @@ from checks.library.tables import SPAN
 WHAT = """Lists the definitions and lemmas of specs/ and proofs/ that nothing reaches.
 
 A name is reached if the code names it in a contract, an impl or an attribute, if the files of a function's proof name it, if a
-document has it in backticks, if docs/sources.txt lists it, or if something that is reached names it. Only names are compared, and
-nothing is proved. So a law that pins a limit is listed too, and whoever removes a name must prove its crate again.
+document has it in backticks, if docs/sources.txt lists it, if it is called `the_limits`, which pins numbers, or if something that is
+reached names it. Only names are compared and nothing is proved, so after removing a name, prove its crate again.
 
 Each name has a line with its place. The last line counts them and their lines. The status is 0 if there are none.
 """
 # the files of a function's proof; the other ones of proofs/ have lemmas
 OF_A_FUNCTION = ("Answers.antt", "Invariants.antt")
 FOLDERS = ("specs", "proofs")
+# a statement of what limits are, which no other declaration needs to name
+PINS = "the_limits"
 # a path in an attribute, as `using(crate::proofs::Loops::apps)`
 ATTRIBUTE = re.compile(r"\bcrate::(specs|proofs)((?:::[^\s(),:]+)+)")
 RULESET = re.compile(r"^(?:pub )?ruleset (?P<name>\S+)")
@@ -97,8 +99,8 @@ class Reached:
                 for file in sorted(folder.glob(f"proofs/**/{name}")):
                     text = file.read_text(encoding="utf-8")
                     yield from self.cited(text, imports_in(text))
-        documented = set(self.documented())
-        yield from (one for one in self.words if name_of(one) in documented)
+        named = {PINS, *self.documented()}
+        yield from (one for one in self.words if name_of(one) in named)
 
     def documented(self) -> Iterator[str]:
         """The names that documents have in backticks, and those of the list of sources."""
@@ -154,6 +156,16 @@ def texts_of(module: Module) -> Iterator[Tuple[Definition, str]]:
         above = below
 
 
+def place_of(one: Definition) -> str:
+    """Where a declaration stands, and its name."""
+    return f"{one.file.relative_to(HERE)}:{one.line}: {name_of(one)}"
+
+
+def dead_faults() -> Iterator[str]:
+    """Each declaration of the repository that nothing reaches."""
+    return (place_of(one) for one in Reached().dead())
+
+
 def lines_of(one: Definition) -> int:
     """How many lines a declaration has that aren't empty."""
     return sum(1 for line in one.text if line.strip() and not line.strip().startswith(UNFOLDING))
@@ -171,7 +183,7 @@ def main(arguments: Sequence[str]) -> int:
     crates = asked.crates or list(reached.by_crate)
     dead = [one for one in reached.dead() if one.crate in crates]
     for one in dead:
-        print(f"{one.file.relative_to(HERE)}:{one.line}: {name_of(one)}")
+        print(place_of(one))
     count = sum(1 for one in reached.words if one.crate in crates)
     print(f"{len(dead)} of {count} definitions and lemmas are reached by nothing, {sum(map(lines_of, dead))} lines")
     return 1 if dead else 0

@@ -59,13 +59,6 @@ module _ {I : Type 0} (numbered : ℕ → I) (p : I → Bool) where
     | false ↦ λ e. let below : m ≤ n = ltb-false n m e in omega (arith, ap passed (add-one n), passed_more n, more_passed m n below)
   ] refl
 
-  pub few_pass : (n : ℕ) → passed n ≤ n
-  few_pass zero = omega arith
-  few_pass (suc n) = elim (p (numbered n)) as (λ b. p (numbered n) ≡ b → passed (suc n) ≤ suc n) [
-    | true ↦ λ e. omega (arith, ap passed (add-one n), passes n e, few_pass n)
-    | false ↦ λ e. omega (arith, ap passed (add-one n), fails n e, few_pass n)
-  ] refl
-
 module _ {I X : Type 0} (numbered : ℕ → I) (f : I → X) where
   -- one place more has its value
   pub one_more : (xs : List X) (n : ℕ) (x d : X) → n < length xs → x ≡ f (numbered n) → ((k : ℕ) → k < n → get_or xs k d ≡ f (numbered k)) → (k : ℕ) → k < n + 1 → get_or (set xs n x) k d ≡ f (numbered k)

@@ -1,29 +1,24 @@
 -- The least rank is of the group of the one that leads, and where the verdict is settled by groups alone it is the same for each such rank.
-use Rattle.std.proofs.Common.{◌≡◌, ℕ, ◌+◌, ◌<◌, Bool, true, false, cond, not, List, [], ◌∷◌, ◌++◌, length, take, get_or, Option, Some, None, refl, sym, ap, subst, ◌∙◌, arith, take-suc, add-one}
-use Rattle.std.specs.Prelude.{◌==◌, ◌||◌, nat_lt}
+use Rattle.std.proofs.Common.{◌≡◌, ℕ, ◌+◌, ◌<◌, Bool, true, false, cond, List, [], ◌∷◌, ◌++◌, length, take, get_or, Option, Some, None, refl, sym, ap, subst, ◌∙◌, arith, take-suc, add-one}
+use Rattle.std.specs.Prelude.{◌==◌, nat_lt}
 use Rattle.std.specs.List.{filter_map, reduce}
 use Rattle.std.specs.declared.cmp.Ordering.{Ordering}
 use Rattle.std.specs.declared.cmp.Ordering.TheVariants.{Less, Equal, Greater}
 use Rattle.std.specs.Ordering.{nat_cmp, ordering_then, is_lt, ord_min, MatchOrdering}
-use Rattle.std.proofs.lemmas.Bool.{false≢true, eqb-true, eq-eqb, ltb-true, not-true, false_from_ne_true, lt-ltb}
+use Rattle.std.proofs.lemmas.Bool.{false≢true, eqb-true, eq-eqb, ltb-true, false_from_ne_true, lt-ltb}
 use Rattle.std.proofs.lemmas.Cmp.{ranked}
 use Rattle.std.proofs.lemmas.List.Elements.{filter_map-append}
 use Rattle.dac_base.specs.Ids.{node_cmp}
 use Rattle.dac_base.specs.declared.AppId.{AppId}
-use Rattle.dac_base.specs.declared.NodeId.{NodeId}
 use Rattle.dac_lattice.specs.Lattices.{join_options}
-use Rattle.dac_placement.specs.declared.standing.Standing.{Standing}
-use Rattle.dac_placement.specs.declared.standing.Standing.TheVariants.{Unclaimed, Lost, Stopped, Barred, Upheld}
-use Rattle.dac_placement.specs.declared.verdicts.Verdict.TheVariants.{Start, Failover, Move, Takeover, Kept}
 use Rattle.dac_placement.specs.declared.ranking.Rank.{Rank}
 use Rattle.dac_placement.specs.Ranks.{rank_cmp}
-use Rattle.dac_placement.specs.Placement.{is_less}
 use Rattle.dac_placement.specs.laws.Least.{reduce_more}
 use Rattle.dac_board.specs.declared.spot.Spot.{Spot}
 use Rattle.dac_board.specs.declared.leading.Lead.{Lead}
 use Rattle.dac_board.specs.Boards.{RowValue}
-use Rattle.dac_board.specs.Rows.{load_on, rank_on, first_on, verdict_on}
-use Rattle.dac_board.specs.Leads.{beside, lead_with, IsLead, Leads, is_settled}
+use Rattle.dac_board.specs.Rows.{load_on, rank_on, first_on}
+use Rattle.dac_board.specs.Leads.{beside, lead_with, IsLead, Leads}
 
 -- the first of one node more
 pub first_more : (rows : List RowValue) (app : AppId) (spots : List (Option Spot)) (place : ℕ) → place < length spots
@@ -102,28 +97,3 @@ lead_more rows app (Some lead) (Some r) (Some spot) leads =
   where
     one : (x y : Rank) → ◌≡◌ {A = Option Rank} (Some x) (Some y) → x ≡ y
     one x y e = cc
-
--- ---- the verdict that is settled
-
-same_upheld : (holder : NodeId) (group : Option ℕ) (lead : Lead) (r : Rank) → r.group ≡ lead.spot.group → (lead.alone ≡ true → r.node ≡ lead.spot.node)
-    → (lead.alone || not (is_less (Some lead.spot.group) group)) ≡ true → (a : Bool) → lead.alone ≡ a
-    → verdict_on (Upheld holder) group (Some r) ≡ cond (is_less (Some lead.spot.group) group) (Takeover lead.spot.node) (Kept holder)
-same_upheld holder group lead r same alone settled true is = λ i. cond (is_less (Some (same i)) group) (Takeover (alone is i)) (Kept holder)
-same_upheld holder group lead r same alone settled false is =
-    let level : is_less (Some lead.spot.group) group ≡ false = not-true (is_less (Some lead.spot.group) group) (sym (ap (λ a. a || not (is_less (Some lead.spot.group) group)) is) ∙ settled) in
-    ap (λ g. cond (is_less (Some g) group) (Takeover r.node) (Kept holder)) same ∙ ap (λ b. cond b (Takeover r.node) (Kept holder)) level ∙ sym (ap (λ b. cond b (Takeover lead.spot.node) (Kept holder)) level)
-
--- the one that leads, as if nothing ran at it
-abbrev pub leading_rank : Lead → Rank
-leading_rank lead = record { group = lead.spot.group; load = 0; node = lead.spot.node }
-
-pub settled_same : (standing : Standing) (group : Option ℕ) (lead : Lead) (r : Rank) → r.group ≡ lead.spot.group → (lead.alone ≡ true → r.node ≡ lead.spot.node) → is_settled standing group lead ≡ true
-    → verdict_on standing group (Some r) ≡ verdict_on standing group (Some (leading_rank lead))
-settled_same (Stopped holder) group lead r same alone settled = refl
-settled_same (Upheld holder) group lead r same alone settled = same_upheld holder group lead r same alone settled lead.alone refl
-settled_same Unclaimed group lead r same alone settled = ap Start (alone settled)
-settled_same Lost group lead r same alone settled = ap Failover (alone settled)
-settled_same Barred group lead r same alone settled = ap Move (alone settled)
-
-pub settled_first : (standing : Standing) (group : Option ℕ) (lead : Lead) (first : Option Rank) → IsLead lead first → is_settled standing group lead ≡ true → verdict_on standing group (Some (leading_rank lead)) ≡ verdict_on standing group first
-settled_first standing group lead first leads settled = sym (ap (verdict_on standing group) leads.first ∙ settled_same standing group lead leads.rank leads.group leads.alone settled)

@@ -1,5 +1,5 @@
 -- The places of the groups of nodes, as an application keeps them.
-use Rattle.std.proofs.Common.{◌≡◌, ℕ, ◌+◌, ◌<◌, ◌≤◌, get_or, true, false, cond, eqb, List, [], ◌∷◌, ◌++◌, length, map, All, Bor, position, Option, Some, None, slice_get, refl, sym, ap, ◌∙◌, arith}
+use Rattle.std.proofs.Common.{◌≡◌, ℕ, ◌+◌, ◌<◌, ◌≤◌, get_or, true, false, cond, eqb, List, [], ◌∷◌, length, map, All, Bor, position, Option, Some, None, slice_get, refl, sym, ap, ◌∙◌, arith}
 use Rattle.std.specs.Prelude.{nat_lt}
 use Rattle.std.specs.Global.{Vec}
 use Rattle.std.specs.List.{list_any, position_from}
@@ -7,17 +7,14 @@ use Rattle.std.specs.Option.{option_map, option_and_then}
 use Rattle.std.specs.Map.Iter.{deref_pair}
 use Rattle.std.proofs.lemmas.Bool.{false_from_ne_true, eqb-true, ltb-true, ltb-false, lt-ltb}
 use Rattle.std.proofs.lemmas.Iterator.Adapters.{position_from-zero}
-use Rattle.std.proofs.lemmas.List.{length_push, get_or_push, get_or_append_left}
 use Rattle.std.proofs.lemmas.List.Elements.{All-head, All-tail}
 use Rattle.std.proofs.lemmas.List.Folds.{list_any_none}
-use Rattle.std.proofs.lemmas.Option.{slice_get_past, slice_get-get_or}
+use Rattle.std.proofs.lemmas.Option.{slice_get_past}
 use Rattle.dac_base.specs.declared.limits.TheConstants.{MAX_NODES}
-use Rattle.dac_base.specs.declared.NodeId.{NodeId}
-use Rattle.dac_base.specs.declared.AppId.{AppId}
 use Rattle.dac_config.specs.declared.config.App.{App}
 use Rattle.dac_config.specs.declared.config.Tables.{Tables}
-use Rattle.dac_config.specs.Table.{Table, group_among, group_of}
-use Rattle.dac_config.specs.ConfigView.{named_row, groups_in, place_by, place_at, ArePlaces, IsPlaced}
+use Rattle.dac_config.specs.Table.{group_among}
+use Rattle.dac_config.specs.ConfigView.{place_by, place_at, ArePlaces, IsPlaced}
 use Rattle.dac_config.proofs.Tables.{position-map, all_at}
 
 -- a place below MAX_NODES stands for itself
@@ -49,21 +46,6 @@ none_outside count node groups below past = position_from-zero (λ group. list_a
 abbrev pub ArePlacesBelow : ℕ → List ℕ → List (List ℕ) → Type 0
 ArePlacesBelow n places groups = (node : ℕ) → node < n → place_at places node ≡ group_among groups node
 
-pub place_pushed : (n : ℕ) (places new : List ℕ) (place : ℕ) (groups : List (List ℕ)) → length places ≡ n → new ≡ places ++ place ∷ [] → place_by place ≡ group_among groups n → ArePlacesBelow n places groups → ArePlacesBelow (n + 1) new groups
-place_pushed n places new place groups count is one so_far = λ node low.
-    let all = places ++ place ∷ [] in
-    let within : node < length all = omega (arith, low, count, length_push places place) in
-    let there : place_at new node ≡ place_by (get_or all node 0) = ap (λ ps. place_at ps node) is ∙ ap (option_and_then place_by) (slice_get-get_or all node 0 within) in
-    elim (nat_lt node n) as (λ b. nat_lt node n ≡ b → place_at new node ≡ group_among groups node) [
-      | true ↦ λ e.
-          let before = ltb-true node n e in
-          let inside : node < length places = omega (arith, before, count) in
-          there ∙ ap place_by (get_or_append_left places (place ∷ []) 0 node inside) ∙ sym (ap (option_and_then place_by) (slice_get-get_or places node 0 inside)) ∙ so_far node before
-      | false ↦ λ e.
-          let last : n ≡ node = omega (arith, low, ltb-false node n e) in
-          there ∙ ap place_by (get_or_push places place 0 node (count ∙ last)) ∙ one ∙ ap (group_among groups) last
-    ] refl
-
 pub places_all : (n : ℕ) (places : List ℕ) (groups : List (List ℕ)) → length places ≡ n → All (All (λ number. number < n)) groups → ArePlacesBelow n places groups → ArePlaces places groups
 places_all n places groups count below so_far = λ node.
     elim (nat_lt node n) as (λ b. nat_lt node n ≡ b → place_at places node ≡ group_among groups node) [
@@ -78,6 +60,3 @@ places_all n places groups count below so_far = λ node.
 
 pub place_kept : (c : Tables) (i : ℕ) (got : Option (Bor (Vec ℕ) × Bor App)) (entry : Bor (Vec ℕ) × Bor App) → All IsPlaced c.apps.entries → option_map deref_pair got ≡ slice_get c.apps.entries i → got ≡ Some entry → IsPlaced (deref_pair entry)
 place_kept c i got entry all same was = all_at IsPlaced c.apps.entries i (deref_pair entry) all (sym same ∙ ap (option_map deref_pair) was)
-
-pub group_kept : (table : Table) (id : AppId) (node : NodeId) (name : List ℕ) (app : App) → slice_get table.apps id.0 ≡ Some (named_row name app) → ArePlaces app.places.items (groups_in app) → place_at app.places.items node.0 ≡ group_of table id node
-group_kept table id node name app e placed = rw e (placed node.0)

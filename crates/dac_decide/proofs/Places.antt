@@ -16,11 +16,6 @@ module _ (table : Table) (note : Note) (notes : List Note) where
       let none : app_count table - app_count table ≡ 0 = omega arith in
       ap (λ n. kept_of (note ∷ notes) 0 (app_count table) ++ kept_of notes (app_count table) n) none ∙ append-nil (kept_of (note ∷ notes) 0 (app_count table))
 
-  pub partly_none : waits_of table notes ≡ partly 0
-  partly_none =
-      let all : app_count table ≡ app_count table - 0 = omega arith in
-      ap (kept_of notes 0) all
-
   -- the place that is next
   at_seam : (n : ℕ) → n < app_count table → partly n ≡ kept_of (note ∷ notes) 0 n ++ noted_of (numbered n) notes ∷ kept_of notes (n + 1) (app_count table - (n + 1))
   at_seam n lt =

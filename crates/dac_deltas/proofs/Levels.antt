@@ -22,10 +22,6 @@ aligned_below x j k h p =
 pub aligned_after : (x k : ℕ) → x % 2 ^ k ≡ 0 → (x + 2 ^ k) % 2 ^ k ≡ 0
 aligned_after x k p = add-mod_right x (2 ^ k) ∙ p
 
--- one block before
-pub aligned_before : (x y k : ℕ) → y + 2 ^ k ≡ x → x % 2 ^ k ≡ 0 → y % 2 ^ k ≡ 0
-aligned_before x y k to p = sym (add-mod_right y (2 ^ k)) ∙ (ap (λ n. n % 2 ^ k) to ∙ p)
-
 -- a multiple of p is a multiple of 2 p, or one more p makes it one
 one_more : (r h p x : ℕ) → r < 2 → (r + h * 2) * p ≡ x → (x % (p + p) ≡ 0) ⊎ ((x + p) % (p + p) ≡ 0)
 one_more zero h p x low is =

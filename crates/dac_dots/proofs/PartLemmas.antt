@@ -105,9 +105,6 @@ module _ {Z : Type 0} where
   some_part : (p : Arc Dots Z) (ps : List (Arc Dots Z)) (q : Dot) → any_row (all_rows (p ∷ ps)) q ≡ (any_row (rows_in p) q || any_row (all_rows ps) q)
   some_part p ps q = ap (λ (rows : List Row). any_row rows q) (next_part p ps) ∙ list_any-append (row_has q) (rows_in p) (all_rows ps)
 
-  Filled : Arc Dots Z → Type 0
-  Filled part = 0 < length (rows_in part)
-
   -- where a later part ends before the origin, so do the rows before it
   before_later : (o : Origin) (xs : List Row) (ps : List (Arc Dots Z)) (i : ℕ) (d : Arc Dots Z) → IsRising origin_cmp (origins (xs ++ all_rows ps)) → All (λ (part : Arc Dots Z). 0 < length (rows_in part)) ps → i < length ps → end_before o (rows_in (get_or ps i d)) ≡ true → end_before o xs ≡ true
   before_later o xs [] i d h full p e = absurd (omega arith)
@@ -468,9 +465,6 @@ left_below z (x ∷ xs) ys h = let parts = and_parts (is_lt (origin_cmp z x.orig
 left_rising : (xs ys : List Row) → IsRising origin_cmp (origins (xs ++ ys)) → IsRising origin_cmp (origins xs)
 left_rising [] ys h = refl
 left_rising (x ∷ xs) ys h = let parts = and_parts (is_below_all origin_cmp x.origin (origins (xs ++ ys))) (is_rising origin_cmp (origins (xs ++ ys))) h in and_from _ _ (left_below x.origin xs ys parts.0) (left_rising xs ys parts.1)
-
-abbrev IsOk : Row → Type 0
-IsOk row = IsKept row × HasSome row
 
 left_each : (xs ys : List Row) → AllByRecursion (λ row. IsKept row × HasSome row) (xs ++ ys) → AllByRecursion (λ row. IsKept row × HasSome row) xs
 left_each [] ys h = tt

@@ -1,10 +1,10 @@
 -- The counters of the spans that begin above a number, place by place.
-use Rattle.std.proofs.Common.{◌≡◌, ℕ, zero, suc, ◌+◌, ◌-◌, ◌<◌, ◌≤◌, Bool, true, false, cond, ◌||◌, ◌&&◌, nat_le, nat_lt, nat_eq, List, [], ◌∷◌, ◌++◌, length, drop, get_or, Option, Some, None, refl, sym, ap, ◌∙◌, arith, add-one}
+use Rattle.std.proofs.Common.{◌≡◌, ℕ, zero, suc, ◌+◌, ◌-◌, ◌<◌, ◌≤◌, Bool, true, false, cond, ◌||◌, ◌&&◌, nat_lt, nat_eq, List, [], ◌∷◌, ◌++◌, length, drop, get_or, Some, refl, sym, ap, ◌∙◌, arith, add-one}
 use Rattle.std.specs.Ordering.{nat_cmp, eq_by_cmp}
 use Rattle.std.specs.List.{slice_get}
 use Rattle.std.proofs.lemmas.Bool.{and_from, ltb-true}
 use Rattle.std.proofs.lemmas.List.Folds.{list_any-append}
-use Rattle.dac_origins.specs.Keys.{is_below_all, is_rising, IsRising, has_key}
+use Rattle.dac_origins.specs.Keys.{is_below_all, IsRising, has_key}
 use Rattle.dac_dots.specs.Rows.{further_of, reach_of}
 use Rattle.dac_dots.specs.Spans.{from_on, counters_of_span, counters_in, span_has, any_past, are_apart, past}
 use Rattle.dac_dots.specs.declared.spans.Span.{Span}
@@ -69,12 +69,6 @@ behind_span u spans i d left rest lt above p = behind_span_suc u spans i d left 
 pub skipped_span : (u : ℕ) (spans : List Span) (i : ℕ) (d : Span) (left : ℕ) → i < length spans → nat_lt u (get_or spans i d).first ≡ false
     → slice_get (past u (drop i spans)) left ≡ slice_get (past u (drop (i + 1) spans)) left
 skipped_span u spans i d left lt below = skipped_span_suc u spans i d left lt below ∙ ap (λ k. slice_get (past u (drop k spans)) left) (sym (add-one i))
-
-pub behind_all : (u : ℕ) (spans : List Span) (i left : ℕ) → length spans ≤ i → slice_get (past u (drop i spans)) left ≡ None
-behind_all u [] zero left p = refl
-behind_all u [] (suc i) left p = refl
-behind_all u (span ∷ spans) zero left p = absurd (omega arith)
-behind_all u (span ∷ spans) (suc i) left p = behind_all u spans i left (omega arith)
 
 -- ---- they are the further ones
 

@@ -56,11 +56,6 @@ unfolding from_on
 below_from x f zero p = refl
 below_from x f (suc k) p = and_from _ _ (is_less x f p) (below_from x (suc f) k (omega arith))
 
-rising_from : (f k : ℕ) → IsRising nat_cmp (from_on f k)
-unfolding from_on
-rising_from f zero = refl
-rising_from f (suc k) = and_from _ _ (below_from f (suc f) k (omega arith)) (rising_from (suc f) k)
-
 pub below_append : (x : ℕ) (xs ys : List ℕ) → is_below_all nat_cmp x xs ≡ true → is_below_all nat_cmp x ys ≡ true → is_below_all nat_cmp x (xs ++ ys) ≡ true
 below_append x [] ys g h = h
 below_append x (y ∷ xs) ys g h = and_from _ _ (and_parts _ _ g).0 (below_append x xs ys (and_parts _ _ g).1 h)
@@ -225,50 +220,6 @@ put_apart span (next ∷ spans) (suc place) low v p at h =
     let is = apart_first low next spans h in
     apart_from low next (take place spans ++ absorbed span (drop place spans)) is.0 is.1.0
     (put_apart span spans place (next.last + 2) v (is_far next.last span.first (at.before 0 next (omega arith) (omega arith))) (rest_place next spans place span.first at) is.1.1)
-
--- ---- spans that are taken out
-
-pub drop_here : (spans : List Span) (i : ℕ) (d : Span) → i < length spans → drop i spans ≡ get_or spans i d ∷ drop (suc i) spans
-drop_here [] i d p = absurd (omega arith)
-drop_here (span ∷ spans) zero d p = refl
-drop_here (span ∷ spans) (suc i) d p = drop_here spans i d (omega arith)
-
-pub take_removed : (spans : List Span) (i : ℕ) → take i (take i spans ++ drop (suc i) spans) ≡ take i spans
-take_removed spans zero = refl
-take_removed [] (suc i) = refl
-take_removed (span ∷ spans) (suc i) = ap (λ (l : List Span). span ∷ l) (take_removed spans i)
-
-pub drop_removed : (spans : List Span) (i : ℕ) → i < length spans → drop i (take i spans ++ drop (suc i) spans) ≡ drop (suc i) spans
-drop_removed [] i p = absurd (omega arith)
-drop_removed (span ∷ spans) zero p = refl
-drop_removed (span ∷ spans) (suc i) p = drop_removed spans i (omega arith)
-
-length_removed : (spans : List Span) (i : ℕ) → i < length spans → length (take i spans ++ drop (suc i) spans) + 1 ≡ length spans
-length_removed [] i p = absurd (omega arith)
-length_removed (span ∷ spans) zero p = omega arith
-length_removed (span ∷ spans) (suc i) p = let more = length_removed spans i (omega arith) in omega arith
-
-absorbed_reached : (span next : Span) (spans : List Span) → nat_le next.first (span.last + 1) ≡ true → absorbed span (next ∷ spans) ≡ absorbed (hull span next) spans
-absorbed_reached span next spans e = ap (λ b. cond b (absorbed (hull span next) spans) (span ∷ next ∷ spans)) e
-
-absorbed_far : (span next : Span) (spans : List Span) → nat_le next.first (span.last + 1) ≡ false → absorbed span (next ∷ spans) ≡ span ∷ next ∷ spans
-absorbed_far span next spans e = ap (λ b. cond b (absorbed (hull span next) spans) (span ∷ next ∷ spans)) e
-
--- a span that is reached is taken out, and joined
-pub absorbed_more : (span : Span) (spans : List Span) (i : ℕ) (d : Span) → i < length spans → nat_le (get_or spans i d).first (span.last + 1) ≡ true → absorbed span (drop i spans) ≡ absorbed (hull span (get_or spans i d)) (drop i (take i spans ++ drop (suc i) spans))
-absorbed_more span spans i d p e =
-    ap (absorbed span) (drop_here spans i d p) ∙ absorbed_reached span (get_or spans i d) (drop (suc i) spans) e ∙ ap (absorbed (hull span (get_or spans i d))) (sym (drop_removed spans i p))
-
--- nothing is left to be joined
-pub absorbed_end : (span : Span) (spans : List Span) (i : ℕ) → length spans ≤ i → absorbed span (drop i spans) ≡ span ∷ drop i spans
-absorbed_end span [] zero p = refl
-absorbed_end span [] (suc i) p = refl
-absorbed_end span (next ∷ spans) zero p = absurd (omega arith)
-absorbed_end span (next ∷ spans) (suc i) p = absorbed_end span spans i (omega arith)
-
-pub absorbed_stop : (span : Span) (spans : List Span) (i : ℕ) (d : Span) → i < length spans → nat_le (get_or spans i d).first (span.last + 1) ≡ false → absorbed span (drop i spans) ≡ span ∷ drop i spans
-absorbed_stop span spans i d p e =
-    ap (absorbed span) (drop_here spans i d p) ∙ absorbed_far span (get_or spans i d) (drop (suc i) spans) e ∙ ap (λ (l : List Span). span ∷ l) (sym (drop_here spans i d p))
 
 -- ---- where a search ends
 
@@ -596,18 +547,6 @@ all_listed f l k p e old mid new so_far one n =
 
 pub any_more : (spans : List Span) (i : ℕ) (d : Span) → i < length spans → (n : ℕ) → any_span (take (i + 1) spans) n ≡ (any_span (take i spans) n || span_has n (get_or spans i d))
 any_more spans i d p n = list_any_more (span_has n) spans i d p
-
-pub put_more : (spans : List Span) (i : ℕ) (d : Span) → i < length spans → (old mid new : List ℕ) → ((n : ℕ) → has_key nat_cmp mid n ≡ (any_span (take i spans) n || has_key nat_cmp old n)) → ((n : ℕ) → has_key nat_cmp new n ≡ (span_has n (get_or spans i d) || has_key nat_cmp mid n))
-    → (n : ℕ) → has_key nat_cmp new n ≡ (any_span (take (i + 1) spans) n || has_key nat_cmp old n)
-put_more spans i d p old mid new so_far one n =
-    one n ∙ ap (λ b. span_has n (get_or spans i d) || b) (so_far n) ∙ or_turn (span_has n (get_or spans i d)) (any_span (take i spans) n) (has_key nat_cmp old n) ∙ ap (λ b. b || has_key nat_cmp old n) (sym (any_more spans i d p n))
-
-pub subset_more : (spans : List Span) (i : ℕ) (d : Span) → i < length spans → (other : List ℕ) → ((n : ℕ) → any_span (take i spans) n ≡ true → has_key nat_cmp other n ≡ true) → ((n : ℕ) → span_has n (get_or spans i d) ≡ true → has_key nat_cmp other n ≡ true)
-    → (n : ℕ) → any_span (take (i + 1) spans) n ≡ true → has_key nat_cmp other n ≡ true
-subset_more spans i d p other so_far one n e = elim (or_cases (any_span (take i spans) n) (span_has n (get_or spans i d)) (sym (any_more spans i d p n) ∙ e)) [
-  | inl past ↦ so_far n past
-  | inr here ↦ one n here
-]
 
 -- a span of the set has its counters there
 pub span_within : (spans : List Span) (now : List ℕ) → counters_in spans ≡ now → (i : ℕ) (d : Span) → i < length spans → (n : ℕ) → span_has n (get_or spans i d) ≡ true → has_key nat_cmp now n ≡ true

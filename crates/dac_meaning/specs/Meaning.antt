@@ -15,7 +15,6 @@ use Rattle.dac_lattice.specs.declared.flags.Flag.{Flag}
 use Rattle.dac_lattice.specs.declared.flags.Flag.TheVariants.{Up, Down}
 use Rattle.dac_lattice.specs.Pieces.{joined}
 use Rattle.dac_chains.specs.declared.lives.Life.{Life}
-use Rattle.dac_chains.specs.declared.claims.Claim.{Claim as ClaimValue}
 use Rattle.dac_chains.specs.Greatest.{alone, greater}
 use Rattle.dac_chains.specs.Lives.{Lives, life_cmp, said_life}
 use Rattle.dac_chains.specs.Claims.{Claims, claim_cmp, said_claim}
@@ -140,14 +139,6 @@ permit_vote _ = None
 -- the act says this of the key
 abbrev pub says : Key → Bool → Act → Bool
 says key v a = vote_says key_cmp key v (permit_vote a)
-
--- the operation is this permit, with this value
-abbrev pub is_permit : Write → Bool → Operation → Bool
-is_permit = is_vote key_cmp permit_vote
-
--- what the operations say that are this permit: false is Down
-abbrev pub said : Write → List Operation → Option Flag
-said = vote_said key_cmp permit_vote false
 
 -- the permit that stands, if it does
 abbrev pub permit_at : List Operation → Write → Option Flag

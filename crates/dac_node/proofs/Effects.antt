@@ -1,5 +1,5 @@
 -- What changes do, event by event.
-use Rattle.std.proofs.Common.{◌≡◌, ◌-◌, ◌≤◌, ℕ, Bool, true, false, cond, List, [], ◌∷◌, length, Option, Some, None, refl, sym, ap, subst, ◌∙◌, arith, true≢false}
+use Rattle.std.proofs.Common.{◌≡◌, ◌-◌, ◌≤◌, ℕ, Bool, true, false, cond, List, [], ◌∷◌, Option, Some, None, refl, sym, ap, subst, ◌∙◌, arith, true≢false}
 use Rattle.std.specs.Prelude.{fold, max, min}
 use Rattle.dac_base.specs.declared.limits.TheConstants.{MAX_COUNTER}
 use Rattle.dac_base.specs.declared.NodeId.{NodeId}
@@ -16,7 +16,6 @@ use Rattle.dac_decide.specs.declared.start_gate.Opening.{Opening}
 use Rattle.dac_decide.specs.declared.start_gate.Opening.TheVariants.{Shut, Opened, GiveUp}
 use Rattle.dac_messages.specs.declared.event.Event.{Event}
 use Rattle.dac_messages.specs.declared.event.Event.TheVariants.{Boot, Crash, Tick, Ship, Hear, HearOp}
-use Rattle.dac_messages.specs.declared.event.Event.TheVariants.{Command as Commanded}
 use Rattle.dac_messages.specs.declared.reply.Reply.{Reply}
 use Rattle.dac_messages.specs.declared.reply.Reply.TheVariants.{Heard}
 use Rattle.dac_messages.specs.declared.message.Message.{Message}
@@ -24,14 +23,14 @@ use Rattle.dac_events.specs.declared.refusal.Refusal.TheVariants.{DotsUsedUp}
 use Rattle.dac_model_node.specs.dac_commands.laws.Written.{none_is}
 use Rattle.dac_model_node.specs.NodeValue.{RunningValue}
 use Rattle.dac_model_node.specs.EventRefusals.{refusal_by, refusal_to_hear_op, overflows}
-use Rattle.dac_model_node.specs.Deeds.{Deed, brings, deed_of, hears_message, moment_of, opening_at, ticks_by}
+use Rattle.dac_model_node.specs.Deeds.{Deed, brings, deed_of, hears_message, opening_at, ticks_by}
 use Rattle.dac_model_node.specs.Accepted.{AreNewest, running_by}
 use Rattle.dac_model_node.specs.laws.Numbers.{fits, room_to_hear}
 use Rattle.dac_node.specs.declared.change.After.{After}
 use Rattle.dac_node.specs.declared.change.After.TheVariants.{Off, Boots, GoesOn, Keeps}
 use Rattle.dac_node.specs.Knowing.{AdvanceValue, adding, hearing, joining, knowledge_of, running_of}
-use Rattle.dac_node.specs.After.{running_after, after_by, after_from_base, from_base, gone_on, keeping, next_by, FitsIn, ShipsOwnIn}
-use Rattle.dac_node.specs.Changes.{ChangeValue, BootsBy, Effect, Fits, Prepared}
+use Rattle.dac_node.specs.After.{running_after, after_by, after_from_base, from_base, gone_on, next_by, FitsIn, ShipsOwnIn}
+use Rattle.dac_node.specs.Changes.{ChangeValue, Effect, Fits, Prepared}
 
 -- an event that notes nothing
 pub quiet_effect : (t : Table) (number : ℕ) (r : RunningValue) (e : Event) (change : ChangeValue) → (deed_of t r [] e).notes ≡ false → change.last ≡ number →
@@ -106,9 +105,6 @@ run_after_by r noted deed = by deed.goes_off
     by : (b : Bool) → running_after (cond b Off (GoesOn (next_by r noted deed))) (Some r) ≡ cond b None (Some (gone_on (next_by r noted deed) r))
     by true = refl
     by false = refl
-
-pub boots_prepared : (t : Table) (me : NodeId) (last : ℕ) (e : Event) (change : ChangeValue) → refusal_by t last None e ≡ None → BootsBy t me last (moment_of e) change → Prepared t me (record { last = last; running = None }) e change
-boots_prepared t me last e change none b = record { accepted = none; newest = tt; state = tt; noted = []; noting = tt; left = λ i. record { last = b.last i; running = b.after i }; reply = b.reply }
 
 pub effect_prepared : (t : Table) (me : NodeId) (last : ℕ) (r : RunningValue) (e : Event) (change : ChangeValue) → refusal_by t last (Some r) e ≡ None → AreNewest r.kept → IsState r.state → Effect t last r e change → Prepared t me (record { last = last; running = Some r }) e change
 effect_prepared t me last r e change none newest is f =

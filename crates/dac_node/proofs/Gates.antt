@@ -1,36 +1,23 @@
 -- What a tick does, by what its start gate answers.
-use Rattle.std.proofs.Common.{◌≡◌, ℕ, true, false, List, [], ◌∷◌, Option, refl, sym, ap, ◌∙◌, Some, None}
+use Rattle.std.proofs.Common.{◌≡◌, ℕ, true, List, [], ◌∷◌, Option, sym, ap, ◌∙◌, Some, None}
 use Rattle.std.specs.Prelude.{unwrap_or, MatchOption}
 use Rattle.dac_meaning.specs.StateValue.{StateValue}
 use Rattle.dac_config.specs.Table.{Table}
-use Rattle.dac_decide.specs.declared.start_gate.Opening.TheVariants.{Shut, Opened, GiveUp}
+use Rattle.dac_decide.specs.declared.start_gate.Opening.TheVariants.{Opened}
 use Rattle.dac_decide.specs.declared.waits.Noted.{Noted}
 use Rattle.dac_decide.specs.FailoverWait.{Note, waits_of}
 use Rattle.dac_messages.specs.declared.event.Event.TheVariants.{Tick}
-use Rattle.dac_messages.specs.declared.reply.Reply.TheVariants.{Ticked as HasTicked, Held as IsHeld, GaveUp}
-use Rattle.dac_model_node.specs.dac_ticks.declared.turning.Turn.{Turn as Made}
+use Rattle.dac_messages.specs.declared.reply.Reply.TheVariants.{Ticked as HasTicked}
 use Rattle.dac_model_node.specs.dac_ticks.Ticks.{Turn, turn_of}
 use Rattle.dac_model_node.specs.dac_ticks.TurnSoFar.{IsMade}
 use Rattle.dac_model_node.specs.NodeValue.{RunningValue}
 use Rattle.dac_model_node.specs.Deeds.{ticks_by, opening_at, meanings}
-use Rattle.dac_node.specs.declared.change.After.TheVariants.{Off, GoesOn}
+use Rattle.dac_node.specs.declared.change.After.TheVariants.{GoesOn}
 use Rattle.dac_node.specs.Knowing.{ticking, knowledge_of}
 use Rattle.dac_node.specs.After.{after_by, after_from_base}
 use Rattle.dac_node.specs.Changes.{ChangeValue, Effect}
-use Rattle.dac_node.proofs.Effects.{quiet_effect}
 
 module _ (t : Table) (number : ℕ) (r : RunningValue) (now : ℕ) where
-  pub held_effect : opening_at t r now ≡ Shut → (change : ChangeValue) → change ≡ record { last = number; after = GoesOn (ticking (knowledge_of r) now false r.waits []); reply = IsHeld } → Effect t number r (Tick now) change
-  held_effect is change same =
-      quiet_effect t number r (Tick now) change (ap (λ o. (ticks_by o t r [] now).notes) is) (ap (λ (c : ChangeValue). c.last) same)
-      (ap (λ (c : ChangeValue). c.after) same ∙ sym (ap (λ o. after_by r [] (ticks_by o t r [] now)) is))
-      (ap (λ (c : ChangeValue). c.reply) same ∙ sym (ap (λ o. (ticks_by o t r [] now).reply) is))
-
-  pub gave_up_effect : opening_at t r now ≡ GiveUp → Effect t number r (Tick now) (record { last = number; after = Off; reply = GaveUp })
-  gave_up_effect is =
-      quiet_effect t number r (Tick now) _ (ap (λ o. (ticks_by o t r [] now).notes) is) refl
-      (sym (ap (λ o. after_by r [] (ticks_by o t r [] now)) is)) (sym (ap (λ o. (ticks_by o t r [] now).reply) is))
-
   -- where so much is noted by then
   pub claimed_effect : opening_at t r now ≡ Opened → (noted : List (Option Noted)) → ((notes : List Note) → r.waits ≡ waits_of t notes → noted ≡ waits_of t (record { state = r.state; moment = now } ∷ notes)) →
       (change : ChangeValue)

@@ -1,5 +1,5 @@
 -- A step that does not lower the place keeps the rule.
-use Rattle.std.proofs.Common.{◌≡◌, ℕ, ◌≤◌, ◌≢◌, [], ◌∷◌, refl, subst, ⊎_elim, le_refl, le_trans, zero-le}
+use Rattle.std.proofs.Common.{◌≡◌, ℕ, ◌≤◌, ◌≢◌, refl, subst, ⊎_elim, le_refl, le_trans, zero-le}
 use mathlib.Core.Option.{some}
 use lib.ListN.{get_elem?}
 use Rattle.crossbeam_utils.specs.Register.{Admits, TurnsAt}
@@ -9,9 +9,6 @@ use Rattle.dac_pages.specs.Rising.{AllBelow}
 
 pub admits : Admits (λ (p : Page). AllBelow p.place) 0
 admits x views h seat v at = ⊎_elim (h seat v) (λ (e : 0 ≡ v). subst (λ (z : ℕ). z ≤ x.place) e zero-le) (at_snoc views 0 v seat at)
-
-pub begins : (n : ℕ) → AllBelow n (0 ∷ [])
-begins n seat v at = ⊎_elim (λ none. absurd (cc)) (λ (e : 0 ≡ v). subst (λ (z : ℕ). z ≤ n) e zero-le) (at_snoc [] 0 v seat at)
 
 pub rises : (seat v : ℕ) (x y : Page) → x.place ≤ y.place → TurnsAt (λ (p : Page). AllBelow p.place) seat v x y (λ v x y w. (v ≤ x.place) × (w ≡ y.place))
 rises seat v x y up views h at = (

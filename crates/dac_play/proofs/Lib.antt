@@ -6,4 +6,3 @@ mod Shares
 mod Simulating
 mod Telling
 mod Unchecked
-mod WireTexts

@@ -74,9 +74,6 @@ told_one table old mid new pair heard shipped delivered = record {
 }
 
 -- ---- all pairs
-pub share_none : (table : Table) (v : WorldValue) (all : List (NodeId × NodeId)) → Leads table v (λ w. fold (after_telling table) w (take 0 all)) v
-share_none table v all = record { each = λ w shows. shows }
-
 pub share_more : (table : Table) (old mid new : WorldValue) (all : List (NodeId × NodeId)) (i : ℕ) (pair d : NodeId × NodeId) → i < length all → pair ≡ get_or all i d
     → Leads table old (λ w. fold (after_telling table) w (take i all)) mid → Leads table mid (λ w. after_telling table w pair) new → Leads table old (λ w. fold (after_telling table) w (take (i + 1) all)) new
 share_more table old mid new all i pair d lt here before more = record {

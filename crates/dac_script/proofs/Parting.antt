@@ -7,7 +7,7 @@ use Rattle.std.proofs.Math.Seq.{take-append_seam}
 use Rattle.std.proofs.lemmas.List.{take_all, drop-drop, length-drop}
 use Rattle.std.proofs.lemmas.List.Sums.{split_at_first, passes_at_first, fails_before_first}
 use Rattle.std.proofs.lemmas.List.Elements.{All-from_get_or}
-use Rattle.std.proofs.lemmas.List.Elements.{All-push, All-nil}
+use Rattle.std.proofs.lemmas.List.Elements.{All-push}
 use Rattle.std.proofs.lemmas.List.Splits.{join_with_byte-slice_split, slice_split_first, slice_split_none}
 use Rattle.dac_script.specs.Script.{lines_of}
 use Rattle.dac_script.specs.Input.{divider, line_len, with_feeds, IsParted}
@@ -18,9 +18,6 @@ pub record IsFront (text rest : List ℕ) : Type 0 where
   pub lines : lines_of text ≡ before ++ lines_of rest
   pub first : All (λ line. line ≢ divider) before
   pub text_is : text ≡ with_feeds before ++ rest
-
-pub front_none : (text : List ℕ) → IsFront text text
-front_none text = record { before = []; lines = refl; first = All-nil _; text_is = refl }
 
 with_feeds_push : (lines : List (List ℕ)) (line : List ℕ) → with_feeds (lines ++ line ∷ []) ≡ with_feeds lines ++ (line ++ 10 ∷ [])
 with_feeds_push [] line = refl
@@ -40,9 +37,6 @@ front_len text rest front = omega (arith, ap length front.text_is, length-append
 
 pub front_take : (text rest : List ℕ) (front : IsFront text rest) → take (length text - length rest) text ≡ with_feeds front.before
 front_take text rest front = ap (λ n. take n text) (front_len text rest front) ∙ ap (take (length (with_feeds front.before))) front.text_is ∙ take-append_seam (with_feeds front.before) rest
-
-pub rest_within : (text rest : List ℕ) → IsFront text rest → length rest ≤ length text
-rest_within text rest front = omega (arith, ap length front.text_is, length-append (with_feeds front.before) rest)
 
 pub parted_at_end : (text rest config : List ℕ) → lines_of rest ≡ divider ∷ [] → config ≡ take (length text - length rest) text → IsFront text rest → IsParted text config []
 parted_at_end text rest config last is_config front = record {

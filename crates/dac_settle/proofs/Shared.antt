@@ -27,7 +27,7 @@ use Rattle.dac_model_world.specs.ModelNode.{ModelNode, joined, shown, running_sh
 use Rattle.dac_model_world.specs.EventRefusals.{refusal_of}
 use Rattle.dac_model_world.specs.Deeds.{message_of, body_from}
 use Rattle.dac_model_world.specs.Step.{step_by}
-use Rattle.dac_model_world.specs.ModelWorld.{ModelWorld, Run, happens, answered_by}
+use Rattle.dac_model_world.specs.ModelWorld.{ModelWorld, Run, answered_by}
 use Rattle.dac_model_world.specs.SetWorld.{NodeSet, SetWorld, no_sets, set_run}
 use Rattle.dac_model_world.specs.Fits.{RunsIn}
 use Rattle.dac_model_world.specs.Shares.{TellsAll, IsShare, KnowPresent}
@@ -65,9 +65,6 @@ module _ (n : NodeId) (log : List StateValue) (base : ℕ) (to : NodeId) where
 
   -- it hears this from the other, which knows so much
   module _ (theirs : List StateValue) (m : Message) where
-    abbrev is_new : Bool
-    is_new = not (is_below (joined theirs) (joined (log ++ [])))
-
     few : length log ≤ 9 → nat_lt MAX_COUNTER (length (log ++ []) + 1) ≡ false
     few short = ap (λ (l : List StateValue). nat_lt MAX_COUNTER (length l + 1)) (append-nil log) ∙ few_by (length log) short
 

@@ -105,10 +105,6 @@ mark_in marks node = slice_index_or marks node.0 mark.Down
 abbrev pub label_text : Table → NodeId → List ℕ
 label_text table node = codes " " ++ (name_text (node_name table node) ++ codes "=")
 
--- a node with its mark
-abbrev pub marked_text : Table → Mark → NodeId → List ℕ
-marked_text table mark node = label_text table node ++ mark_text mark
-
 -- what the nodes begin their marks with, by their numbers
 abbrev pub labels_of : Table → List (List ℕ)
 labels_of table = list_map (label_text table) (nodes_of table)

@@ -177,10 +177,6 @@ module _ {K X : Type 0} where
   before_first R part ys e is all = subst (AreBefore R part) (sym is) all
 
   module _ (R : K → K → Ordering) (f : Combine K X) where
-    -- nothing is merged so far
-    pub part_start : (left part : List (K × X)) (now ys : List (K × X)) → left ≡ part → (xs : List (K × X)) → now ++ merge_entries R f (left ++ xs) ys ≡ now ++ merge_entries R f (part ++ xs) ys
-    part_start left part now ys e xs = ap (λ l. now ++ merge_entries R f (l ++ xs) ys) e
-
     -- what is left of the first map is a part, and what comes after it
     pub merged_on : (now new rest part next ys zs whole : List (K × X)) → now ++ merge_entries R f rest ys ≡ whole → rest ≡ part ++ next → IsMergedPart R f part now ys new zs → new ++ merge_entries R f next zs ≡ whole
     merged_on now new rest part next ys zs whole so_far is merged = merged next ∙ ap (λ l. now ++ merge_entries R f l ys) (sym is) ∙ so_far

@@ -109,15 +109,6 @@ module _ (t : Dots) (ks : List Dot) (had now : Dots) where
   pub loses_all : (c : Dots) → set.from_list ks ≡ c → (i : ℕ) → length ks ≤ i → LosesMissing t (take i ks) had now → (q : Dot) → set.contains now q ≡ (set.contains had q && may_stay t c q)
   loses_all c is i h so_far q = so_far q ∙ ap (λ l. set.contains had q && (set.contains t q || not (has_key dot_cmp l q))) (take_all i ks h) ∙ ap (λ b. set.contains had q && (set.contains t q || not b)) (has_is dots_total ks c is q)
 
--- nothing lost so far
-pub loses_nothing : (t : Dots) (ks : List Dot) (had : Dots) → LosesMissing t (take 0 ks) had had
-loses_nothing t ks had q = sym (and_all (set.contains had q) (set.contains t q))
-  where
-    and_all : (h t : Bool) → (h && (t || true)) ≡ h
-    and_all true true = refl
-    and_all true false = refl
-    and_all false t = refl
-
 -- ---- calls that fail
 
 pub fails_so : {T E P : Type 0} (r : Result T E) → P → OnErr r P

@@ -89,13 +89,6 @@ numbered_app n = record { 0 = n }
 abbrev pub numbered_node : ℕ → NodeId
 numbered_node n = record { 0 = n }
 
--- what holds below a number and at it holds below the next one
-pub one_below : (P : ℕ → Type 0) (n : ℕ) → ((k : ℕ) → k < n → P k) → P n → (k : ℕ) → k < n + 1 → P k
-one_below P n before here k lt = elim (nat_lt k n) as (λ b. nat_lt k n ≡ b → P k) [
-  | true ↦ λ e. before k (ltb-true k n e)
-  | false ↦ λ e. let same : n ≡ k = omega (arith, lt, ltb-false k n e) in subst P same here
-] refl
-
 -- ---- rows
 
 module _ (t u : Table) (alike : AreAlike t u) (here : HasMembers t) (there : HasMembers u) (s : StateValue) where

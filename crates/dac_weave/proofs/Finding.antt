@@ -114,12 +114,6 @@ get-counted {X} x xs k = elim (nat_eq k 0) as (λ b. cond b None (slice_get xs (
 abbrev pub AllEmpty : List (Vec ℕ) → Type 0
 AllEmpty lists = (i : ℕ) (v : Vec ℕ) → slice_get lists i ≡ Some v → v.items ≡ []
 
-pub empty-push : (lists more : List (Vec ℕ)) (v : Vec ℕ) → AllEmpty lists → v.items ≡ [] → more ≡ lists ++ v ∷ [] → AllEmpty more
-empty-push lists more v h none is i u at = elim (push-cases lists v i u (subst (λ xs. slice_get xs i ≡ Some u) is at)) [
-  | inl old ↦ h i u old
-  | inr new ↦ subst (λ (w : Vec ℕ). w.items ≡ []) new.1 none
-]
-
 pub none-in : (lists : List (Vec ℕ)) → AllEmpty lists → (label k : ℕ) → IsFiledIn lists label k → ⊥
 none-in lists h label k is = elim (slice_get lists (label % length lists)) as (λ o. slice_get lists (label % length lists) ≡ o → slice_get (numbers_of o) is.0 ≡ Some k → ⊥) [
   | None ↦ λ e at. cc

@@ -37,10 +37,6 @@ use Rattle.dac_weave.proofs.Least.{one_at}
 same_strand : (a b : Strand) → Some a ≡ Some b → a ≡ b
 same_strand a b e = cc
 
--- the place that is set, and the others
-pub record SetAt {X : Type 0} (xs : List X) (i : ℕ) (x : X) (k : ℕ) (y : X) : Type 0 where
-  pub cases : ((k ≡ i) × (x ≡ y)) ⊎ ((k ≢ i) × (slice_get xs k ≡ Some y))
-
 set-cases : {X : Type 0} (xs : List X) (i : ℕ) (x : X) (k : ℕ) (y : X) → slice_get (set xs i x) k ≡ Some y → ((k ≡ i) × (x ≡ y)) ⊎ ((k ≢ i) × (slice_get xs k ≡ Some y))
 set-cases [] zero x k y h = cc
 set-cases [] (suc i) x k y h = cc

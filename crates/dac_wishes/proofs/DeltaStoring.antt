@@ -19,7 +19,7 @@ use Rattle.dac_wishes.specs.Writes.{Write, same_dot}
 use Rattle.dac_wishes.specs.laws.WishesValue.{same_wishes}
 use Rattle.dac_wishes.specs.Replacing.{named_by, replaces}
 use Rattle.dac_wishes.specs.laws.Replacing.{contains-named_by}
-use Rattle.dac_wishes.specs.StoredWishes.{StoredDots, AreStoredDots, wishes_of}
+use Rattle.dac_wishes.specs.StoredWishes.{StoredDots, wishes_of}
 use Rattle.dac_wishes.specs.laws.StartsByKey.{contains-writes_of}
 use Rattle.dac_wishes.specs.WishMeaning.{wish_delta, wishes}
 use Rattle.dac_wishes.specs.laws.WishMeaning.{contains-delta}
@@ -61,9 +61,6 @@ start_known d a x e = contains-named_by wish.over_of d a x ∙ or_left (same_dot
 -- a wish's delta as it is stored
 abbrev pub stored_wish : Dot → WishAct → StoredDots
 stored_wish d a = record { store = stored_start d a; context = named_by wish.over_of d a }
-
-pub wish_stored : (d : Dot) (a : WishAct) → AreStoredDots (stored_wish d a)
-wish_stored d a = record { store = start_keyed d a; held = start_known d a }
 
 start_at : (d : Dot) (k e : Bool) (x : Dot) → same_dot x d ≡ e → set.contains (store_at set.empty (cond k (Some (set.insert (set.empty {R = dot_cmp}) d)) None)) x ≡ (k && e)
 start_at d true e x is = one_dot d x ∙ is

@@ -1,6 +1,6 @@
 -- What permissions are: the permits that stand, with their values, beside the dots that are known. Equal parts are
 -- equal values. A permission's true is Up, and its false Down. Permits are votes of keys.
-use Rattle.std.specs.Prelude.{◌≡◌, ◌⊎◌, Bool, true, false, List, Option, None, Some, if◌then◌else◌}
+use Rattle.std.specs.Prelude.{◌≡◌, ◌⊎◌, Bool, true, false, List, None, Some, if◌then◌else◌}
 use Rattle.std.specs.List.{list_all}
 use Rattle.std.specs.Coded.{Coded}
 use Rattle.std.specs.FinMap as map
@@ -10,8 +10,8 @@ use Rattle.dac_lattice.specs.declared.flags.Flag.TheVariants.{Up, Down}
 use Rattle.dac_store.specs.DotFuns.{is_empty_list}
 use Rattle.dac_wishes.specs.declared.key.Key.{Key}
 use Rattle.dac_wishes.specs.Keys.{key_cmp, coded_key}
-use Rattle.dac_wishes.specs.Writes.{Write, write}
-use Rattle.dac_wishes.specs.Votes.{Votes, VotesValue, coded_votes, AreVotes, AreVotesBelow, no_votes, joined_vote, join_votes, votes_among, votes_at}
+use Rattle.dac_wishes.specs.Writes.{write}
+use Rattle.dac_wishes.specs.Votes.{Votes, VotesValue, coded_votes, AreVotes, AreVotesBelow, no_votes, join_votes, votes_at}
 
 -- the flag says true
 abbrev pub says_true : Flag → Bool
@@ -44,16 +44,8 @@ IsPermissionsBelow = AreVotesBelow key_cmp
 abbrev pub no_permissions : PermissionsValue
 no_permissions = no_votes key_cmp
 
--- what stands of a permit when two sides come together
-abbrev pub joined_permit : PermissionsValue → PermissionsValue → Write → Option Flag → Option Flag → Option Flag
-joined_permit = joined_vote key_cmp
-
 abbrev pub join_permissions : PermissionsValue → PermissionsValue → PermissionsValue
 join_permissions = join_votes key_cmp
-
--- the permits of a key among others, by their dots
-abbrev pub permits_among : Key → List (Write × Flag) → List (Dot × Flag)
-permits_among = votes_among key_cmp
 
 -- the permits that stand at a key, in the order of their dots
 abbrev pub permits_at : Key → Permits → List (Dot × Flag)

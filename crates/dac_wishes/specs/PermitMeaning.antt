@@ -6,7 +6,6 @@ use Rattle.dac_wishes.specs.declared.key.Key.{Key}
 use Rattle.dac_wishes.specs.declared.permit_act.PermitAct.{PermitAct}
 use Rattle.dac_wishes.specs.declared.permit_act.PermitAct.TheVariants.{Permit, Other}
 use Rattle.dac_wishes.specs.Keys.{key_cmp}
-use Rattle.dac_wishes.specs.Writes.{Write}
 use Rattle.dac_wishes.specs.PermissionsValue.{PermissionsValue, flag_of}
 use Rattle.dac_wishes.specs.VoteMeaning as votes
 pub use Rattle.dac_wishes.specs.VoteMeaning.{or_else}
@@ -20,14 +19,6 @@ over_of (Other over) = over
 abbrev pub vote_of : PermitAct → Option (Key × Flag)
 vote_of (Permit key value over) = Some (key, flag_of value)
 vote_of (Other over) = None
-
--- what the act says of the key, if it does
-abbrev pub says : Key → PermitAct → Option Flag
-says key a = votes.says_of key_cmp key (vote_of a)
-
--- what the operation says, if it is this permit
-abbrev pub permit_in : Write → Dot × PermitAct → Option Flag
-permit_in = votes.vote_in key_cmp vote_of
 
 -- The value is what the operations mean: a permit stands, with its value, if an operation is it and
 -- none replaces its dot.

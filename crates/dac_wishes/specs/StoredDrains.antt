@@ -3,7 +3,7 @@ use Rattle.std.specs.Prelude.{List}
 use Rattle.dac_origins.specs.declared.dot.Origin.{Origin}
 use Rattle.dac_origins.specs.Dots.{origin_cmp}
 use Rattle.dac_wishes.specs.DrainsValue.{DrainsValue, Drains}
-use Rattle.dac_wishes.specs.StoredVotes.{DotFlags, StoredVotes, AreStoredVotes, votes_of, votes_value_of}
+use Rattle.dac_wishes.specs.StoredVotes.{DotFlags, StoredVotes, AreStoredVotes, votes_value_of}
 use Rattle.dac_wishes.specs.VotesByKey.{votes_by_key}
 
 -- the drains at each origin, and the dots that are known
@@ -13,10 +13,6 @@ StoredDrains = StoredVotes Origin
 -- the origins rise, each has drains in the order of their dots, and each dot is known
 abbrev pub AreStoredDrains : StoredDrains → Type 0
 AreStoredDrains = AreStoredVotes origin_cmp
-
--- the drains of each origin
-abbrev pub standing_of : List (Origin × DotFlags) → Drains
-standing_of = votes_of origin_cmp
 
 -- the drains that are stored so
 abbrev pub drains_of : StoredDrains → DrainsValue

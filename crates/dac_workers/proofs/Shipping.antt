@@ -3,7 +3,6 @@ use Rattle.std.proofs.Common.{◌≡◌, ℕ, zero, suc, ◌+◌, List, [], ◌�
 use Rattle.std.proofs.lemmas.List.Elements.{All-append, All-cons, All-nil}
 use Rattle.dac_base.specs.declared.NodeId.{NodeId}
 use Rattle.dac_config.specs.Table.{Table}
-use Rattle.dac_messages.specs.declared.event.Event.{Event}
 use Rattle.dac_messages.specs.declared.event.Event.TheVariants.{Ship, Hear}
 use Rattle.dac_messages.specs.declared.message.Message.{Message}
 use Rattle.dac_messages.specs.declared.reply.Reply.TheVariants.{Shipped}
@@ -90,6 +89,3 @@ hears_more t old mid new taken now after bytes m s e r o =
       letters = e ∙ ap (λ l. l ++ Some bytes ∷ []) (s.letters ∙ append-nil (taken ++ papers)) ∙ append_assoc taken papers (Some bytes ∷ []) ∙ sym (append-nil (taken ++ (papers ++ Some bytes ∷ [])));
       reads = read_push t papers s.heard bytes m s.reads r;
     }
-
-pub hears_end : (t : Table) (old new : List Call) (taken now after last : List Paper) → Hears t old new taken now [] → after ≡ now ++ last → Hears t old new taken after last
-hears_end t old new taken now after last s e = record { made = s.made; papers = s.papers; heard = s.heard; calls = s.calls; events = s.events; letters = e ∙ ap (λ l. l ++ last) (s.letters ∙ append-nil (taken ++ s.papers)); reads = s.reads }

@@ -17,9 +17,6 @@ module _ (app : AppId) where
   one : {a b : Noted} → ◌≡◌ {A = Option Noted} (Some a) (Some b) → a ≡ b
   one e = cc
 
-  some_claim : {a b : Claim} → ◌≡◌ {A = Option Claim} (Some a) (Some b) → a ≡ b
-  some_claim e = cc
-
   -- the claim of what is noted next is the lost one
   since_claim : (before : Option Noted) (now : ℕ) (claim : Claim) → (since_of before now claim).claim ≡ claim
   since_claim None now claim = refl

@@ -1,7 +1,6 @@
 -- What follows from the laws of a lattice. A join does so much to values that it is above, and the order of joins
 -- makes no difference.
 use Rattle.std.specs.Prelude.{◌≡◌}
-use Rattle.std.proofs.Common.{subst}
 use Rattle.dac_lattice.specs.Lattices.{IsLattice}
 
 module _ {T : Type 0} {is_value : T → Type 0} {below : T → T → Type 0} {join : T → T → T} (laws : IsLattice is_value below join) where
@@ -12,10 +11,6 @@ module _ {T : Type 0} {is_value : T → Type 0} {below : T → T → Type 0} {jo
   -- a value joined with one above it is that one
   pub join_above : (x y : T) → is_value x → is_value y → below x y → join x y ≡ y
   join_above x y u v p = laws.antisymm _ _ (laws.closed x y u v) v (laws.least x y y u v v p (laws.refl y v)) (laws.right x y u v)
-
-  -- a value that a join leaves as it is was above the other
-  pub below_joined : (x y : T) → is_value x → is_value y → join x y ≡ y → below x y
-  below_joined x y u v same = subst (below x) same (laws.left x y u v)
 
   pub join_idem : (x : T) → is_value x → join x x ≡ x
   join_idem x u = join_below x x u u (laws.refl x u)
@@ -42,12 +37,6 @@ module _ {T : Type 0} {is_value : T → Type 0} {below : T → T → Type 0} {jo
       (laws.least (join x y) z (join x (join y z)) xy c one
       (laws.least x y _ a b one (laws.left x (join y z) a yz) (laws.trans _ _ _ b yz one (laws.left y z b c) (laws.right x (join y z) a yz)))
       (laws.trans _ _ _ c yz one (laws.right y z b c) (laws.right x (join y z) a yz)))
-
-  -- joins keep the order
-  pub join_monotone : (x y s t : T) → is_value x → is_value y → is_value s → is_value t → below x y → below s t → below (join x s) (join y t)
-  join_monotone x y s t a b c d p q =
-      let joined = laws.closed y t b d in
-      laws.least x s _ a c joined (laws.trans _ _ _ a b joined p (laws.left y t b d)) (laws.trans _ _ _ c d joined q (laws.right y t b d))
 
   -- a least value adds nothing
   pub join_bottom : (bottom : T) → is_value bottom → ((x : T) → is_value x → below bottom x) → (x : T) → is_value x → join x bottom ≡ x

@@ -15,19 +15,10 @@ module _ {A : Type 0} where
   in_front o (p ∷ os) ps (inl is) = inl is
   in_front o (p ∷ os) ps (inr rest) = inr (in_front o os ps rest)
 
-  pub in_back : (o : Dot × A) (os ps : List (Dot × A)) → IsGivenIn o ps → IsGivenIn o (os ++ ps)
-  in_back o [] ps h = h
-  in_back o (p ∷ os) ps h = inr (in_back o os ps h)
-
   pub in_drop : (o : Dot × A) (os : List (Dot × A)) (i : ℕ) → IsGivenIn o (drop i os) → IsGivenIn o os
   in_drop o os zero h = h
   in_drop o [] (suc i) h = h
   in_drop o (p ∷ os) (suc i) h = inr (in_drop o os i h)
-
-  pub operation_at : (os : List (Dot × A)) (i : ℕ) (e : Dot × A) → i < length os → IsGivenIn (get_or os i e) os
-  operation_at [] i e p = absurd (omega arith)
-  operation_at (o ∷ os) zero e p = inl refl
-  operation_at (o ∷ os) (suc i) e p = inr (operation_at os i e (omega arith))
 
   -- some of the operations are operations
   pub of_within : (fits : Dot → A → Type 0) (os ps : List (Dot × A)) → AreGivenIn os ps → AreOperations fits ps → AreOperations fits os

@@ -14,10 +14,6 @@ neither true b e = absurd (true≢false e)
 neither false b e = (refl, e)
 
 module _ (t : Table) (r : RunningValue) (now : ℕ) (none : refusal_to_tick t r now ≡ None) where
-  -- it isn't before the last one
-  pub goes_on_in_time : r.moments.last ≤ now
-  goes_on_in_time = ltb-false now r.moments.last (none_is (causes_to_tick t r now) none).1.0
-
   abbrev left : (too_few_left t r.state r.origin ≡ false) × (too_many_deltas r (needed t) ≡ false)
   left = neither (too_few_left t r.state r.origin) (too_many_deltas r (needed t)) (none_is (causes_to_tick t r now) none).1.1.0
 

@@ -12,11 +12,6 @@ use Rattle.dac_model_world.specs.laws.Operations.{one_in, DistinctDots-left, Dis
 use Rattle.dac_model_world.specs.laws.Replacing.{IsNextAfter, AreNext}
 
 -- ---- issues
-pub IsAmong-append_left : (i : Issue) (is js : List Issue) → IsAmong i is → IsAmong i (is ++ js)
-IsAmong-append_left i [] js h = absurd h
-IsAmong-append_left i (x ∷ is) js (inl e) = inl e
-IsAmong-append_left i (x ∷ is) js (inr h) = inr (IsAmong-append_left i is js h)
-
 pub IsAmong-append_cases : (i : Issue) (is js : List Issue) → IsAmong i (is ++ js) → IsAmong i is ⊎ IsAmong i js
 IsAmong-append_cases i [] js h = inr h
 IsAmong-append_cases i (x ∷ is) js (inl e) = inl (inl e)

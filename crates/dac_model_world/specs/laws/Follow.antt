@@ -241,13 +241,6 @@ happens_refused t v me e old why here is crash = record {
   hears = λ reply no. no_ok (Refused why) reply no;
 }
 
--- what comes of an event of the world that is none of a node
-pub happens_fault : (t : Table) (v : WorldValue) (me : NodeId) (fault : WorldFault) → HappensAt t v me (Err fault) (Err fault) v
-happens_fault t v me fault = record {
-  follows = record { each = λ w h. (w, (inl (record { answered = refl; went_on = refl }), h)) };
-  hears = λ reply no. no_ok fault reply no;
-}
-
 -- ---- from the node to the world
 -- the event of the world says what happens at its node
 pub follows_in : (t : Table) (v u : WorldValue) (e : WorldEvent) (answer : Result Reply WorldFault) → e.node.0 < length v.nodes → HappensAt t v e.node (event_of v.operations v.messages e.what) answer u → Follows t v (λ w. happens t w e) answer u

@@ -18,9 +18,6 @@ one_in o x (inr h) = absurd h
 pub Agree-within : (os ps : List Operation) → AreOperationsOf os ps → DotsDetermine ps → DotsDetermine os
 Agree-within os ps w agree o p a b = agree o p (w o a) (w p b)
 
-pub Agree-one : (x : Operation) → DotsDetermine (x ∷ [])
-Agree-one x o p a b t = one_in o x a ∙ sym (one_in p x b)
-
 -- ---- dots that differ
 same_by : (d e : Dot) → d ≡ e → same_dot d e ≡ true
 same_by d e h = subst (λ f. same_dot d f ≡ true) h (same_dot_itself d)

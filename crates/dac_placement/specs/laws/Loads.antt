@@ -1,17 +1,13 @@
 -- The load in words.
-use Rattle.std.proofs.Common.{◌≡◌, ◌⊎◌, ℕ, ◌<◌, ◌≤◌, ◌+◌, Bool, true, false, cond, ◌&&◌, not, List, [], ◌∷◌, length, Option, Some, None, zero, suc, inl, inr, refl, sym, ap, subst, ◌∙◌, arith}
+use Rattle.std.proofs.Common.{◌≡◌, ◌⊎◌, ℕ, ◌<◌, ◌≤◌, ◌+◌, Bool, true, false, cond, ◌&&◌, not, List, [], ◌∷◌, length, zero, suc, inl, inr, refl, sym, ap, subst, ◌∙◌, arith}
 use Rattle.std.specs.Prelude.{◌↔◌, ◌==◌, filter, map as list_map}
 use Rattle.std.specs.List.{range_with_len}
-use Rattle.std.specs.Option.{option_map}
-use Rattle.std.specs.FinMap as map
 use Rattle.std.proofs.lemmas.Bool.{true≢false, and_parts, and_from, eqb-true, eq-eqb}
 use Rattle.dac_base.specs.declared.NodeId.{NodeId}
 use Rattle.dac_base.specs.declared.AppId.{AppId}
-use Rattle.dac_origins.specs.declared.dot.Origin.{Origin}
 use Rattle.dac_config.specs.Table.{Table, app_count}
-use Rattle.dac_chains.specs.declared.claims.Claim.{Claim}
 use Rattle.dac_state.specs.StateValue.{StateValue}
-use Rattle.dac_placement.specs.Placement.{runs_at, holder_of, IsHolder, load_of, IsOneOf, AreDistinct, IsLoad, IsPreferred}
+use Rattle.dac_placement.specs.Placement.{runs_at, load_of, IsOneOf, AreDistinct, IsLoad, IsPreferred}
 use Rattle.dac_placement.specs.laws.Tests.{runs_is}
 
 -- ---- numbers that pass a test
@@ -175,17 +171,3 @@ preferred_is table s app n m = (
 
     less_by : (a b x y : ℕ) → a ≡ x → b ≡ y → a < b → x < y
     less_by a b x y e f h = omega arith
-
--- ---- the holder
-pub holder_is : (s : StateValue) (app : AppId) (o : Origin) → (holder_of s app ≡ Some o) ↔ IsHolder s app o
-holder_is s app o = (by_claim (map.get s.claims app) refl, λ h. ap (option_map (λ (claim : Claim). claim.origin)) h.greatest ∙ ap (λ p. Some p) h.claimer)
-  where
-    one : {p q : Origin} → ◌≡◌ {A = Option Origin} (Some p) (Some q) → p ≡ q
-    one e = cc
-
-    none : {X : Type 0} → ◌≡◌ {A = Option Origin} None (Some o) → X
-    none e = cc
-
-    by_claim : (c : Option Claim) → map.get s.claims app ≡ c → option_map (λ (claim : Claim). claim.origin) c ≡ Some o → IsHolder s app o
-    by_claim None is h = none h
-    by_claim (Some claim) is h = record { claim = claim; greatest = is; claimer = one h }

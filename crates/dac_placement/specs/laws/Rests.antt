@@ -1,12 +1,10 @@
 -- What a verdict leaves alone is said by how the application stands and by which nodes are eligible, and by no load.
 -- This is so for every configuration and every state.
-use Rattle.std.specs.Prelude.{◌≡◌, ◌↔◌, ℕ, Bool, true, false, not, cond, Option, None, Some, refl}
+use Rattle.std.specs.Prelude.{◌≡◌, ◌↔◌, ℕ, true, false, cond, Option, None, Some, refl}
 use Rattle.std.proofs.Common.{sym, ap, subst, ◌∙◌}
-use Rattle.std.specs.Option.{option_map_or}
 use Rattle.std.proofs.lemmas.Bool.{false_from_ne_true}
 use Rattle.dac_base.specs.declared.NodeId.{NodeId}
 use Rattle.dac_base.specs.declared.AppId.{AppId}
-use Rattle.dac_origins.specs.declared.dot.Origin.{Origin}
 use Rattle.dac_config.specs.Table.{Table}
 use Rattle.dac_chains.specs.Lives.{IsLive}
 use Rattle.dac_chains.specs.laws.Live.{live_is}
@@ -14,9 +12,8 @@ use Rattle.dac_state.specs.StateValue.{StateValue}
 use Rattle.dac_placement.specs.declared.standing.Standing.{Standing}
 use Rattle.dac_placement.specs.declared.standing.Standing.TheVariants.{Unclaimed, Lost, Stopped, Barred, Upheld}
 use Rattle.dac_placement.specs.declared.verdicts.Verdict.TheVariants.{Takeover, Kept}
-use Rattle.dac_placement.specs.Placement.{IsDrainedAt, IsAllowedAt, is_allowed_at, IsStartedAt, is_started_at, key_at, key_of, is_up, RunsAt, is_earlier, IsFirst, first_choice, standing_at, standing_of, verdict_by, verdict_of, candidate_of}
+use Rattle.dac_placement.specs.Placement.{IsDrainedAt, RunsAt, is_earlier, IsFirst, first_choice, standing_of, verdict_by, verdict_of, candidate_of}
 use Rattle.dac_placement.specs.InWords.{Rests}
-use Rattle.dac_placement.specs.laws.Tests.{up_is, allowed_is, started_is}
 use Rattle.dac_placement.specs.laws.FirstChoice.{first_is}
 use Rattle.dac_placement.specs.laws.Judged.{IsChoice, earlier_if, none_earlier}
 
@@ -83,19 +80,6 @@ module _ (table : Table) (s : StateValue) (app : AppId) where
     where
       one : {x y : ℕ} → ◌≡◌ {A = Option ℕ} (Some x) (Some y) → x ≡ y
       one e = cc
-
-  upheld_by : (n : NodeId) (up started permitted : Bool) → up ≡ true → started ≡ true → permitted ≡ true → cond (not up) Lost (cond (not started) (Stopped n) (cond (not permitted) Barred (Upheld n))) ≡ Upheld n
-  upheld_by n up started permitted a b c = λ i. cond (not (a i)) Lost (cond (not (b i)) (Stopped n) (cond (not (c i)) Barred (Upheld n)))
-
-  -- where it runs, all is well
-  pub runs_upheld : (n : NodeId) → RunsAt table s app n → standing_of table s app ≡ Upheld n
-  runs_upheld n r =
-      let o : Origin = record { node = n; inc = r.inc } in
-      let same = same_inc r.eligible.inc r.inc _ ((live_is s.lives n r.eligible.inc).1 r.eligible.live) ((live_is s.lives n r.inc).1 r.up) in
-      let started : IsStartedAt s (key_at app n r.inc) = subst (λ i. IsStartedAt s (key_at app n i)) same r.eligible.started in
-      let permitted : IsAllowedAt table s (key_at app n r.inc) = subst (λ i. IsAllowedAt table s (key_at app n i)) same r.eligible.allowed in
-      ap (λ h. option_map_or (standing_at table s app) h Unclaimed) r.holder
-      ∙ upheld_by n (is_up s o) (is_started_at s (key_of app o)) (is_allowed_at table s (key_of app o)) ((up_is s o).1 r.up) ((started_is table s app n r.inc).1 started) ((allowed_is table s app n r.inc).1 permitted)
 
   -- ---- what runs nothing
 

@@ -27,11 +27,6 @@ both_ways true b f g = sym (f refl)
 both_ways false true f g = g refl
 both_ways false false f g = refl
 
--- a dot that is held hasn't been heard of where no dot that has been heard of is held
-pub held_unheard : (held heard : Bool) → (heard ≡ true → held ≡ false) → held ≡ true → heard ≡ false
-held_unheard held true f e = absurd (false≢true (sym (f refl) ∙ e))
-held_unheard held false f e = refl
-
 pub same_context : (c d : Dots) → IsSubset c d → IsSubset d c → c ≡ d
 same_context c d p q = set.same_set dots_total exact_dots c d (λ x. both_ways (set.contains c x) (set.contains d x) (p x) (q x))
 

@@ -104,9 +104,6 @@ module _ (t : Table) (s u : StateValue) (a : MayRunAlike s u) (app : AppId) wher
     due_alike noted now (Kept n) = refl
     due_alike noted now Nobody = refl
 
-    used_alike : terms_used_up s app ≡ terms_used_up u app
-    used_alike = ap (λ c. nat_lt MAX_COUNTER (option_map_or (λ (claim : Claim). claim.term) c 0 + 1)) same
-
 -- ---- who holds what it has claimed
 
 module _ (t : Table) (own : Origin) where

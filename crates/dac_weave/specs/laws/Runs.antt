@@ -118,10 +118,6 @@ pub replayed-append : (t : Table) (n : NodeId) (d : ModelNode) (xs ys : List See
 replayed-append t n d [] ys = refl
 replayed-append t n d (x ∷ xs) ys = replayed-append t n (node_step t n d x.event).node xs ys
 
-pub AreAnswered-rest : (t : Table) (n : NodeId) (d : ModelNode) (xs ys : List Seen) → AreAnswered t n d (xs ++ ys) → AreAnswered t n (replayed t n d xs) ys
-AreAnswered-rest t n d [] ys h = h
-AreAnswered-rest t n d (x ∷ xs) ys h = AreAnswered-rest t n (node_step t n d x.event).node xs ys h.1
-
 pub AreAnswered-push : (t : Table) (n : NodeId) (d : ModelNode) (xs : List Seen) (y : Seen) → AreAnswered t n d xs → y.answer ≡ (node_step t n (replayed t n d xs) y.event).answer → AreAnswered t n d (xs ++ y ∷ [])
 AreAnswered-push t n d [] y h e = (e, tt)
 AreAnswered-push t n d (x ∷ xs) y h e = (h.0, AreAnswered-push t n (node_step t n d x.event).node xs y h.1 e)

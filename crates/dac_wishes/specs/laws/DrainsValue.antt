@@ -5,17 +5,13 @@ use Rattle.std.specs.FinMap as map
 use Rattle.dac_origins.specs.Dots.{origin_cmp}
 use Rattle.dac_origins.specs.laws.Dots.{origins_total, exact_origins}
 use Rattle.dac_lattice.specs.Lattices.{IsLattice}
-use Rattle.dac_wishes.specs.Votes.{joined_vote}
-use Rattle.dac_wishes.specs.laws.Votes.{known-join_votes, standing-join_votes, same_votes, votes_laws, no_votes_value, no_votes_least}
+use Rattle.dac_wishes.specs.laws.Votes.{known-join_votes, same_votes, votes_laws, no_votes_value, no_votes_least}
 use Rattle.dac_wishes.specs.DrainsValue.{AreDrains, AreDrainsBelow, DrainWrite, DrainsValue, join_drains, no_drains}
 
 -- ---- the laws
 
 pub known-join : (x y : DrainsValue) → (join_drains x y).known ≡ set.union x.known y.known
 known-join = known-join_votes origin_cmp
-
-pub standing-join : (x y : DrainsValue) (w : DrainWrite) → map.get (join_drains x y).standing w ≡ joined_vote origin_cmp x y w (map.get x.standing w) (map.get y.standing w)
-standing-join = standing-join_votes origins_total exact_origins
 
 -- two values that show the same are equal
 pub same_drains : (x y : DrainsValue) → x.known ≡ y.known → ((w : DrainWrite) → map.get x.standing w ≡ map.get y.standing w) → x ≡ y

@@ -6,16 +6,13 @@ use Rattle.dac_lattice.specs.Lattices.{IsLattice}
 use Rattle.dac_wishes.specs.Keys.{key_cmp}
 use Rattle.dac_wishes.specs.laws.Keys.{keys_total, exact_keys}
 use Rattle.dac_wishes.specs.Writes.{Write}
-use Rattle.dac_wishes.specs.laws.Votes.{known-join_votes, standing-join_votes, same_votes, votes_laws, no_votes_value, no_votes_least}
-use Rattle.dac_wishes.specs.PermissionsValue.{ArePermissions, IsPermissionsBelow, PermissionsValue, join_permissions, joined_permit, no_permissions}
+use Rattle.dac_wishes.specs.laws.Votes.{known-join_votes, same_votes, votes_laws, no_votes_value, no_votes_least}
+use Rattle.dac_wishes.specs.PermissionsValue.{ArePermissions, IsPermissionsBelow, PermissionsValue, join_permissions, no_permissions}
 
 -- ---- the laws
 
 pub known-join : (x y : PermissionsValue) → (join_permissions x y).known ≡ set.union x.known y.known
 known-join = known-join_votes key_cmp
-
-pub standing-join : (x y : PermissionsValue) (w : Write) → map.get (join_permissions x y).standing w ≡ joined_permit x y w (map.get x.standing w) (map.get y.standing w)
-standing-join = standing-join_votes keys_total exact_keys
 
 -- two values that show the same are equal
 pub same_permissions : (x y : PermissionsValue) → x.known ≡ y.known → ((w : Write) → map.get x.standing w ≡ map.get y.standing w) → x ≡ y

@@ -1,18 +1,10 @@
 -- Laws of the definitions in `PermitMeaning`.
-use Rattle.std.specs.Prelude.{◌≡◌}
-use Rattle.std.specs.FinMap as map
-use Rattle.dac_origins.specs.declared.dot.Dot.{Dot}
 use Rattle.dac_lattice.specs.Pieces.{IsPiece}
-use Rattle.dac_wishes.specs.declared.permit_act.PermitAct.{PermitAct}
 use Rattle.dac_wishes.specs.laws.Keys.{keys_total, exact_keys}
-use Rattle.dac_wishes.specs.Writes.{Write}
 use Rattle.dac_wishes.specs.PermissionsValue.{ArePermissions, join_permissions, no_permissions}
 use Rattle.dac_wishes.specs.Replacing.{SparesItself}
 use Rattle.dac_wishes.specs.laws.VoteMeaning as votes_laws
-use Rattle.dac_wishes.specs.PermitMeaning.{IsMeaning, over_of, permit_delta, permit_in, vote_of}
-
-pub get-delta : (d : Dot) (a : PermitAct) (w : Write) → map.get (permit_delta d a).standing w ≡ permit_in w (d, a)
-get-delta = votes_laws.get-vote_delta keys_total exact_keys over_of vote_of
+use Rattle.dac_wishes.specs.PermitMeaning.{IsMeaning, over_of, permit_delta, vote_of}
 
 -- the joined deltas of operations are what they mean
 pub permit_piece : IsPiece ArePermissions join_permissions no_permissions (SparesItself over_of) permit_delta IsMeaning

@@ -8,15 +8,11 @@ use Rattle.dac_store.specs.DotMaps.{store_at}
 use Rattle.dac_wishes.specs.declared.key.Key.{Key}
 use Rattle.dac_wishes.specs.Keys.{key_cmp}
 use Rattle.dac_wishes.specs.laws.Keys.{keys_total, exact_keys}
-use Rattle.dac_wishes.specs.Writes.{Write, write}
+use Rattle.dac_wishes.specs.Writes.{write}
 use Rattle.dac_wishes.specs.PermissionsValue.{Permits, permits_at}
 use Rattle.dac_wishes.specs.StoredPermits.{DotFlags, permits_of}
-use Rattle.dac_wishes.specs.laws.VotesByKey.{get-votes_of, find-votes_at, votes_at-sorted, votes_stored, are_votes, votes_again, votes_by_key_again}
+use Rattle.dac_wishes.specs.laws.VotesByKey.{find-votes_at, votes_at-sorted, votes_stored, are_votes, votes_again, votes_by_key_again}
 use Rattle.dac_wishes.specs.PermitsByKey.{ArePermits, permits_by_key}
-
--- what stands of a permit is what is at its dot at its key
-pub get-permits_of : (m : List (Key × DotFlags)) → T (is_sorted key_cmp m) → (w : Write) → map.get (permits_of m) w ≡ find dot_cmp w.dot (store_at [] (find key_cmp w.key m))
-get-permits_of = get-votes_of keys_total exact_keys
 
 -- what stands at a key is the permit at its dot
 pub find-permits_at : (key : Key) (permits : Permits) (d : Dot) → find dot_cmp d (permits_at key permits) ≡ map.get permits (write key d)
