@@ -7,6 +7,7 @@ use Rattle.dac_decide.specs.declared.start_gate.Opening.TheVariants.{Opened}
 use Rattle.dac_decide.specs.declared.waits.Noted.{Noted}
 use Rattle.dac_decide.specs.FailoverWait.{Note, waits_of}
 use Rattle.dac_messages.specs.declared.event.Event.TheVariants.{Tick}
+use Rattle.dac_model_node.specs.dac_ticks.declared.turning.Turn.{Turn as Made}
 use Rattle.dac_messages.specs.declared.reply.Reply.TheVariants.{Ticked as HasTicked}
 use Rattle.dac_model_node.specs.dac_ticks.Ticks.{Turn, turn_of}
 use Rattle.dac_model_node.specs.dac_ticks.TurnSoFar.{IsMade}
