@@ -10,7 +10,6 @@ from checks.library.crates import HERE, read_crates
 from checks.library.definition_sources import DefinitionSources
 from checks.library.modules import Modules
 from checks.library.promises import Promises
-from checks.library.resting import Resting
 
 WHAT = """Checks that documents, crates.txt, edits and scripts agree with each other and with the sources.
 
@@ -34,11 +33,10 @@ def document_list() -> List[Check]:
     """The checks of documents."""
     documents = document_checks.Documents(HERE)
     modules, sources = Modules(), Sources()
-    resting = Resting(modules)
     return [
         Check("names in backticks stand in some file", lambda: document_checks.name_faults(documents)),
         Check("paths lead somewhere", lambda: document_checks.path_faults(documents)),
-        Check("promised clauses are there, with what they rest on", Promises(modules, sources, resting).faults),
+        Check("promised clauses are there", Promises(HERE, sources).faults),
         Check("docs/sources.txt names definitions that are there", lambda: DefinitionSources(HERE).faults(modules)),
         Check("pages CALLING.md name each public call", lambda: document_checks.calling_faults(HERE, sources)),
         Check("the index of decisions has their titles", lambda: document_checks.decision_faults(documents)),
