@@ -6,7 +6,7 @@ import subprocess
 from typing import Dict, FrozenSet, Iterator, List, NamedTuple, Set
 
 from checks.library.contracts import Sources
-from checks.library.tables import SPAN
+from checks.library.spans import SPAN
 
 NAME = re.compile(r"(?<![\\\w])[A-Za-z_][A-Za-z0-9_]{3,}")
 PATH = re.compile(r"(?<![\w/:.-])(?:\.\/)?((?:[\w.-]+/)+[\w.-]*|[\w-]+\.(?:md|py|rt|antt|txt))(?![\w/])")

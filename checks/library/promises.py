@@ -5,7 +5,7 @@ import re
 from typing import Dict, Iterator, List, NamedTuple, Sequence, Set, Tuple
 
 from checks.library.contracts import Function, Sources, is_within
-from checks.library.tables import SPAN
+from checks.library.spans import SPAN
 
 SECTION = "## Crate by crate"
 # what stands between a promise and the functions that carry it
