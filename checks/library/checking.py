@@ -39,7 +39,6 @@ def document_list() -> List[Check]:
         Check("promised clauses are there", Promises(HERE, sources).faults),
         Check("docs/sources.txt names definitions that are there", lambda: DefinitionSources(HERE).faults(modules)),
         Check("pages CALLING.md name each public call", lambda: document_checks.calling_faults(HERE, sources)),
-        Check("the index of decisions has their titles", lambda: document_checks.decision_faults(documents)),
     ]
 
 
