@@ -74,7 +74,7 @@ class BelievedPage:
         for crate in self.modules.crates.order():
             yield from self._code(crate)
             yield from self._modules([one for one in self.rest.definitions if one.crate == crate])
-        yield from (f"==== {self.asked.heading}", "", *self.asked.contract, "") if self.asked.contract else ()
+        yield from (f"==== {self.asked.heading}", *self.asked.contract, "") if self.asked.contract else ()
         yield from self._views()
         yield from self._ending()
         yield self.counts()
@@ -83,7 +83,7 @@ class BelievedPage:
         """The types and constants of a crate."""
         of_crate = sorted((one for one in self.types if one.crate == crate), key=lambda one: (str(one.file), one.line))
         for file, group in itertools.groupby(of_crate, lambda one: one.file):
-            yield from (f"==== {crate}, {file.relative_to(self.modules.root / 'crates' / crate)}", "")
+            yield f"==== {crate}, {file.relative_to(self.modules.root / 'crates' / crate)}"
             for one in group:
                 yield from (*dedented(one), "")
 
@@ -99,7 +99,7 @@ class BelievedPage:
         yield from wrapped("The contract sees values of the code by the views below. These rest on more definitions.", "")
         yield ""
         yield from self._modules(self.more)
-        yield from ("==== views", "")
+        yield "==== views"
         for one in self.asked.views:
             yield f"{one.crate}, {one.file.relative_to(self.modules.root / 'crates' / one.crate)}:{one.line}: {one.name}"
             yield from (*one.text, "")
@@ -108,7 +108,7 @@ class BelievedPage:
         """The definitions of a module, below what the module has."""
         first = definitions[0]
         module = self.modules.of_file(first.crate, first.module, first.file)
-        yield from (f"==== {first.crate}, {first.module.split('.', 1)[1]}", "")
+        yield f"==== {first.crate}, {first.module.split('.', 1)[1]}"
         if module is not None and module.header:
             yield from (*wrapped(" ".join(module.header), "-- "), "")
         under: Tuple[str, ...] = ()

@@ -11,18 +11,21 @@ from checks.library.contracts import Function, Sources, is_within
 from checks.library.definition_page import Page
 from checks.library.definition_sources import DefinitionSources
 from checks.library.modules import Definition, Modules
+from checks.library.promise_page import PromisePage
 from checks.library.promises import Promises
 from checks.library.resting import Resting
 from checks.library.views import Views
 
-WHAT = """Prints all definitions that the contract of a public function rests on, each with its comment and its source.
+WHAT = """Prints all definitions that a contract or another definition rests on, each with its comment and its source. Without a NAME it
+prints those of EachIsMeaning, the headline of convergence.
 
-A definition is a word of a crate's specs/ outside of specs/laws/. Crates come lowest first, and in each one the modules and the
-definitions so that each word has been read before it is used. Before the definitions of a crate stand the types and
-constants of its code that they speak of. Then stands the contract. A contract sees a value of the code as its type's view says, so
-the views of all types that come in or go out stand behind it. Then come the words of the toolchain's libraries that are used,
-and in the last line the numbers of all this.
+A definition is a word of a crate's specs/ outside of specs/laws/. Crates come lowest first, and definitions so that each word is
+defined before it is used. Each crate begins with the types and constants of its code that its definitions mention. For a function
+the contract follows, with the views: a contract refers to a value of the code as its type's view defines. At the end come the
+words of the toolchain's libraries that are used, and the counts of all this.
 """
+# what is printed without a name
+HEADLINE = "EachIsMeaning"
 
 
 def parser() -> argparse.ArgumentParser:
@@ -33,23 +36,28 @@ def parser() -> argparse.ArgumentParser:
     made.add_argument(
         "name",
         nargs="?",
-        default="World::run",
+        default="",
         metavar="NAME",
         help="a public function, as World::run, dac_core::World::run or weave, or a definition, as EachIsMeaning or "
-        "WishMeaning::IsMeaning; World::run if there is none",
+        "WishMeaning::IsMeaning; EachIsMeaning by default",
     )
-    made.add_argument("clause", nargs="?", default="", metavar="CLAUSE", help="one clause of it, as converges")
-    made.add_argument("--count", action="store_true", help="print the last line alone")
+    made.add_argument("clause", nargs="?", default="", metavar="CLAUSE", help="one clause of the function, as converges")
+    made.add_argument("--count", action="store_true", help="print only the last line")
     made.add_argument(
         "--all",
         action="store_true",
         help="print a page of all definitions that contracts name, by crates and modules, each with its comment and its source",
     )
-    made.add_argument("--write", action="store_true", help="write into docs/PROMISES.md how many definitions each promise rests on")
+    made.add_argument(
+        "--promises",
+        action="store_true",
+        help="print the public functions of all crates, or of the crate NAME: the comment above each one and above each of its "
+        "clauses, and how many definitions its contract rests on",
+    )
     made.add_argument(
         "--check",
         action="store_true",
-        help="list the stale rows of docs/PROMISES.md and docs/sources.txt, and the contracts and clauses that no promise names",
+        help="list names in docs/PROMISES.md and docs/sources.txt that don't exist, and the contracts and clauses that no promise names",
     )
     return made
 
@@ -92,10 +100,11 @@ def believe(arguments: argparse.Namespace) -> int:
     """Prints the page of one contract."""
     modules, sources = Modules(), Sources()
     resting = Resting(modules)
-    found = asked_about(arguments.name, arguments.clause, sources, resting)
+    name = arguments.name or HEADLINE
+    found = asked_about(name, arguments.clause, sources, resting)
     if len(found) != 1:
-        print(f"{len(found)} public functions or definitions are called {arguments.name}", file=sys.stderr)
-        for line in [one.heading for one in found] or near_names(arguments.name, sources, modules):
+        print(f"{len(found)} public functions or definitions are called {name}", file=sys.stderr)
+        for line in [one.heading for one in found] or near_names(name, sources, modules):
             print(f"  {line}", file=sys.stderr)
         return 2
     clauses = found[0].clauses
@@ -115,10 +124,9 @@ def listed(title: str, items: Sequence[str]) -> None:
 
 
 def check() -> int:
-    """Compares docs/PROMISES.md and docs/sources.txt with the contracts and the definitions. The status is 1 if a row is stale."""
+    """Compares docs/PROMISES.md and docs/sources.txt with the contracts and the definitions. The status is 1 if a name is missing."""
     modules, sources = Modules(), Sources()
-    resting = Resting(modules)
-    promises = Promises(modules, sources, resting)
+    promises = Promises(modules.root, sources)
     faults = [*DefinitionSources(modules.root).faults(modules), *promises.faults()]
     listed("public functions have clauses and no row in docs/PROMISES.md", list(promises.without_row()))
     listed("functions have rows there, and clauses that none of these names", list(promises.unnamed_clauses()))
@@ -128,15 +136,15 @@ def check() -> int:
     return 1 if faults else 0
 
 
-def write() -> int:
-    """Writes the last column of docs/PROMISES.md anew. The status is 1 if a row names what isn't there, which no writing mends."""
+def print_promises(crate: str) -> int:
+    """Prints the public functions of all crates or of one, with the comments of their contracts."""
     modules, sources = Modules(), Sources()
-    resting = Resting(modules)
-    promises = Promises(modules, sources, resting)
-    promises.file.write_text(promises.written(), encoding="utf-8")
-    faults = list(Promises(modules, sources, resting).faults())
-    print("\n".join([*faults, f"{len(promises.rows)} promises, {len(faults)} faults"]))
-    return 1 if faults else 0
+    page = PromisePage(sources, Resting(modules))
+    if crate and crate not in page.crates():
+        print(f"no crate {crate} has public functions with a contract: {', '.join(page.crates())}", file=sys.stderr)
+        return 2
+    print("\n".join(page.lines(crate)))
+    return 0
 
 
 def print_all() -> int:
@@ -148,8 +156,8 @@ def print_all() -> int:
 
 def ran(asked: argparse.Namespace) -> int:
     """Runs what was asked for."""
-    if asked.write:
-        return write()
+    if asked.promises:
+        return print_promises(asked.name)
     if asked.all:
         return print_all()
     return check() if asked.check else believe(asked)

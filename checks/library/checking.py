@@ -11,7 +11,6 @@ from checks.library.dead_names import dead_faults
 from checks.library.definition_sources import DefinitionSources
 from checks.library.modules import Modules
 from checks.library.promises import Promises
-from checks.library.resting import Resting
 
 WHAT = """Checks that documents, crates.txt, edits and scripts agree with each other and with the sources.
 
@@ -35,15 +34,13 @@ def document_list() -> List[Check]:
     """The checks of documents."""
     documents = document_checks.Documents(HERE)
     modules, sources = Modules(), Sources()
-    resting = Resting(modules)
     return [
         Check("names in backticks stand in some file", lambda: document_checks.name_faults(documents)),
         Check("paths lead somewhere", lambda: document_checks.path_faults(documents)),
-        Check("promised clauses are there, with what they rest on", Promises(modules, sources, resting).faults),
+        Check("promised clauses are there", Promises(HERE, sources).faults),
         Check("docs/sources.txt names definitions that are there", lambda: DefinitionSources(HERE).faults(modules)),
         Check("a contract, a proof or a document reaches each definition", dead_faults),
         Check("pages CALLING.md name each public call", lambda: document_checks.calling_faults(HERE, sources)),
-        Check("the index of decisions has their titles", lambda: document_checks.decision_faults(documents)),
     ]
 
 
@@ -54,7 +51,7 @@ def crate_list() -> List[Check]:
         Check("crates.txt has each crate", lambda: crate_checks.folder_faults(HERE, crates)),
         Check("no crate lists one above it", lambda: crate_checks.layer_faults(crates)),
         Check("what is listed is named, and the other way round", lambda: crate_checks.listing_faults(HERE, crates)),
-        Check("the table of crates is that of crates.txt", lambda: crate_checks.table_faults(HERE, crates)),
+        Check("the lists of crates are those of crates.txt", lambda: crate_checks.list_faults(HERE, crates)),
         Check("the drawing of the layers is that of crates.txt", lambda: crate_checks.drawing_faults(HERE, crates)),
     ]
 

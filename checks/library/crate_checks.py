@@ -5,7 +5,7 @@ import re
 from typing import Dict, FrozenSet, Iterator, List, Tuple
 
 from checks.library.crates import Crates
-from checks.library.tables import SPAN, cells_of
+from checks.library.spans import SPAN
 
 CODE_PATH = re.compile(r"(?<![\w:.])(\w+)::")
 DEFINITION_PATH = re.compile(r"\bRattle\.(\w+)\b")
@@ -58,39 +58,29 @@ def folder_faults(root: pathlib.Path, crates: Crates) -> Iterator[str]:
         yield f"crates.txt: no folder crates/{one}"
 
 
-def table_of(root: pathlib.Path) -> Dict[str, List[Tuple[str, List[str]]]]:
-    """The table of crates in docs/ARCHITECTURE.md: by layer each crate with what it stands on."""
-    found: Dict[str, List[Tuple[str, List[str]]]] = {}
-    layer = ""
+def lists_of(root: pathlib.Path) -> Dict[str, List[str]]:
+    """The crates that docs/ARCHITECTURE.md lists, by layers."""
+    found: Dict[str, List[str]] = {}
     text = (root / "docs" / "ARCHITECTURE.md").read_text(encoding="utf-8")
     section = text[text.index("## Crates, lowest first") :].split("\n## ")[0]
-    for line in section.split("\n"):
-        if not line.startswith("| ") or line.startswith("| Crate"):
-            continue
-        cells = cells_of(line)
-        if cells[0].startswith("**"):
-            layer = cells[0].strip("*")
-            continue
-        for crate in SPAN.findall(cells[0]):
-            found.setdefault(layer, []).append((crate, SPAN.findall(cells[2])))
+    for layer in section.split("\n### ")[1:]:
+        name, _, rest = layer.partition("\n")
+        items = re.findall(r"^- (.*(?:\n  .*)*)", rest, re.MULTILINE)
+        found[name] = [crate for item in items for crate in SPAN.findall(item.split(":")[0])]
     return found
 
 
-def table_faults(root: pathlib.Path, crates: Crates) -> Iterator[str]:
-    """Where the table differs from crates.txt."""
-    table = table_of(root)
-    if list(table) != list(crates.layers):
-        yield f"docs/ARCHITECTURE.md: the layers of the table are {', '.join(table)}"
+def list_faults(root: pathlib.Path, crates: Crates) -> Iterator[str]:
+    """Where these lists differ from crates.txt."""
+    lists = lists_of(root)
+    if list(lists) != list(crates.layers):
+        yield f"docs/ARCHITECTURE.md: the layers of the lists are {', '.join(lists)}"
     for layer, listed in crates.layers.items():
-        rows = [crate for crate, _ in table.get(layer, [])]
+        rows = lists.get(layer, [])
         if layer == "Tests":
             rows, listed = sorted(rows), tuple(sorted(listed))
         if rows != list(listed):
-            yield f"docs/ARCHITECTURE.md: of {layer} the table has {', '.join(rows)}, crates.txt {', '.join(listed)}"
-        for crate, stands_on in table.get(layer, []):
-            for one in stands_on:
-                if one not in crates.below(crate):
-                    yield f"docs/ARCHITECTURE.md: {crate} doesn't stand on {one}"
+            yield f"docs/ARCHITECTURE.md: of {layer} the list has {', '.join(rows)}, crates.txt {', '.join(listed)}"
 
 
 def drawing_faults(root: pathlib.Path, crates: Crates) -> Iterator[str]:

@@ -10,7 +10,7 @@ from checks.library.definition_sources import DefinitionSources
 from checks.library.document_checks import NAME, Documents
 from checks.library.modules import GENERATED, Definition, Import, Module, Modules, import_of
 from checks.library.resting import Scope, tokens_of
-from checks.library.tables import SPAN
+from checks.library.spans import SPAN
 
 WHAT = """Lists the definitions and lemmas of specs/ and proofs/ that nothing reaches.
 

@@ -1,4 +1,4 @@
-"""Checks that what documents cite is there: names, paths, and the titles of decisions."""
+"""Checks that what documents cite is there: names, paths and calls."""
 
 import pathlib
 import re
@@ -6,7 +6,7 @@ import subprocess
 from typing import Dict, FrozenSet, Iterator, List, NamedTuple, Set
 
 from checks.library.contracts import Sources
-from checks.library.tables import SPAN
+from checks.library.spans import SPAN
 
 NAME = re.compile(r"(?<![\\\w])[A-Za-z_][A-Za-z0-9_]{3,}")
 PATH = re.compile(r"(?<![\w/:.-])(?:\.\/)?((?:[\w.-]+/)+[\w.-]*|[\w-]+\.(?:md|py|rt|antt|txt))(?![\w/])")
@@ -127,23 +127,3 @@ def calling_faults(root: pathlib.Path, sources: Sources) -> Iterator[str]:
         for name in sorted(named):
             if re.fullmatch(r"[A-Z]\w+::[a-z]\w*", name) and name not in every:
                 yield f"{page.relative_to(root)}: there is no call {name}"
-
-
-def title_of(text: str) -> str:
-    """A title as the index has it."""
-    return re.sub(r"[,:.]$", "", " ".join(text.split()))
-
-
-def decision_faults(documents: Documents) -> Iterator[str]:
-    """Titles of docs/DECISIONS.md that its index doesn't have in their order."""
-    text = (documents.root / "docs" / "DECISIONS.md").read_text(encoding="utf-8")
-    index: Dict[str, List[str]] = {}
-    for item in re.findall(r"^- \[([^\]]+)\]\([^)]*\): (.*(?:\n  .*)*)", text, re.MULTILINE):
-        index[item[0]] = [title_of(one) for one in item[1].split(";")]
-    for part in text.split("\n## ")[1:]:
-        heading, _, body = part.partition("\n")
-        titles = [title_of(match[1]) for match in re.finditer(r"^\*\*(.+?)\*\*", body, re.MULTILINE | re.DOTALL)]
-        listed = index.get(heading, [])
-        if titles != listed:
-            differ = [one for one in titles + listed if one not in titles or one not in listed]
-            yield f"docs/DECISIONS.md: the index of {heading!r} has not its titles in order: {'; '.join(differ)}"

@@ -1,15 +1,15 @@
-"""Reads docs/PROMISES.md: which functions and clauses carry each promise. Writes how many definitions each rests on."""
+"""Reads docs/PROMISES.md: which functions and clauses carry each promise."""
 
+import pathlib
 import re
 from typing import Dict, Iterator, List, NamedTuple, Sequence, Set, Tuple
 
 from checks.library.contracts import Function, Sources, is_within
-from checks.library.modules import Modules, Word
-from checks.library.resting import Resting
-from checks.library.tables import SPAN, cells_of, line_of, rule_of
+from checks.library.spans import SPAN
 
 SECTION = "## Crate by crate"
-HEAD = ("Crate", "Promise", "Where it stands", "Rests on")
+# what stands between a promise and the functions that carry it
+CARRIED = " By "
 # words in backticks that name no function, type or module
 NO_NAMES = frozenset(("requires", "ensures"))
 
@@ -22,18 +22,18 @@ class Cited(NamedTuple):
 
 
 class Promise(NamedTuple):
-    """One row."""
+    """One item of a list."""
 
     line: int
     crate: str
-    cells: Tuple[str, ...]
+    text: str
     cited: Tuple[Cited, ...]
 
 
 def promised(part: str) -> Iterator[Cited]:
-    """What a part of a cell names, each with the clauses that stand behind it."""
+    """What a part of a text names, each with the clauses that follow it in parentheses."""
     clauses: Tuple[str, ...] = ()
-    for match in reversed(list(re.finditer(r"\(clauses? [^)]*\)|`[^`]+`", part))):
+    for match in reversed(list(re.finditer(r"\(`[^)]*\)|`[^`]+`", part))):
         name = match[0].strip("`")
         if match[0].startswith("("):
             clauses = tuple(SPAN.findall(match[0]))
@@ -41,9 +41,9 @@ def promised(part: str) -> Iterator[Cited]:
             yield Cited(name, clauses)
 
 
-def cited_in(cell: str, above: Sequence[Cited]) -> Iterator[Cited]:
-    """What a cell names. The same is what the row above has."""
-    for part in cell.split(";"):
+def cited_in(text: str, above: Sequence[Cited]) -> Iterator[Cited]:
+    """What a text names. The same is what the item above has."""
+    for part in text.split(";"):
         if part.strip().startswith("the same"):
             clauses = tuple(SPAN.findall(part))
             yield from (one._replace(clauses=clauses or one.clauses) for one in above)
@@ -51,23 +51,45 @@ def cited_in(cell: str, above: Sequence[Cited]) -> Iterator[Cited]:
             yield from promised(part)
 
 
-def promises_of(text: str) -> Iterator[Promise]:
-    """The rows of the section that goes crate by crate."""
+class Item(NamedTuple):
+    """An item of a list, with the lines that it goes on in joined."""
+
+    line: int
+    crate: str
+    text: str
+
+
+def items_of(text: str) -> Iterator[Item]:
+    """The items of the section that goes crate by crate. A line that is a crate's name alone stands above those of the crate."""
     inside, crate = False, ""
-    above: Tuple[Cited, ...] = ()
-    for number, line in enumerate(text.split("\n"), 1):
+    item = Item(0, "", "")
+    for number, line in enumerate([*text.split("\n"), ""], 1):
+        goes_on = item.text != "" and line.startswith("  ")
+        if item.text and not goes_on:
+            yield item
+            item = Item(0, "", "")
+        name = re.fullmatch(r"\*\*`(\w+)`\*\*", line)
         if line.startswith("## "):
             inside = line == SECTION
-        if not inside or not line.startswith("| ") or line.startswith("| Crate"):
-            continue
-        cells = tuple(cells_of(line)[: len(HEAD) - 1])
-        crate = cells[0].strip("`") or crate
-        above = tuple(dict.fromkeys(cited_in(cells[2], above)))
-        yield Promise(number, crate, cells, above)
+        elif inside and name is not None:
+            crate = name[1]
+        elif inside and crate and line.startswith("- "):
+            item = Item(number, crate, line[2:])
+        elif goes_on:
+            item = item._replace(text=f"{item.text} {line.strip()}")
+
+
+def promises_of(text: str) -> Iterator[Promise]:
+    """The promises of the section that goes crate by crate."""
+    above: Tuple[Cited, ...] = ()
+    for one in items_of(text):
+        says, _, carriers = one.text.rpartition(CARRIED)
+        above = tuple(dict.fromkeys(cited_in(carriers, above)))
+        yield Promise(one.line, one.crate, says, above)
 
 
 def functions_of(one: Cited, crate: str, sources: Sources) -> List[Function]:
-    """The functions that a name stands for: its own, those of a type or those of a module. One of the row's crate goes first."""
+    """The functions that a name stands for: its own, those of a type or those of a module. One of the item's crate goes first."""
     asked = tuple(one.name.split("::"))
     found = [each for each in sources.functions if is_within(asked, each.whole())]
     if not found:
@@ -83,44 +105,24 @@ def place_of(one: Function) -> Tuple[str, int]:
 
 
 class Promises:
-    """The rows, with what they rest on."""
+    """The promises of the document."""
 
-    def __init__(self, modules: Modules, sources: Sources, resting: Resting) -> None:
+    def __init__(self, root: pathlib.Path, sources: Sources) -> None:
         """Reads the document."""
-        self.file = modules.root / "docs" / "PROMISES.md"
-        self.text = self.file.read_text(encoding="utf-8")
-        self.sources, self.resting = sources, resting
+        self.text = (root / "docs" / "PROMISES.md").read_text(encoding="utf-8")
+        self.sources = sources
         self.rows = list(promises_of(self.text))
 
-    def rests_on(self, row: Promise) -> str:
-        """How many definitions a row rests on, or a dash if it names no contract."""
-        words: Dict[Word, None] = {}
-        contracts = 0
-        for one in row.cited:
-            for function in functions_of(one, row.crate, self.sources):
-                for clause in one.clauses or ("",):
-                    words.update(dict.fromkeys(self.resting.cited_by_function(function, clause)))
-                contracts += 1
-        return str(len(self.resting.under(list(words)).definitions)) if contracts else "–"
-
-    def written(self) -> str:
-        """The document with the last column anew."""
-        lines = self.text.split("\n")
-        head = next(place for place, line in enumerate(lines) if line.startswith("| Crate | Promise"))
-        lines[head], lines[head + 1] = line_of(HEAD), rule_of(len(HEAD))
-        for row in self.rows:
-            lines[row.line - 1] = line_of(row.cells + (self.rests_on(row),))
-        return "\n".join(lines)
-
     def faults(self) -> Iterator[str]:
-        """Functions and clauses that aren't there, and numbers that are stale."""
+        """Promises that name nothing, and functions and clauses that aren't there."""
+        if not self.rows:
+            yield f"docs/PROMISES.md: no promise below {SECTION}"
         for row in self.rows:
+            if not row.text:
+                yield f"docs/PROMISES.md:{row.line}: a promise ends with{CARRIED}and the functions that carry it"
             for one in row.cited:
                 for fault in self._faults_of(one, row.crate):
                     yield f"docs/PROMISES.md:{row.line}: {fault}"
-        for place, (old, new) in enumerate(zip(self.text.split("\n"), self.written().split("\n")), 1):
-            if old != new:
-                yield f"docs/PROMISES.md:{place}: ./believe --write makes of it {new}"
 
     def _faults_of(self, one: Cited, crate: str) -> Iterator[str]:
         """What is wrong with a name and its clauses."""
@@ -135,13 +137,13 @@ class Promises:
                 yield f"{one.name} has no clause {clause}"
 
     def without_row(self) -> Iterator[str]:
-        """The public functions that no row names, neither by their name nor by their type or module."""
+        """The public functions that no promise names, neither by their name nor by their type or module."""
         named = {place_of(each) for row in self.rows for one in row.cited for each in functions_of(one, row.crate, self.sources)}
         lacking = ("::".join(each.shown()) for each in self.sources.public() if place_of(each) not in named)
         yield from dict.fromkeys(lacking)
 
     def unnamed_clauses(self) -> Iterator[str]:
-        """The clauses that no row names, of functions of which rows name others."""
+        """The clauses that no promise names, of functions of which promises name others."""
         named: Dict[Tuple[str, int], Set[str]] = {}
         functions: Dict[Tuple[str, int], Function] = {}
         for row in self.rows:
@@ -154,4 +156,3 @@ class Promises:
             lacking = [name for name in clauses if name not in named[place]]
             if lacking:
                 yield f"{'::'.join(each.shown())} ({', '.join(lacking)})"
-

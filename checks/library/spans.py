@@ -1,0 +1,5 @@
+"""Finds what stands in backticks."""
+
+import re
+
+SPAN = re.compile(r"`([^`]+)`")
