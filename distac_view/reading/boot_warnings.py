@@ -10,9 +10,9 @@ from distac_view.common.texts import cut, listed, shown
 from distac_view.reading.configuration import Checked
 from distac_view.reading.equal_times import CURE, Pair, pairs_that_hang
 from distac_view.reading.erlang_reader import decoded
-from distac_view.reading.erlang_terms import Atom, Term, term_of
+from distac_view.reading.erlang_terms import Atom, Term, Way, spot_of, term_of
 from distac_view.reading.erlang_tokens import Kind, Misread, Token, byte_tokens
-from distac_view.reading.sections import Sections, twice_in
+from distac_view.reading.sections import Sections, twice_in, wrong_part
 from distac_view.reading.source_file import SourceFile, plain_file
 
 SYNC_LISTS = ("sync_nodes_mandatory", "sync_nodes_optional")
@@ -23,30 +23,36 @@ def boot_warnings(checked: Checked, path: str) -> Iterator[Remark]:
     """All that OTP has against a file which `distac` takes, by the reader that `gather` has too."""
     file = plain_file(path, checked.text)
     sections = Sections(file.text)
-    yield from not_erlang(file, sections)
+    yield from not_erlang(file)
     yield from zero_sync_time(checked, file, sections)
     yield from twice_in(file, sections, TWICE)
     yield from own_file(checked, file, sections)
     yield from equal_times(checked)
 
 
-def not_erlang(file: SourceFile, sections: Sections) -> Iterator[Remark]:
+def not_erlang(file: SourceFile) -> Iterator[Remark]:
     """A text that Erlang doesn't read, or whose sections OTP doesn't take."""
     try:
         items = term_of(decoded(file.source))
     except Misread as misread:
         yield file.remark(misread.place, "NotErlang", f"Erlang doesn't read this file: {misread.sentence}")
         return
-    for item, (_, place) in zip(items if isinstance(items, list) else [], sections.sections):
-        if not is_section(item):
-            sentence = "OTP doesn't boot with this section: it is {APPLICATION,[{PARAMETER,VALUE}]}, and each PARAMETER a name"
-            yield file.remark(place, "BadSection", sentence)
+    for number, item in enumerate(items if isinstance(items, list) else []):
+        wrong = next(wrong_terms(item), None)
+        if wrong is not None:
+            sentence = "OTP doesn't boot with this: a section is {APPLICATION,[{PARAMETER,VALUE}]}, and each PARAMETER a name"
+            yield file.remark(spot_of(file.text).at((number, *wrong)), "BadSection", sentence)
 
 
-def is_section(section: Term) -> bool:
-    """Whether a pair is an application with a list of parameters."""
+def wrong_terms(section: Term) -> Iterator[Way]:
+    """The ways to what is wrong in a pair that should be an application with a list of parameters."""
     parameters = section[1] if isinstance(section, tuple) else None
-    return isinstance(parameters, list) and all(isinstance(each, tuple) and len(each) == 2 and isinstance(each[0], Atom) for each in parameters)
+    if not isinstance(parameters, list):
+        yield (1,)
+        return
+    for number, each in enumerate(parameters):
+        if not (isinstance(each, tuple) and len(each) == 2 and isinstance(each[0], Atom)):
+            yield (1, number, *wrong_part(each))
 
 
 def zero_sync_time(checked: Checked, file: SourceFile, sections: Sections) -> Iterator[Remark]:

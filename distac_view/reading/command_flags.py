@@ -12,7 +12,7 @@ from distac_view.common.texts import cut, shown
 from distac_view.reading.environment import Surroundings
 from distac_view.reading.erlang_terms import Atom
 from distac_view.reading.erlang_tokens import Misread
-from distac_view.reading.node_settings import Library, NodeSettings, Origin, Setting, settings_of
+from distac_view.reading.node_settings import Library, NodeSettings, Origin, Setting, Written, settings_of
 from distac_view.reading.source_file import SourceFile
 from distac_view.reading.templates import FILLED_IN, TEMPLATE
 from distac_view.reading.vm_args import Flags, Word, flags_of, words_of
@@ -100,7 +100,8 @@ def add_flag(settings: NodeSettings, file: SourceFile, parameter: Word, value: W
         raise bad_value(file, parameter, value, term)
     if not isinstance(name, Atom):
         return
-    setting, before = Setting(term, Origin(file, value.place)), settings.kernel.get(name.name)
+    written = Written(text_of(value), value.signs)
+    setting, before = Setting(term, Origin(file, value.place, written)), settings.kernel.get(name.name)
     is_again = before is not None and before.origin.file.has_arguments and name.name in READ_PARAMETERS
     if before is not None and is_again and before.value != term:
         sentence = f"flags set {name.name} here and at {before.origin.line}, and it depends on other parameters which one OTP takes: leave one"

@@ -1,4 +1,4 @@
-"""Erlang's terms: read from a text of the whole term syntax, as values.
+"""Erlang's terms: read from a text of the whole term syntax, as values and as the places where these stand.
 
 Nothing here recurses, so brackets may be as deep as a text is long.
 """
@@ -7,7 +7,7 @@ from __future__ import annotations
 
 import re
 from dataclasses import dataclass, field
-from typing import List, Tuple, Union
+from typing import List, NamedTuple, Tuple, Union
 
 from distac_view.reading.erlang_tokens import Kind, Misread, Token, tokens_of, unescaped
 
@@ -37,6 +37,26 @@ class Other:
 Term = Union[Atom, Other, int, float, List["Term"], Tuple["Term", ...]]
 """A value of Erlang. A string is the list of its characters' numbers."""
 
+Way = Tuple[int, ...]
+"""A way into a term: the number of one of its items, then that of an item of this one, and so on."""
+
+
+class Spot(NamedTuple):
+    """Where a term begins, and the same of its items. Only those of lists and tuples are told."""
+
+    place: int
+    items: "tuple[Spot, ...]" = ()
+
+    def at(self, way: Way) -> int:
+        """The first character of the term to which a way leads, or of the last term on it that is told."""
+        spot = self
+        for number in way:
+            if number >= len(spot.items):
+                break
+            spot = spot.items[number]
+        return spot.place
+
+
 CLOSING = {"[": "]", "{": "}", "(": ")", "#{": "}"}
 WITHIN_BINARY = frozenset((*"(),:/+-", "<<", ">>"))
 
@@ -48,6 +68,7 @@ class Frame:
     opened: str
     place: int
     items: list[Term] = field(default_factory=list)
+    spots: list[Spot] = field(default_factory=list)
     wants_term: bool = False
     has_tail: bool = False
 
@@ -137,25 +158,26 @@ class TermReader:
         frame = self.frames.pop()
         if frame.wants_term or (frame.opened == "#{" and len(frame.items) % 2):
             raise Misread(token.start, f"something is missing before this {token.written}")
-        self.put(value_of_frame(frame), frame.place)
+        self.put(value_of_frame(frame), spot_of_frame(frame))
 
     def add(self, value: Term, token: Token) -> None:
         """A term that one token, or a few, make."""
         self.want(token)
-        self.put(value, token.start)
+        self.put(value, Spot(token.start))
 
-    def put(self, value: Term, place: int) -> None:
+    def put(self, value: Term, spot: Spot) -> None:
         """A term goes to the innermost open bracket, through the sign before it."""
-        top = self.frames[-1]
+        top, place = self.frames[-1], spot.place
         if top.opened and top.opened in "+-":
             self.frames.pop()
             if isinstance(value, Signed) or not isinstance(value, (int, float)) and value != Other("number"):
                 raise Misread(place, f"a number is wanted behind {top.opened}")
-            value = signed(top.opened, value)
+            value, spot = signed(top.opened, value), Spot(top.place)
             top = self.frames[-1]
         if top.opened and top.opened in "+-":
             raise Misread(place, f"a number is wanted behind {top.opened}")
         top.items.append(value)
+        top.spots.append(spot)
         top.wants_term = False
 
     def skip_binary(self, token: Token) -> None:
@@ -233,6 +255,17 @@ def value_of_frame(frame: Frame) -> Term:
     return [*frame.items[:-1], *tail] if isinstance(tail, list) else Other("list with a tail")
 
 
+def spot_of_frame(frame: Frame) -> Spot:
+    """Where a closed bracket stands, and its items."""
+    if frame.opened == "(":
+        return frame.spots[0]
+    if frame.opened == "#{":
+        return Spot(frame.place)
+    if not frame.has_tail:
+        return Spot(frame.place, tuple(frame.spots))
+    return Spot(frame.place, (*frame.spots[:-1], *frame.spots[-1].items))
+
+
 def atom_of(token: Token) -> Atom:
     """The atom of a token."""
     name = token.written
@@ -282,3 +315,10 @@ def text_in(token: Token) -> str:
 def term_of(text: str) -> Term:
     """The term of a text. A text that has none, or anything else beside it, raises this."""
     return TermReader(text).term()
+
+
+def spot_of(text: str) -> Spot:
+    """Where the term of a text stands, and its items. A text that `term_of` doesn't read raises the same."""
+    reader = TermReader(text)
+    reader.term()
+    return reader.frames[0].spots[0]

@@ -7,7 +7,7 @@ from dataclasses import dataclass, field
 
 from distac_view.common.names import name_of
 from distac_view.common.texts import cut, shown
-from distac_view.reading.erlang_terms import Atom, Other, Term
+from distac_view.reading.erlang_terms import Atom, Other, Term, Way
 from distac_view.reading.node_settings import NodeSettings, Setting
 from distac_view.reading.templates import FILLED_IN, TEMPLATE
 
@@ -71,76 +71,78 @@ def placement_of(settings: NodeSettings) -> Placement:
             taken(placement, setting)
     for name in SYNC_LISTS:
         setting = settings.kernel.get(name)
-        placement.sync[name] = names_of(setting, setting.value) if setting else []
+        placement.sync[name] = names_of(setting) if setting else []
     return placement
 
 
 def take_distributed(placement: Placement, setting: Setting) -> None:
     """The parameter `distributed`."""
-    for item in listed_in(setting, "distributed"):
-        entry = entry_of(placement, setting, item)
+    for number, item in enumerate(listed_in(setting, "distributed")):
+        entry = entry_of(placement, setting, number, item)
         if placement.entry_of(entry.app) is not None:
-            raise setting.fault("TwiceApp", f"{shown(entry.app)} stands twice in distributed: take one of them out")
+            raise setting.fault_in((number, 0), "TwiceApp", f"{shown(entry.app)} stands twice in distributed: take one of them out")
         placement.entries.append(entry)
 
 
-def entry_of(placement: Placement, setting: Setting, item: Term) -> Entry:
-    """An entry of `distributed`."""
+def entry_of(placement: Placement, setting: Setting, number: int, item: Term) -> Entry:
+    """An entry of `distributed`, by its number there."""
     if not isinstance(item, tuple) or len(item) not in (2, 3) or not isinstance(item[0], Atom) or not isinstance(item[-1], list):
-        raise setting.fault("BadEntry", "an entry of distributed is {APP,[NODES]} or {APP,MILLISECONDS,[NODES]}, and one isn't")
-    app = spelled(setting, item[0])
-    timeout = 0 if len(item) == 2 else time_of(placement, setting, app, item[1])
-    groups = tuple(group_of(setting, node) for node in item[-1])
+        raise setting.fault_in((number,), "BadEntry", "this is no entry of distributed, which is {APP,[NODES]} or {APP,MILLISECONDS,[NODES]}")
+    app, last = spelled(setting, (number, 0), item[0]), len(item) - 1
+    timeout = 0 if last == 1 else time_of(placement, setting, number, app, item[1])
+    groups = tuple(group_of(setting, (number, last, place), node) for place, node in enumerate(item[-1]))
     if not groups:
-        raise setting.fault("EmptyList", f"{shown(app)} has no node: name one in its list")
+        raise setting.fault_in((number, last), "EmptyList", f"{shown(app)} has no node: name one in its list")
     return Entry(app, timeout, groups)
 
 
-def time_of(placement: Placement, setting: Setting, app: str, value: Term) -> int:
-    """A failover time. OTP takes infinity for one, which `distac` says by its greatest number."""
+def time_of(placement: Placement, setting: Setting, number: int, app: str, value: Term) -> int:
+    """The failover time of an entry. OTP takes infinity for one, which `distac` says by its greatest number."""
+    way, path = (number, 1), setting.origin.file.path
     if value == Atom("infinity"):
         sentence = f"the failover time of {shown(app)} is infinity: OTP never fails it over; {FOREVER} ms (49 days) is written in its place"
-        place = setting.origin
-        placement.settings.warnings.append(place.file.remark(place.place, "InfiniteTime", sentence).told(place.file.path))
+        placement.settings.warnings.append(setting.remark_in(way, "InfiniteTime", sentence).told(path))
         return FOREVER
     if value == Other("number") or (isinstance(value, int) and value > FOREVER):
-        raise setting.fault("NumberTooLarge", f"the failover time of {shown(app)} is above {FOREVER} ms, which is 49 days: write a lesser one")
+        sentence = f"the failover time of {shown(app)} is above {FOREVER} ms, which is 49 days: write a lesser one"
+        raise setting.fault_in(way, "NumberTooLarge", sentence)
     if not isinstance(value, int) or value < 0:
-        raise setting.fault("BadTime", f"the failover time of {shown(app)} isn't a number of milliseconds from 0 on")
+        raise setting.fault_in(way, "BadTime", f"the failover time of {shown(app)} isn't a number of milliseconds from 0 on")
     return int(value)
 
 
-def group_of(setting: Setting, item: Term) -> tuple[str, ...]:
-    """A group of a list of nodes."""
+def group_of(setting: Setting, way: Way, item: Term) -> tuple[str, ...]:
+    """A group of a list of nodes, to which a way leads."""
     if isinstance(item, tuple) and item:
-        return tuple(names_of(setting, list(item)))
-    return tuple(names_of(setting, [item]))
+        return tuple(spelled(setting, (*way, number), node) for number, node in enumerate(item))
+    return (spelled(setting, way, item),)
 
 
-def names_of(setting: Setting, value: Term) -> list[str]:
-    """The names in a list of atoms."""
-    if not isinstance(value, list):
-        raise setting.fault("BadList", "a list of names is wanted here")
-    return [spelled(setting, item) for item in value]
+def names_of(setting: Setting) -> list[str]:
+    """The names in a parameter that is a list of atoms."""
+    if not isinstance(setting.value, list):
+        raise setting.fault_in((), "BadList", "a list of names is wanted here")
+    return [spelled(setting, (number,), item) for number, item in enumerate(setting.value)]
 
 
-def spelled(setting: Setting, item: Term) -> str:
-    """A name as `distac` spells it."""
+def spelled(setting: Setting, way: Way, item: Term) -> str:
+    """A name, to which a way leads, as `distac` spells it."""
     if not isinstance(item, Atom):
-        raise setting.fault("BadName", "a name is wanted here: an atom, without double quotes around it")
+        raise setting.fault_in(way, "BadName", "a name is wanted here: an atom, without double quotes around it")
     if TEMPLATE.search(item.name):
-        raise setting.fault("Template", f"{cut(shown(item.name), 60)} is left of {FILLED_IN}")
+        raise setting.fault_in(way, "Template", f"{cut(shown(item.name), 60)} is left of {FILLED_IN}")
     if UNSAYABLE.search(item.name):
-        raise setting.fault("BadName", f"distac reads no name with a quote, a backslash or a control character: {cut(shown(item.name), 60)}")
+        sentence = f"distac reads no name with a quote, a backslash or a control character: {cut(shown(item.name), 60)}"
+        raise setting.fault_in(way, "BadName", sentence)
     return name_of(f"'{item.name}'")
 
 
 def take_permissions(placement: Placement, setting: Setting) -> None:
     """The parameter `permissions`. The first one of an application counts."""
-    for item in listed_in(setting, "permissions"):
+    for number, item in enumerate(listed_in(setting, "permissions")):
         if not isinstance(item, tuple) or len(item) != 2 or item[1] not in (Atom("true"), Atom("false")):
-            raise setting.fault("BadPermission", "a permission is {APP,true} or {APP,false}, and one isn't")
-        placement.permissions.setdefault(spelled(setting, item[0]), item[1] == Atom("true"))
+            raise setting.fault_in((number,), "BadPermission", "this is no permission, which is {APP,true} or {APP,false}")
+        placement.permissions.setdefault(spelled(setting, (number, 0), item[0]), item[1] == Atom("true"))
 
 
 def take_sync_time(placement: Placement, setting: Setting) -> None:
@@ -150,9 +152,9 @@ def take_sync_time(placement: Placement, setting: Setting) -> None:
         placement.sync_time = float("inf")
         return
     if value == 0:
-        raise setting.fault("ZeroSyncTime", "with {sync_nodes_timeout,0} no node boots in OTP: write 1 or more, or take the parameter out")
+        raise setting.fault_in((), "ZeroSyncTime", "with {sync_nodes_timeout,0} no node boots in OTP: write 1 or more, or take the parameter out")
     if not isinstance(value, int) or not 0 < value <= FOREVER:
-        raise setting.fault("BadTime", f"sync_nodes_timeout is a number of milliseconds from 1 to {FOREVER}, or infinity")
+        raise setting.fault_in((), "BadTime", f"sync_nodes_timeout is a number of milliseconds from 1 to {FOREVER}, or infinity")
     placement.sync_time = int(value)
 
 
@@ -165,7 +167,7 @@ def take_tick_time(placement: Placement, setting: Setting) -> None:
 def listed_in(setting: Setting, name: str) -> list[Term]:
     """The value of a parameter that is a list."""
     if not isinstance(setting.value, list):
-        raise setting.fault("BadList", f"a list is wanted behind {name}")
+        raise setting.fault_in((), "BadList", f"a list is wanted behind {name}")
     return setting.value
 
 

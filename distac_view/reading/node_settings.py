@@ -6,13 +6,13 @@ import os
 from dataclasses import dataclass, field
 from typing import Iterable
 
-from distac_view.common.diagnostics import Faulty, Told
+from distac_view.common.diagnostics import Faulty, Remark, Told
 from distac_view.common.texts import bytes_of, shown
 from distac_view.reading.environment import Surroundings
 from distac_view.reading.erlang_reader import Read, Reader
-from distac_view.reading.erlang_terms import Atom, Term
+from distac_view.reading.erlang_terms import Atom, Term, Way, spot_of
 from distac_view.reading.erlang_tokens import Misread
-from distac_view.reading.sections import SYS_CONFIG, Sections, twice_in
+from distac_view.reading.sections import SYS_CONFIG, Sections, twice_in, wrong_part
 from distac_view.reading.source_file import SourceFile, file_at
 from distac_view.reading.templates import FILLED_IN, template_in
 from distac_view.reading.variables import Variables
@@ -23,11 +23,29 @@ TWICE = "the parameter {} stands twice: OTP doesn't boot with that, and the last
 
 
 @dataclass(frozen=True)
+class Written:
+    """A text that was read as one term, and its characters in the file, where these have other numbers there."""
+
+    text: str
+    characters: tuple[int, ...] = ()
+
+    def place_of(self, way: Way, other: int) -> int:
+        """The file's character at which a term of the text begins, or another one if our own reader doesn't read the text."""
+        try:
+            place = spot_of(self.text).at(way)
+        except Misread:
+            return other
+        return self.characters[place] if self.characters else place
+
+
+@dataclass(frozen=True)
 class Origin:
-    """Where a parameter stands: its file, and its first character there."""
+    """Where a parameter stands: its file, its first character there, and the text of its value with the way to that."""
 
     file: SourceFile
     place: int
+    written: Written
+    way: Way = ()
 
     @property
     def line(self) -> str:
@@ -45,6 +63,15 @@ class Setting:
     def fault(self, name: str, sentence: str) -> Faulty:
         """What is raised for a fault of the parameter."""
         return self.origin.file.fault(self.origin.place, name, sentence)
+
+    def remark_in(self, way: Way, name: str, sentence: str) -> Remark:
+        """What is said of a term of the value."""
+        origin = self.origin
+        return origin.file.remark(origin.written.place_of((*origin.way, *way), origin.place), name, sentence)
+
+    def fault_in(self, way: Way, name: str, sentence: str) -> Faulty:
+        """What is raised for a fault of a term of the value."""
+        return Faulty(self.origin.file.path, self.remark_in(way, name, sentence))
 
 
 @dataclass
@@ -130,11 +157,11 @@ def add_file(settings: NodeSettings, file: SourceFile, named: list[SourceFile], 
     settings.files.append(file)
     places = Sections(file.text)
     inner = iter(named)
-    for item in library.sections(file):
+    for number, item in enumerate(library.sections(file)):
         if file_name(item):
             follow(settings, file, next(inner), library)
         else:
-            add_section(settings, file, item, places)
+            add_section(settings, file, (number,), item, places)
     if named and os.path.basename(file.path) not in SYS_CONFIG:
         sentence = "OTP follows names of files in sys.config alone, and refuses this file under another name"
         settings.warnings.append(file.remark(places.first_string, "NotSysConfig", sentence).told(file.path))
@@ -145,25 +172,28 @@ def follow(settings: NodeSettings, file: SourceFile, named: SourceFile, library:
     """A file that another one names. OTP follows no name in it."""
     settings.files.append(named)
     places = Sections(named.text)
-    for item in library.sections(named):
+    for number, item in enumerate(library.sections(named)):
         if file_name(item):
             raise named.fault(places.first_string, "NamedTwice", f"{file.path} names this file, and in such a one OTP follows no name")
-        add_section(settings, named, item, places)
+        add_section(settings, named, (number,), item, places)
     settings.warnings += [remark.told(named.path) for remark in twice_in(named, places, TWICE)]
 
 
-def add_section(settings: NodeSettings, file: SourceFile, item: Term, places: Sections) -> None:
-    """A section: of kernel's parameters each one wins over an earlier one of its name."""
+def add_section(settings: NodeSettings, file: SourceFile, way: Way, item: Term, places: Sections) -> None:
+    """A section, to which a way leads: of kernel's parameters each one wins over an earlier one of its name."""
+    written = Written(file.text)
     if not (isinstance(item, tuple) and len(item) == 2 and isinstance(item[0], Atom) and isinstance(item[1], list)):
-        raise file.fault(0, "BadSection", "each item of the outer list is a section {APPLICATION,[{PARAMETER,VALUE}]}, and one isn't")
+        place = written.place_of((*way, *wrong_part(item)), 0)
+        raise file.fault(place, "BadSection", "this is no section: each item of the outer list is {APPLICATION,[{PARAMETER,VALUE}]}")
     if item[0].name != "kernel":
         return
-    for parameter in item[1]:
+    for number, parameter in enumerate(item[1]):
+        inner = (*way, 1, number)
         if not (isinstance(parameter, tuple) and len(parameter) == 2 and isinstance(parameter[0], Atom)):
-            raise file.fault(places.of_section("kernel"), "BadParameter", "each parameter of kernel is {NAME,VALUE}, and one isn't")
+            place = written.place_of((*inner, *wrong_part(parameter)), places.of_section("kernel"))
+            raise file.fault(place, "BadParameter", "this is no parameter: each item of kernel's list is {NAME,VALUE}")
         name = parameter[0].name
-        settings.kernel[name] = Setting(parameter[1], Origin(file, places.of_parameter(name)))
-
+        settings.kernel[name] = Setting(parameter[1], Origin(file, places.of_parameter(name), written, (*inner, 1)))
 
 def path_text(path: str) -> str:
     """A path as it is shown in a comment."""

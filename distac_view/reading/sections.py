@@ -7,6 +7,7 @@ from typing import Iterable, Iterator, TypeVar
 
 from distac_view.common.diagnostics import Remark
 from distac_view.common.texts import cut, shown
+from distac_view.reading.erlang_terms import Atom, Term, Way
 from distac_view.reading.erlang_tokens import Kind, Misread, Token, tokens_of, unescaped
 from distac_view.reading.source_file import SourceFile
 
@@ -66,6 +67,13 @@ class Sections:
         """The parameters that were there before in their section."""
         found = again(((number, name), place) for number, name, place in self.parameters)
         return ((name, place) for (_, name), place in found)
+
+
+def wrong_part(item: Term) -> Way:
+    """The way to what is wrong in what should be a section or a parameter: its name, what stands behind that, or all of it."""
+    if not isinstance(item, tuple) or len(item) != 2:
+        return ()
+    return (1,) if isinstance(item[0], Atom) else (0,)
 
 
 def name_in(token: Token) -> str:

@@ -15,11 +15,12 @@ BLANK = " \t\n\r\v\f"
 
 
 class Word(NamedTuple):
-    """A word of a file of arguments: its text without quotes, the file's path, and its first character there."""
+    """A word of a file of arguments: its text without quotes, the file's path, its first character there, and where each sign stands."""
 
     text: str
     path: str
     place: int
+    signs: "tuple[int, ...]"
 
 
 @dataclass
@@ -45,30 +46,30 @@ def words_of(path: str, text: str) -> list[Word]:
         elif text[place] == "#":
             place = line_end(text, place)
         else:
-            word, end = word_at(text, place)
-            found.append(Word(word, path, place))
+            signs, end = signs_at(text, place)
+            found.append(Word("".join(text[sign] for sign in signs), path, place, tuple(signs)))
             place = end
     return found
 
 
-def word_at(text: str, place: int) -> "tuple[str, int]":
-    """The word that begins at a character, and the character behind it."""
-    parts = []
+def signs_at(text: str, place: int) -> "tuple[list[int], int]":
+    """Where the signs of the word stand that begins at a character, and the character behind it."""
+    signs: list[int] = []
     while place < len(text) and text[place] not in BLANK + "#":
         sign = text[place]
         if sign in "\"'":
             end = text.find(sign, place + 1)
             if end < 0:
                 raise Misread(place, f"this {sign} is never closed: erl takes all behind it for one word")
-            parts.append(text[place + 1 : end])
+            signs += range(place + 1, end)
             place = end + 1
         elif sign == "\\":
-            parts.append(text[place + 1 : place + 2])
+            signs += range(place + 1, min(place + 2, len(text)))
             place += 2
         else:
-            parts.append(sign)
+            signs.append(place)
             place += 1
-    return "".join(parts), place
+    return signs, place
 
 
 def line_end(text: str, place: int) -> int:

@@ -77,6 +77,12 @@ class BootWarnings(unittest.TestCase):
             column = len(" ") + sections.index(behind) + len("{") + 1
             self.assertIn(f"node.config:2:{column}: {name}: ", self.errors_on(sections))
 
+    def test_the_caret_stands_under_what_is_no_parameter(self) -> None:
+        for section in ("{app, ^value}", "{app,[{a,1}, ^value]}", "{app,[{^1,2}]}", "{app,[{a,[{b}]}, ^{c,d,e}]}"):
+            sections = PLACED % "" + ",{other,[]}," + section
+            column = len(" ") + sections.index("^") + 1
+            self.assertIn(f"node.config:2:{column}: BadSection: ", self.errors_on(sections.replace("^", "")))
+
     def test_one_warning_for_each_time(self) -> None:
         entries = ["{%s%d,%d,[x@h,{y@h,z@h}]}" % (name, number, 100 * number) for name in "abc" for number in (1, 2)]
         errors = self.errors_on("{kernel,[{distributed,[%s]}]}" % ",".join(entries))

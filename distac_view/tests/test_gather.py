@@ -43,6 +43,37 @@ ms = String.to_integer(System.fetch_env!("FAILOVER_MS"))
 config :kernel, distributed: [{:shop, ms, [:"a@h", :"b@h"]}], logger: [{:handler, :default, :logger_std_h, %{}}]
 """
 PLACEMENT = "{distributed,[{a,500,[x@h,{y@h,z@h}]},{b,700,[y@h,x@h]}]}"
+# A file, or a parameter of kernel, with ^ before the term at which the fault is told.
+WRONG_FILES = (
+    ("[{sasl,[]},\n {kernel,[]}, ^other].", "BadSection"),
+    ("[{sasl,[]}, ^{kernel}].", "BadSection"),
+    ("[^[a],{kernel,[]}].", "BadSection"),
+    ("[^#{a => [b]}].", "BadSection"),
+    ("[{^1,[]}].", "BadSection"),
+    ("[{kernel, ^x}].", "BadSection"),
+    ("[{kernel,[{net_ticktime,20},\n\t^oops]}].", "BadParameter"),
+    ("[{kernel,[{net_ticktime,20}, ^{a,b,c}]}].", "BadParameter"),
+    ("[{sasl,[x]},{kernel,[{^\"distributed\",[]}]}].", "BadParameter"),
+    ("[{kernel,[{a,<<1,2>>},{b,fun x:y/1}|[{c,$,}, ^d]]}].", "BadParameter"),
+)
+WRONG_PARAMETERS = (
+    ("{distributed, ^x}", "BadList"),
+    ("{distributed,[{a,[x@h]}, % a comment\n ^b]}", "BadEntry"),
+    ("{distributed,[{a,[x@h]},{'b c',5,[x@h]}, ^{d,x}]}", "BadEntry"),
+    ("{distributed,[{a, ^-1,[x@h]}]}", "BadTime"),
+    ("{distributed,[{a,[x@h]},{b,(^1.0),[x@h]}]}", "BadTime"),
+    ("{distributed,[{a,[x@h]},{b,^\"5\" \"0\",[x@h]}]}", "BadTime"),
+    ("{distributed,[{a,^4294967296,[x@h]}]}", "NumberTooLarge"),
+    ("{distributed,[{a,5, ^[]}]}", "EmptyList"),
+    ("{distributed,[{a,5,[x@h]},{^a,[y@h]}]}", "TwiceApp"),
+    ("{distributed,[{a,5,[x@h,{y@h, ^\"z@h\"}]}]}", "BadName"),
+    ("{distributed,[{^'it\\'s',[x@h]}]}", "BadName"),
+    (PLACEMENT + ",{permissions,[{a,true}, ^{b,yes}]}", "BadPermission"),
+    (PLACEMENT + ",{sync_nodes_timeout, ^0}", "ZeroSyncTime"),
+    (PLACEMENT + ",{sync_nodes_timeout, ^-5}", "BadTime"),
+    (PLACEMENT + ",{sync_nodes_optional,[x@h, ^\"y@h\"]}", "BadName"),
+    (PLACEMENT + ",{sync_nodes_optional, ^x}", "BadList"),
+)
 SYNC = ",{sync_nodes_mandatory,[%s]},{sync_nodes_optional,[%s]},{sync_nodes_timeout,%s}"
 
 
@@ -258,9 +289,29 @@ class Differences(unittest.TestCase):
         for text in ("kernel.", "{kernel,[]}.", "[kernel].", "[{kernel,x}].", "[{kernel,[x]}].", "[{kernel,[{1,2}]}].", "[[a]].", "[{a}].", "[#{}]."):
             self.expect(self.gather([text] * 3, whole=True), 2, "")
         for value in ("x", "[x]", "[{a}]", "[{a,x}]", "[{a,1.0,[x@h]}]", "[{a,-1,[x@h]}]", "[{a,4294967296,[x@h]}]", "[{a,[]}]", "[{a,[{}]}]", '[{a,["x@h"]}]', "[{a,[1]}]", "[{a,[x@h]},{a,[x@h]}]", "#{}"):
-            self.expect(self.gather(["{distributed,%s}" % value] * 3), 2, "config:3:2: ")
+            self.expect(self.gather(["{distributed,%s}" % value] * 3), 2, ".config:3:")
         for value in ("[{a,yes}]", "x", "[a]", "[{1,true}]"):
             self.expect(self.gather([PLACEMENT + ",{permissions,%s}" % value] * 3), 2, ".config:3:")
+
+    def test_the_caret_stands_under_the_term(self) -> None:
+        texts = [*WRONG_FILES, *(("[{kernel,[%s]}]." % text, name) for text, name in WRONG_PARAMETERS)]
+        for text, name in texts:
+            self.told_at(text, name, "own")
+        for text, name in texts[::5] if has_erlang() else ():
+            self.told_at(text, name, "erl")
+
+    def told_at(self, text: str, name: str, reader: str) -> None:
+        """A fault is told at the mark of a text, which is taken out."""
+        before, mark, behind = text.partition("^")
+        path = Path(self.room.name) / "x.config"
+        path.write_text(before + behind)
+        said = view("gather", "--reader", reader, f"x@h={path}")
+        line, column = before.count("\n") + 1, len(before) - before.rfind("\n")
+        self.assertTrue(said.output.startswith(f"{path}:{line}:{column}: {name}: "), (text, mark, said))
+
+    def test_a_warning_stands_under_the_term(self) -> None:
+        said = self.gather([PLACEMENT.replace("700", "infinity")] * 3)
+        self.assertIn(f"x.config:3:{PLACEMENT.index('700') + 1}: InfiniteTime: ", said.errors)
 
     def test_more_than_distac_takes(self) -> None:
         many = ",".join("{a%d,[x@h]}" % number for number in range(65))

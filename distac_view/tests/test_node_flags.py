@@ -96,6 +96,12 @@ class Releases(unittest.TestCase):
                 self.assertTrue(said.output.startswith("sys.config.src:2:25: Syntax: a comma is missing"), said)
                 self.assertIn("\n  {permissions,['${HOST}' oops]}]}].\n                          ^", said.output)
 
+    def test_a_variable_with_a_wrong_value_is_shown(self) -> None:
+        with tempfile.TemporaryDirectory() as room:
+            (Path(room) / "sys.config.src").write_text("[{kernel,[{distributed,[{a,['x@${HOST}']},\n {b,${MS},['x@${HOST}']}]}]}].")
+            said = gather("x@h=sys.config.src", "--env", "HOST=h", "--env", "MS=-5", folder=room)
+            self.assertTrue(said.output.startswith("sys.config.src:2:5: BadTime: "), said)
+
     def test_each_node_has_its_own_values(self) -> None:
         with tempfile.TemporaryDirectory() as room:
             (Path(room) / "sys.config").write_text(PLACED.replace("]}].", ",{sync_nodes_optional,['${OTHER}']},{sync_nodes_timeout,5}]}]."))
@@ -134,6 +140,8 @@ class Faults(unittest.TestCase):
         self.of_arguments("BadFlag", "-kernel sync_nodes_timeout 5.")
         self.of_arguments("BadFlag", "-kernel sync_nodes_timeout ''")
         self.of_arguments("vm.args:2:28: BadTime", "# x\n-kernel sync_nodes_timeout x")
+        self.of_arguments("vm.args:1:39: BadEntry", "-kernel distributed '[{a,5,[x@h]},    {b,x}]'")
+        self.of_arguments("vm.args:1:29: BadTime", '-kernel distributed "[{a,"\\ x,[x@h]}]')
         self.of_arguments("vm.args:1:28: Template", "-kernel sync_nodes_timeout ${MS}")
         self.of_arguments("vm.args:1:14: BadArguments: this ' is never closed", "-kernel sync ' 5")
         self.of_arguments("vm.args:1:12: BadArguments: files of arguments name each other", "-args_file vm.args")
