@@ -1,26 +1,39 @@
 -- What a node prepared, it can do.
-use Rattle.std.proofs.Common.{◌≡◌, ◌∙◌, ◌<◌, List, Some, Result, Ok, Err, length, refl, sym, ap, subst}
-use Rattle.std.specs.Prelude.{IfOk, IfErr, OnOk, OnErr}
+use Rattle.std.proofs.Common.{◌≡◌, ◌∙◌, ◌<◌, ℕ, List, Option, Some, None, Result, Ok, Err, length, refl, sym, ap, subst}
+use Rattle.std.specs.Prelude.{IfOk, IfErr, IfSome, OnOk, OnErr}
 use Rattle.std.specs.List.{slice_get}
 use Rattle.dac_base.specs.declared.NodeId.{NodeId}
 use Rattle.dac_config.specs.Table.{Table}
+use Rattle.dac_operations.specs.Operations.{Operation}
 use Rattle.dac_events.specs.declared.WorldEvent.{WorldEvent}
+use Rattle.dac_events.specs.declared.What.{What}
 use Rattle.dac_events.specs.declared.refusal.Refusal.TheVariants.{NoMemory}
 use Rattle.dac_events.specs.declared.world_fault.WorldFault.{WorldFault}
 use Rattle.dac_events.specs.declared.world_fault.WorldFault.TheVariants.{Refused}
 use Rattle.dac_messages.specs.declared.event.Event.{Event}
+use Rattle.dac_messages.specs.declared.message.Message.{Message}
+use Rattle.dac_messages.specs.Bodies.{content_of}
 use Rattle.dac_messages.specs.declared.reply.Reply.{Reply}
 use Rattle.dac_messages.specs.declared.reply.Reply.TheVariants.{Crashed}
-use Rattle.dac_settle.specs.dac_model_world.NodeValue.{NodeValue}
+use Rattle.dac_settle.specs.dac_model_world.NodeValue.{NodeValue, state_of}
 use Rattle.dac_settle.specs.dac_model_world.WorldValue.{WorldValue}
-use Rattle.dac_settle.specs.dac_model_world.ModelWorld.{event_of, out_of_memory}
+use Rattle.dac_settle.specs.dac_model_world.ModelWorld.{event_of, counted, out_of_memory}
+use Rattle.dac_settle.specs.dac_model_world.Made.{IsMade, HeardDotsAreOrder, OneDotIsOrder}
 use Rattle.dac_settle.specs.dac_model_world.WorldChanges.{Goes}
 use Rattle.dac_settle.specs.dac_model_world.AtNode.{HappensAt}
 use Rattle.dac_settle.specs.dac_model_world.laws.Options.{some_same}
+use Rattle.dac_node.specs.ByDots.{IsBelowByDots, IsBelowByDot}
 use Rattle.dac_node.specs.Changes.{ChangeValue, Fits, Prepared, changed}
+use Rattle.dac_settle.specs.dac_model_world.laws.Sound.{counted_in}
+use Rattle.dac_settle.specs.dac_model_world.laws.Made.{goes_made, states_mean, bodies_mean}
 use Rattle.dac_settle.specs.dac_model_world.laws.Follow.{Here, crash_goes_off, follows_in, happens_gone}
 use Rattle.dac_core.specs.Ready.{IsReady, IsReadyAt, IsPreparedAt}
 use Rattle.dac_core.specs.Passing.{Passes}
+
+-- what holds of a value holds of one that is there
+if_some_weaker : {X : Type 0} {P Q : X → Type 0} (o : Option X) → ((x : X) → P x → Q x) → IfSome o P → IfSome o Q
+if_some_weaker None f h = tt
+if_some_weaker (Some x) f h = f x h
 
 ready_at : (t : Table) (nodes : List NodeValue) (me : NodeId) (old : NodeValue) (e : Event) (change : ChangeValue) → slice_get nodes me.0 ≡ Some old → Prepared t me old e change → Fits old change → IsReadyAt nodes me change
 ready_at t nodes me old e change there prepared fits v at =
@@ -63,3 +76,31 @@ passed_at t v mid u e change (Err fault) same inside p goes lacked stays left = 
 -- what comes of an event that isn't accepted
 pub stayed_at : (t : Table) (v u : WorldValue) (me : NodeId) (what : Result Event WorldFault) (fault : WorldFault) → u ≡ v → HappensAt t v me what (Err fault) v → HappensAt t v me what (Err fault) u
 stayed_at t v u me what fault same h = subst (λ (x : WorldValue). HappensAt t v me what (Err fault) x) (sym same) h
+
+-- ---- what a world of issued operations needs
+-- what comes of what was prepared leaves it so
+made_gone : (t : Table) (v mid u : WorldValue) (me : NodeId) (what : What) (change : ChangeValue) (given : Reply) → IsMade v → mid ≡ v → me.0 < length v.nodes → IsPreparedAt t v.nodes me (event_of v.operations v.messages what) change → Goes mid me (λ x. changed x change) change.reply given u → IsMade u
+made_gone t v mid u me what change given made same inside p goes =
+    goes_made t v u me what p.event p.before (λ x. changed x change) change.reply given made p.happens (record { inside = inside; there = p.there }) p.prepared
+    (subst (λ (m : WorldValue). Goes m me (λ x. changed x change) change.reply given u) same goes)
+
+pub made_at : (t : Table) (v mid u : WorldValue) (me : NodeId) (what : What) (change : ChangeValue) (answer : Result Reply WorldFault) → IsMade v → mid ≡ v → me.0 < length v.nodes → IsPreparedAt t v.nodes me (event_of v.operations v.messages what) change →
+    IfOk answer (λ reply. Goes mid me (λ x. changed x change) change.reply reply u) → OnErr answer (u ≡ mid) → IsMade u
+made_at t v mid u me what change (Ok reply) made same inside p goes left = made_gone t v mid u me what change reply made same inside p goes
+made_at t v mid u me what change (Err fault) made same inside p goes left = subst IsMade (sym (left ∙ same)) made
+
+-- so it does where the reply isn't told
+pub made_past : (t : Table) (v mid u : WorldValue) (me : NodeId) (what : What) (change : ChangeValue) (told : Result (Unit {0}) WorldFault) → IsMade v → mid ≡ v → me.0 < length v.nodes → IsPreparedAt t v.nodes me (event_of v.operations v.messages what) change →
+    OnOk told (Goes mid me (λ x. changed x change) change.reply change.reply u) → OnErr told (u ≡ mid) → IsMade u
+made_past t v mid u me what change (Ok done) made same inside p goes left = made_gone t v mid u me what change change.reply made same inside p goes
+made_past t v mid u me what change (Err fault) made same inside p goes left = subst IsMade (sym (left ∙ same)) made
+
+-- at a node heard dots are the order of a message that comes
+pub message_by_dots : (v : WorldValue) (me : NodeId) (x : NodeValue) (k : ℕ) (m : Message) → HeardDotsAreOrder → IsMade v → Here v me x → counted v.messages k ≡ Some m → IfSome (state_of x) (IsBelowByDots (content_of m.body))
+message_by_dots v me x k m law made here there =
+    if_some_weaker (state_of x) (λ s means. law v.operations (content_of m.body) s made.distinct (bodies_mean v k m made there) means) (states_mean v me.0 x made here.there)
+
+-- and of an operation that comes by itself
+pub operation_by_dot : (v : WorldValue) (me : NodeId) (x : NodeValue) (k : ℕ) (o : Operation) → OneDotIsOrder → IsMade v → Here v me x → counted v.operations k ≡ Some o → IfSome (state_of x) (IsBelowByDot o)
+operation_by_dot v me x k o law made here there =
+    if_some_weaker (state_of x) (λ s means. law v.operations o s made.distinct (counted_in v.operations k o there) means) (states_mean v me.0 x made here.there)

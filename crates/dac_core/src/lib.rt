@@ -42,5 +42,6 @@ pub use dac_messages::{AppList, Body, Event, Message, OpList, Reply};
 pub use dac_node::{Node, Refusal};
 pub use world::World;
 
+mod cluster;
 mod sharing;
 mod world;

@@ -11,6 +11,7 @@ pub mod Addressed
 pub mod UpToDate
 pub mod Shares
 pub mod Convergence
+pub mod Made
 pub mod Issuing
 pub mod Causality
 pub mod Records

@@ -1,5 +1,6 @@
 pub mod Operations
 pub mod Meanings
+pub mod HeardDots
 pub mod Gathered
 pub mod Covers
 pub mod Carried
@@ -28,6 +29,7 @@ pub mod Histories
 pub mod Records
 pub mod EveryList
 pub mod Follow
+pub mod Made
 pub mod StaysOpen
 pub use Rattle.dac_model_node.specs.laws.Options
 pub use Rattle.dac_model_node.specs.laws.Staying

@@ -4,6 +4,7 @@
 ghost use Rattle.dac_model_world.specs.ModelWorld.{InEachRun, RanAs};
 ghost use Rattle.dac_model_world.specs.Converges.{Converges};
 ghost use Rattle.dac_model_world.specs.Gates.{GatesStayOpen};
+ghost use Rattle.dac_model_world.specs.Made.{HeardDotsAreOrder, OneDotIsOrder};
 ghost use Rattle.dac_model_world.specs.Records.{RecordsAreHistories};
 ghost use Rattle.dac_model_world.specs.EveryList.{IsEnough, OfEachList, RunsEachList};
 
@@ -43,4 +44,12 @@ pub fn every_list_converges()
 /// is held back or makes it give up, until the node goes off.
 pub fn gates_stay_open()
     ensures { GatesStayOpen }
+{}
+
+/// Where no two operations have one dot, dots that were heard are the order of what these operations mean. A state is below
+/// another exactly if that one has heard each of its dots, and an operation is below a state that has heard its dot, and no
+/// other.
+pub fn heard_dots_are_order()
+    ensures states { HeardDotsAreOrder }
+    ensures operations { OneDotIsOrder }
 {}

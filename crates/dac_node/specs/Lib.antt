@@ -1,4 +1,5 @@
 pub mod Knowing
 pub mod After
 pub mod Changes
+pub mod ByDots
 pub mod Outcomes

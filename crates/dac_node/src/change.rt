@@ -5,9 +5,11 @@ ghost use Rattle.dac_base.specs.declared.limits.TheConstants.{MAX_INCARNATION};
 ghost use Rattle.dac_config.specs.Table.{Table};
 ghost use Rattle.dac_meaning.specs.Below.{is_below};
 ghost use Rattle.dac_meaning.specs.Meaning.{meaning_of};
+ghost use Rattle.dac_messages.specs.Bodies.{content_of};
 ghost use Rattle.dac_model_node.specs.EventRefusals.{refusal_on, refusal_to_obey};
 
 use crate::advance::Advance;
+use crate::knowledge::covers;
 use crate::running::Running;
 use crate::ticking::tick;
 use dac_base::{NoMemory, NodeId};
@@ -183,8 +185,14 @@ impl Change {
             Event::Command(command) => Change::obey(config, last, running, *command),
             Event::Tick { now } => tick(config, last, running, *now),
             Event::Ship { to } => Change::ship(last, running, *to),
-            Event::Hear(message) => Change::hear(config, last, running, message),
-            Event::HearOp(operation) => Change::hear_op(last, running, operation),
+            Event::Hear(message) => {
+                let is_known = running.knows(message);
+                Change::hear(config, last, running, message, is_known)
+            }
+            Event::HearOp(operation) => {
+                let is_known = covers(running.state(), operation);
+                Change::hear_op(last, running, operation, is_known)
+            }
         }
     }
 
@@ -216,23 +224,31 @@ impl Change {
         Ok(change)
     }
 
-    /// What a message that isn't refused does at a running controller.
+    /// What a message that isn't refused does at a running controller. The caller says whether what it brings is known.
     pub(crate) fn hear(
         config: &Config,
         last: u64,
         running: &Running,
         message: &Message,
+        is_known: bool,
     ) -> Result<Self, NoMemory>
+        requires { is_known ≡ is_below (content_of message.now.body) running.now.state }
         ensures { IfOk result (Effect config.now last running.now (Event.Hear message.now)) }
     {
-        let (after, fresh) = running.after_message(config, message)?;
+        let (after, fresh) = running.after_message(config, message, is_known)?;
         let alloc = running.knowledge.alloc;
         let change = Change::new(alloc, last, after, Reply::Heard(fresh))?;
         Ok(change)
     }
 
-    /// What an operation that comes by itself does at a running controller.
-    pub(crate) fn hear_op(last: u64, running: &Running, operation: &Op) -> Result<Self, NoMemory>
+    /// What an operation that comes by itself does at a running controller. The caller says whether it is known.
+    pub(crate) fn hear_op(
+        last: u64,
+        running: &Running,
+        operation: &Op,
+        is_known: bool,
+    ) -> Result<Self, NoMemory>
+        requires { is_known ≡ is_below (meaning_of (operation.now ∷ [])) running.now.state }
         ensures effect { IfOk result (λ change. (t : Table)
             → Effect t last running.now (Event.HearOp operation.now) change) }
         ensures after { IfOk result (λ change. after_from_base running.now change.after
@@ -241,7 +257,7 @@ impl Change {
         ensures reply { IfOk result (λ change. change.reply
             ≡ Reply.Heard (not (is_below (meaning_of (operation.now ∷ [])) running.now.state))) }
     {
-        let (after, fresh) = running.after_operation(operation)?;
+        let (after, fresh) = running.after_operation(operation, is_known)?;
         let alloc = running.knowledge.alloc;
         let change = Change::new(alloc, last, after, Reply::Heard(fresh))?;
         Ok(change)

@@ -6,6 +6,7 @@ ghost use Rattle.dac_meaning.specs.Meaning.{meaning_of};
 ghost use Rattle.dac_meaning.specs.Below.{is_below};
 ghost use Rattle.dac_peers.specs.Peers.{acked_by_all};
 ghost use Rattle.dac_messages.specs.Bodies.{content_of};
+ghost use Rattle.dac_node.specs.ByDots.{IsBelowByDots, IsBelowByDot};
 ghost use Rattle.dac_model_node.specs.Step.{up};
 
 use crate::advance::Advance;
@@ -174,6 +175,17 @@ impl Knowledge {
         }
     }
 
+    /// Whether what a message's body brings is below the state, where heard dots are the order of the two.
+    pub(crate) fn knows_by_dots(&self, body: &Body) -> bool
+        requires { IsBelowByDots (content_of body.now) self.now.state }
+        ensures { result ≡ is_below (content_of body.now) self.now.state }
+    {
+        match body.state() {
+            Some(state) => is_below_by_dots(state, &self.state),
+            None => is_below_by_dots(&State::bottom(self.alloc), &self.state),
+        }
+    }
+
     /// What goes on after a message's body comes that is to be added, where this is kept of peers.
     pub(crate) fn add_body(&self, body: &Body, peers: Peers) -> Result<Advance, NoMemory>
         ensures { IfOk result
@@ -212,11 +224,27 @@ pub(crate) fn is_below(state: &State, other: &State) -> bool
     state.leq(other)
 }
 
+/// Whether a state is below another, where heard dots are the order of the two.
+fn is_below_by_dots(state: &State, other: &State) -> bool
+    requires { IsBelowByDots state.now other.now }
+    ensures { result ≡ is_below state.now other.now }
+{
+    state.heard().is_subset(other.heard())
+}
+
 /// Whether what an operation means alone is below a state.
 pub(crate) fn covers(state: &State, operation: &Op) -> bool
     ensures { result ≡ is_below (meaning_of (operation.now ∷ [])) state.now }
 {
     state.covers(operation)
+}
+
+/// Whether what an operation means alone is below a state, where its dot alone tells.
+pub(crate) fn covers_by_dot(state: &State, operation: &Op) -> bool
+    requires { IsBelowByDot operation.now state.now }
+    ensures { result ≡ is_below (meaning_of (operation.now ∷ [])) state.now }
+{
+    state.heard().contains(operation.dot())
 }
 
 /// The operation of a boot.

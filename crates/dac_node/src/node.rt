@@ -1,11 +1,13 @@
 //! One controller.
 
-ghost use Rattle.std.specs.Prelude.{◌≡◌, IfOk, IfErr, MatchResult, OnOk, OnErr, Some, None, unwrap_or};
+ghost use Rattle.std.specs.Prelude.{◌≡◌, IfOk, IfErr, IfSome, MatchResult, OnOk, OnErr, Some, None, unwrap_or};
 ghost use Rattle.dac_config.specs.Table.{Table};
+ghost use Rattle.dac_messages.specs.Bodies.{content_of};
 ghost use Rattle.dac_model_node.specs.EventRefusals.{refusal_off as refused_off};
 ghost use Rattle.dac_model_node.specs.Deeds.{moment_of};
 
 use crate::change::{After, Change, Outcome};
+use crate::knowledge::covers_by_dot;
 use crate::running::Running;
 use dac_base::{MAX_INCARNATION, NoMemory, NodeId};
 use dac_config::Config;
@@ -59,6 +61,7 @@ impl Node {
     ghost use Rattle.dac_model_node.specs.Keeping.{Keeps};
     ghost use Rattle.dac_model_node.specs.Effect.{HasEffect};
     ghost use Rattle.dac_model_node.specs.Shipping.{ShipsSo};
+    ghost use Rattle.dac_node.specs.ByDots.{IsBelowByDots, IsBelowByDot};
     ghost use Rattle.dac_node.specs.Changes.{changed, Fits, Prepared};
     ghost use Rattle.dac_node.specs.After.{running_after, FitsIn, ShipsOwnIn};
     ghost use Rattle.dac_model_node.specs.Hearing.{HearsExactly};
@@ -223,8 +226,14 @@ impl Node {
     }
 
     /// What a message that comes would do, as [`Node::prepare`] of that event, without a copy of the message. The error is
-    /// the refusal of the event, or `NoMemory` where it has none.
-    pub fn prepare_hear(&self, config: &Config, message: &Message) -> Result<Change, Refusal>
+    /// the refusal of the event, or `NoMemory` where it has none. Heard dots are compared in place of states, so they must be
+    /// the order of the message's body and the state. They are in a world, and may not be where a message is forged.
+    pub fn prepare_hear_by_dots(
+        &self,
+        config: &Config,
+        message: &Message,
+    ) -> Result<Change, Refusal>
+        requires { IfSome (state_of self.now) (IsBelowByDots (content_of message.now.body)) }
         ensures ok { IfOk result (λ change. (me : NodeId)
             → Prepared config.now me self.now (Event.Hear message.now) change) }
         ensures fits { IfOk result (λ change. Fits self.now change) }
@@ -238,12 +247,15 @@ impl Node {
             return Err(why);
         }
         running.tells_invariant();
-        Ok(Change::hear(config, self.last, running, message)?)
+        let is_known = running.knows_by_dots(message);
+        Ok(Change::hear(config, self.last, running, message, is_known)?)
     }
 
     /// What an operation that comes by itself would do, as [`Node::prepare`] of that event, without a copy of the
-    /// operation. The error is the refusal of the event, or `NoMemory` where it has none.
-    pub fn prepare_hear_op(&self, operation: &Op) -> Result<Change, Refusal>
+    /// operation. The error is the refusal of the event, or `NoMemory` where it has none. The operation's dot is looked for
+    /// among those that were heard, which must tell whether the state covers it. It does in a world.
+    pub fn prepare_hear_op_by_dot(&self, operation: &Op) -> Result<Change, Refusal>
+        requires { IfSome (state_of self.now) (IsBelowByDot operation.now) }
         ensures ok { IfOk result (λ change. (t : Table) (me : NodeId)
             → Prepared t me self.now (Event.HearOp operation.now) change) }
         ensures fits { IfOk result (λ change. Fits self.now change) }
@@ -258,7 +270,8 @@ impl Node {
             return Err(why);
         }
         running.tells_invariant();
-        Ok(Change::hear_op(self.last, running, operation)?)
+        let is_known = covers_by_dot(running.state(), operation);
+        Ok(Change::hear_op(self.last, running, operation, is_known)?)
     }
 
     /// Does what was prepared, and gives the reply. It is a step of the event where this node prepared the change, and

@@ -6,11 +6,11 @@ ghost use Rattle.dac_meaning.specs.Meaning.{meaning_of};
 ghost use Rattle.dac_peers.specs.Peers.{is_up_to_date as needs_nothing, shipped_to};
 ghost use Rattle.dac_model_node.specs.Deeds.{body_from, message_of, hears_message};
 ghost use Rattle.dac_messages.specs.Bodies.{content_of};
+ghost use Rattle.dac_node.specs.ByDots.{IsBelowByDots};
 ghost use Rattle.dac_node.specs.Knowing.{hearing, knowledge_of};
 ghost use Rattle.dac_node.specs.After.{after_from_base, from_base, next_by};
 
 use crate::change::After;
-use crate::knowledge::covers;
 use crate::running::Running;
 use dac_base::{NoMemory, NodeId};
 use dac_config::Config;
@@ -108,13 +108,30 @@ impl Running {
         Ok(peers)
     }
 
-    /// What runs after a message is heard, and whether it was new. What all other nodes have acknowledged by then is kept
-    /// no longer.
+    /// Whether what a message brings is below the state.
+    pub(crate) fn knows(&self, message: &Message) -> bool
+        ensures { result ≡ is_below (content_of message.now.body) self.now.state }
+    {
+        self.knowledge.knows(&message.body)
+    }
+
+    /// Whether what a message brings is below the state, where heard dots are the order of the two.
+    pub(crate) fn knows_by_dots(&self, message: &Message) -> bool
+        requires { IsBelowByDots (content_of message.now.body) self.now.state }
+        ensures { result ≡ is_below (content_of message.now.body) self.now.state }
+    {
+        self.knowledge.knows_by_dots(&message.body)
+    }
+
+    /// What runs after a message is heard, and whether it was new. The caller says whether what it brings is known. What all
+    /// other nodes have acknowledged by then is kept no longer.
     pub(crate) fn after_message(
         &self,
         config: &Config,
         message: &Message,
+        is_known: bool,
     ) -> Result<(After, bool), NoMemory>
+        requires { is_known ≡ is_below (content_of message.now.body) self.now.state }
         ensures after { IfOk result (λ both. after_from_base self.now both.0
             ≡ After.GoesOn (from_base self.now (next_by self.now []
             (hears_message config.now self.now message.now)))) }
@@ -124,7 +141,7 @@ impl Running {
         let known = &self.knowledge;
         let count = self.buffer.count();
         let peers = known.peers.heard_from(known.origin, count, message)?;
-        if known.knows(&message.body) {
+        if is_known {
             let trim = known.trim_with(config, &peers, self.buffer.base());
             return Ok((After::Keeps(peers, trim), false));
         }
@@ -134,8 +151,14 @@ impl Running {
         Ok((After::GoesOn(next), true))
     }
 
-    /// What runs after one operation is heard that comes by itself, and whether it is new.
-    pub(crate) fn after_operation(&self, operation: &Op) -> Result<(After, bool), NoMemory>
+    /// What runs after one operation is heard that comes by itself, and whether it is new. The caller says whether it is
+    /// known.
+    pub(crate) fn after_operation(
+        &self,
+        operation: &Op,
+        is_known: bool,
+    ) -> Result<(After, bool), NoMemory>
+        requires { is_known ≡ is_below (meaning_of (operation.now ∷ [])) self.now.state }
         ensures after { IfOk result (λ both. after_from_base self.now both.0
             ≡ After.GoesOn (from_base self.now (hearing (knowledge_of self.now)
             (meaning_of (operation.now ∷ [])) self.now.peers))) }
@@ -144,8 +167,8 @@ impl Running {
     {
         let known = &self.knowledge;
         let peers = known.peers.copy()?;
-        // This test takes no memory, and few of the operations that come are new.
-        if covers(&known.state, operation) {
+        // Few of the operations that come are new.
+        if is_known {
             return Ok((After::Keeps(peers, 0), false));
         }
         let delta = State::delta_of(known.alloc, operation)?;

@@ -27,11 +27,9 @@ use Rattle.dac_model_node.specs.Step.{up}
 use Rattle.dac_model_node.specs.laws.Options.{some_same}
 use Rattle.dac_model_world.specs.SetWorld.{NodeSet}
 use Rattle.dac_model_world.specs.Convergence.{DistinctDots, state_by}
+pub use Rattle.dac_model_world.specs.Made.{own_origin, NoneLater, SetOk}
 use Rattle.dac_model_world.specs.laws.Operations.{one_in, Agree-within, DistinctDots-agree, DistinctDots-push}
 use Rattle.dac_model_world.specs.laws.Gathered.{Entries, IsLogOf, log_means}
-
-abbrev pub own_origin : NodeId → ℕ → Origin
-own_origin n inc = record { node = n; inc = inc }
 
 abbrev pub state_in : ModelRunning → StateValue
 state_in r = joined r.log
@@ -44,10 +42,6 @@ abbrev pub stays_off : ℕ → ModelNode
 stays_off last = record { last = last; running = None }
 
 -- ---- the invariant
--- no operation is of a later incarnation of node n than the last
-abbrev pub NoneLater : List Operation → NodeId → ℕ → Type 0
-NoneLater ops n last = (o : Operation) → IsOperationOf o ops → o.dot.origin.node ≡ n → o.dot.origin.inc ≤ last
-
 -- node n with its log, beside the set that it holds and the sets that the states of its log mean
 pub record NodeOk (ops : List Operation) (n : NodeId) (d : ModelNode) (held : Option NodeSet) (es : Entries) : Type 0 where
   pub state : option_map state_in d.running ≡ option_map state_by held
@@ -57,12 +51,6 @@ pub record NodeOk (ops : List Operation) (n : NodeId) (d : ModelNode) (held : Op
   pub within : (set : NodeSet) → held ≡ Some set → AreOperationsOf set.operations ops
   pub own : (set : NodeSet) → held ≡ Some set → (o : Operation) → IsOperationOf o ops → o.dot.origin ≡ own_origin n d.last → IsOperationOf o set.operations
   pub old : NoneLater ops n d.last
-
--- the set that node n holds in its last incarnation
-pub record SetOk (ops : List Operation) (n : NodeId) (last : ℕ) (os : List Operation) : Type 0 where
-  pub within : AreOperationsOf os ops
-  pub own : (o : Operation) → IsOperationOf o ops → o.dot.origin ≡ own_origin n last → IsOperationOf o os
-  pub old : NoneLater ops n last
 
 -- the two of a running node, whatever else it keeps
 pub run_ok : (ops : List Operation) (n : NodeId) (last : ℕ) (r : ModelRunning) (set : NodeSet) (es : Entries) → DotsDetermine ops → r.origin ≡ own_origin n last → set.inc ≡ last → IsLogOf r.log set.operations es → SetOk ops n last set.operations → NodeOk ops n (runs_as last r) (Some set) es

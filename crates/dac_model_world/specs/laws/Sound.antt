@@ -194,7 +194,7 @@ slice_get_in [] k o e = absurd (none_some e)
 slice_get_in (x ∷ os) zero o e = inl (sym (some_same x o e))
 slice_get_in (x ∷ os) (suc k) o e = inr (slice_get_in os k o e)
 
-counted_in : (os : List Operation) (k : ℕ) (o : Operation) → counted os k ≡ Some o → IsOperationOf o os
+pub counted_in : (os : List Operation) (k : ℕ) (o : Operation) → counted os k ≡ Some o → IsOperationOf o os
 counted_in os k o e =
     elim (nat_eq k 0) as (λ b. cond b None (slice_get os (k - 1)) ≡ Some o → IsOperationOf o os) [
       | true ↦ λ p. absurd (no p)

@@ -7,7 +7,7 @@ use Rattle.std.proofs.lemmas.Result.{on_ok_weaker}
 use Rattle.dac_core.proofs.Lists.{slice_get-set}
 use Rattle.dac_node.specs.Changes.{changed}
 use Rattle.dac_settle.specs.dac_model_world.laws.Follow.{changed_at}
-use Rattle.dac_core.proofs.world.change_node.Goals as goal
+use Rattle.dac_core.proofs.cluster.change_node.Goals as goal
 
 pub returns-clause-nodes : goal.returns-clause-nodes
 returns-clause-nodes c =

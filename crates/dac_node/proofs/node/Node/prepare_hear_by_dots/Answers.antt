@@ -1,9 +1,13 @@
-use Rattle.std.proofs.Common.{sym, subst}
+use Rattle.std.proofs.Common.{Option, sym, subst}
+use Rattle.std.specs.Prelude.{IfSome}
+use Rattle.std.specs.Option.{option_map}
+use Rattle.dac_messages.specs.Bodies.{content_of}
 use Rattle.dac_messages.specs.declared.event.Event.TheVariants.{Hear}
-use Rattle.dac_model_node.specs.NodeValue.{NodeValue}
+use Rattle.dac_model_node.specs.NodeValue.{NodeValue, RunningValue, state_of}
+use Rattle.dac_node.specs.ByDots.{IsBelowByDots}
 use Rattle.dac_node.specs.Changes.{Fits, Prepared}
 use Rattle.dac_node.proofs.Effects.{effect_prepared, effect_fits}
-use Rattle.dac_node.proofs.node.Node.prepare_hear.Goals as goal
+use Rattle.dac_node.proofs.node.Node.prepare_hear_by_dots.Goals as goal
 
 pub returns-clause-ok : goal.returns-clause-ok
 returns-clause-ok c = λ me.
@@ -19,3 +23,8 @@ returns-clause-fits c =
     let last = c.self.inside.last in
     subst (λ (v : NodeValue). Fits v change) c.self.view_is
     (subst (λ running. Fits (record { last = last; running = running }) change) (sym c.in-Some.is) (effect_fits c.args.config.now last c.in-Some.running (Hear c.args.message.now) change (sym c.in_default-refusal_to_hear.ensures) c.tells_invariant.ensures.countable c.in_ok-hear.ensures))
+
+pub knows_by_dots-is_known-requires : goal.knows_by_dots-is_known-requires
+knows_by_dots-is_known-requires c =
+    subst (λ (running : Option RunningValue). IfSome (option_map (λ (r : RunningValue). r.state) running) (IsBelowByDots (content_of c.args.message.now.body))) c.in-Some.is
+    (subst (λ (v : NodeValue). IfSome (state_of v) (IsBelowByDots (content_of c.args.message.now.body))) (sym c.self.view_is) c.requires)

@@ -1,9 +1,12 @@
-use Rattle.std.proofs.Common.{sym, subst}
+use Rattle.std.proofs.Common.{Option, sym, subst}
+use Rattle.std.specs.Prelude.{IfSome}
+use Rattle.std.specs.Option.{option_map}
 use Rattle.dac_messages.specs.declared.event.Event.TheVariants.{HearOp}
-use Rattle.dac_model_node.specs.NodeValue.{NodeValue}
+use Rattle.dac_model_node.specs.NodeValue.{NodeValue, RunningValue, state_of}
+use Rattle.dac_node.specs.ByDots.{IsBelowByDot}
 use Rattle.dac_node.specs.Changes.{Fits, Prepared}
 use Rattle.dac_node.proofs.Effects.{effect_prepared, hear_op_fits}
-use Rattle.dac_node.proofs.node.Node.prepare_hear_op.Goals as goal
+use Rattle.dac_node.proofs.node.Node.prepare_hear_op_by_dot.Goals as goal
 
 pub returns-clause-ok : goal.returns-clause-ok
 returns-clause-ok c = λ t me.
@@ -19,3 +22,9 @@ returns-clause-fits c =
     let last = c.self.inside.last in
     subst (λ (v : NodeValue). Fits v change) c.self.view_is
     (subst (λ running. Fits (record { last = last; running = running }) change) (sym c.in-Some.is) (hear_op_fits last c.in-Some.running c.args.operation.now _ change (sym c.in_default-refusal_to_hear_op.ensures) c.tells_invariant.ensures.countable c.in_ok-hear_op.ensures.after c.in_ok-hear_op.ensures.reply))
+
+pub covers_by_dot-is_known-requires : goal.covers_by_dot-is_known-requires
+covers_by_dot-is_known-requires c =
+    subst (IsBelowByDot c.args.operation.now) (sym c.state.ensures)
+    (subst (λ (running : Option RunningValue). IfSome (option_map (λ (r : RunningValue). r.state) running) (IsBelowByDot c.args.operation.now)) c.in-Some.is
+    (subst (λ (v : NodeValue). IfSome (state_of v) (IsBelowByDot c.args.operation.now)) (sym c.self.view_is) c.requires))

@@ -3,7 +3,7 @@ use Rattle.std.proofs.Common.{subst}
 use Rattle.dac_settle.specs.dac_model_world.WorldValue.{WorldValue}
 use Rattle.dac_settle.specs.dac_model_world.AtNode.{HappensAt}
 use Rattle.dac_core.specs.Ready.{IsPreparedAt}
-use Rattle.dac_core.proofs.world.World.happen_by_itself.Goals as goal
+use Rattle.dac_core.proofs.cluster.Cluster.happen_by_itself.Goals as goal
 
 pub returns-clause-prepared : goal.returns-clause-prepared
 returns-clause-prepared c = subst (λ (v : WorldValue). IfOk c.happen.result (IsPreparedAt c.args.config.now v.nodes c.args.node (Ok c.args.event.now))) c.warm.ensures c.happen.ensures.prepared

@@ -2,7 +2,7 @@ use Rattle.std.proofs.Common.{◌≡◌, get_or, refl, subst, Ok}
 use Rattle.dac_settle.specs.dac_model_world.WorldValue.{WorldValue}
 use Rattle.dac_settle.specs.dac_model_world.laws.Follow.{node_at, happens_refused}
 use Rattle.dac_core.proofs.Readiness.{prepared_at}
-use Rattle.dac_core.proofs.world.World.happen.Goals as goal
+use Rattle.dac_core.proofs.cluster.Cluster.happen.Goals as goal
 
 pub returns-in-Ok-clause-prepared : goal.returns-in-Ok-clause-prepared
 returns-in-Ok-clause-prepared c =
