@@ -4,14 +4,23 @@ use Rattle.std.specs.List.{filter}
 use Rattle.std.specs.FinSet as set
 use Rattle.dac_wishes.specs.laws.KeyedWrites.{same_dot_is, same_dot_itself}
 use Rattle.dac_operations.specs.Operations.{Operation}
-use Rattle.dac_meaning.specs.StateValue.{IsBelow, join}
-use Rattle.dac_meaning.specs.laws.StateLaws.{state_laws}
+use Rattle.dac_meaning.specs.StateValue.{IsBelow, bottom, join}
+use Rattle.dac_meaning.specs.laws.StateLaws.{state_laws, bottom_value, bottom_least}
 use Rattle.dac_meaning.specs.Meaning.{meaning_of, IsOperationOf, AreOperationsOf, DotsDetermine, has_dot}
 use Rattle.dac_meaning.specs.laws.Readers.{heard-meaning}
 use Rattle.dac_meaning.specs.laws.Members.{In-append_left, Within-append, found, finds}
 use Rattle.dac_meaning.specs.laws.Joins.{meaning-same, meaning-state, join-meaning}
 use Rattle.dac_model_world.specs.Convergence.{heard_among}
 use Rattle.dac_model_world.specs.laws.Operations.{Agree-within}
+
+-- a join with the least state is the other one
+pub join-bottom : (os : List Operation) → join bottom (meaning_of os) ≡ meaning_of os
+join-bottom os =
+    let s = meaning_of os in
+    let u = meaning-state os in
+    state_laws.antisymm (join bottom s) s (state_laws.closed bottom s bottom_value u) u
+    (state_laws.least bottom s s bottom_value u u (bottom_least s u) (state_laws.refl s u))
+    (state_laws.right bottom s bottom_value u)
 
 -- an operation of a set is heard in its meaning, and what is heard is one
 pub heard_in : (os : List Operation) (o : Operation) → IsOperationOf o os → set.contains (meaning_of os).heard o.dot ≡ true
