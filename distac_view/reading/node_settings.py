@@ -185,15 +185,15 @@ def add_section(settings: NodeSettings, file: SourceFile, way: Way, item: Term, 
     if not (isinstance(item, tuple) and len(item) == 2 and isinstance(item[0], Atom) and isinstance(item[1], list)):
         place = written.place_of((*way, *wrong_part(item)), 0)
         raise file.fault(place, "BadSection", "this is no section: each item of the outer list is {APPLICATION,[{PARAMETER,VALUE}]}")
-    if item[0].name != "kernel":
-        return
+    section = item[0].name
     for number, parameter in enumerate(item[1]):
         inner = (*way, 1, number)
         if not (isinstance(parameter, tuple) and len(parameter) == 2 and isinstance(parameter[0], Atom)):
-            place = written.place_of((*inner, *wrong_part(parameter)), places.of_section("kernel"))
-            raise file.fault(place, "BadParameter", "this is no parameter: each item of kernel's list is {NAME,VALUE}")
-        name = parameter[0].name
-        settings.kernel[name] = Setting(parameter[1], Origin(file, places.of_parameter(name), written, (*inner, 1)))
+            place = written.place_of((*inner, *wrong_part(parameter)), places.of_section(section))
+            raise file.fault(place, "BadParameter", "OTP doesn't boot with this: each item of a section's list is a parameter {NAME,VALUE}")
+        if section == "kernel":
+            name = parameter[0].name
+            settings.kernel[name] = Setting(parameter[1], Origin(file, places.of_parameter(name), written, (*inner, 1)))
 
 def path_text(path: str) -> str:
     """A path as it is shown in a comment."""

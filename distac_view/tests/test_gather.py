@@ -33,7 +33,7 @@ BY_HAND = (
 )
 REFUSED = (
     ("template.config.src", "4:27: Template"),
-    ("names.config.src", "1:13: Template"),
+    ("names.config.src", "1:41: Template"),
     ("runtime.exs", "1:8: NoTerms"),
 )
 ELIXIR_CONFIG = """\
@@ -53,7 +53,8 @@ WRONG_FILES = (
     ("[{kernel, ^x}].", "BadSection"),
     ("[{kernel,[{net_ticktime,20},\n\t^oops]}].", "BadParameter"),
     ("[{kernel,[{net_ticktime,20}, ^{a,b,c}]}].", "BadParameter"),
-    ("[{sasl,[x]},{kernel,[{^\"distributed\",[]}]}].", "BadParameter"),
+    ("[{kernel,[{^\"distributed\",[]}]}].", "BadParameter"),
+    ("[{kernel,[]},{sasl,[{a,1}, ^x]}].", "BadParameter"),
     ("[{kernel,[{a,<<1,2>>},{b,fun x:y/1}|[{c,$,}, ^d]]}].", "BadParameter"),
 )
 WRONG_PARAMETERS = (
