@@ -3,19 +3,20 @@
 ghost use Rattle.std.specs.Prelude.{IfOk, IfErr, All};
 ghost use Rattle.dac_config.specs.Table.{node_count};
 ghost use Rattle.dac_script.specs.Script.{lines_of, ReadsAs, IsScriptFailure};
-ghost use Rattle.dac_live_script.specs.LiveLines.{live_line_of, HasActors};
-ghost use Rattle.dac_live_script.specs.LiveFaults.{HasFault};
+ghost use Rattle.dac_script.specs.LiveCallers.{HasActors};
+ghost use Rattle.dac_script.specs.LiveFaults.{HasFault};
+ghost use Rattle.dac_script.specs.LiveForms.{SpellsLive};
 
-use crate::line::{LiveLine, live_line_of};
+use crate::failure::Failure;
+use crate::fault::ScriptFaultKind;
+use crate::lines::{ReadsLine, read_lines};
+use crate::live_line::{LiveLine, live_line_of};
 use dac_base::NoMemory;
 use dac_config::Config;
-use dac_script::{Failure, ReadsLine, ScriptFaultKind, read_lines};
 use std::alloc::Global;
 
 impl ReadsLine for LiveLine {
-    ghost use Rattle.dac_live_script.specs.laws.LiveJudged.{judged};
-
-    ghost said_by = { live_line_of };
+    ghost spells = { SpellsLive };
 
     ghost has_fault = { HasFault };
 
@@ -28,8 +29,6 @@ impl ReadsLine for LiveLine {
     ) -> Result<Result<LiveLine, ScriptFaultKind>, NoMemory> {
         live_line_of(alloc, config, words)
     }
-
-    ghost is_judged = { judged };
 }
 
 /// Reads a script of `distac live`. Its lines end at a line feed or at the end of the text, and are counted from 1. Empty
@@ -43,10 +42,10 @@ pub fn read_live_script(
     text: &[u8],
 ) -> Result<Vec<LiveLine>, Failure>
     ensures ok { IfOk result
-        (λ script. ReadsAs live_line_of HasFault config.now (lines_of text.now) script.items) }
+        (λ script. ReadsAs SpellsLive HasFault config.now (lines_of text.now) script.items) }
     ensures actors { IfOk result (λ script. All (HasActors (node_count config.now)) script.items) }
     ensures fault { IfErr result
-        (IsScriptFailure live_line_of HasFault config.now (lines_of text.now)) }
+        (IsScriptFailure SpellsLive HasFault config.now (lines_of text.now)) }
 {
     read_lines(alloc, config, text)
 }

@@ -1,5 +1,5 @@
 -- The faults of a line of a script of `distac live`, whatever a reader does. They are by what each word has to be.
-use Rattle.std.specs.Prelude.{◌≡◌, ◌≢◌, ◌⊎◌, ℕ, List, [], ◌∷◌, Option, Some, None, codes, if◌then◌else◌}
+use Rattle.std.specs.Prelude.{◌≡◌, ◌≢◌, ◌⊎◌, ℕ, List, [], ◌∷◌, Option, Some, None, codes, if◌then◌else◌, option_map}
 use Rattle.std.specs.Option.{MatchOption}
 use Rattle.std.specs.List.{AllPass}
 use Rattle.std.specs.Str.{bytes_eq}
@@ -7,8 +7,10 @@ use Rattle.std.specs.Char.{is_ascii_digit}
 use Rattle.dac_config.specs.Table.{Table}
 use Rattle.dac_script.specs.declared.fault.ScriptFaultKind.{ScriptFaultKind}
 use Rattle.dac_script.specs.declared.fault.ScriptFaultKind.TheVariants.{BadWord, BadCount, BadNumber}
-use Rattle.dac_script.specs.LineFaults.{Role, AreWrong}
-use Rattle.dac_script.specs.LineFaults.Role.{Actor, Application, About, Number, Flag, Hex}
+use Rattle.dac_script.specs.declared.verb.Role.{Role}
+use Rattle.dac_script.specs.declared.verb.Role.TheVariants.{Actor, Hex}
+use Rattle.dac_script.specs.LineFaults.{ask_roles, AreWrong}
+use Rattle.dac_script.specs.Verbs.{ask_of}
 
 -- the words behind a first word that is there for no caller: `phase` and `feed HEX`
 abbrev pub plain_roles : List ℕ → Option (List Role)
@@ -19,18 +21,7 @@ plain_roles first =
 
 -- the words behind what a caller asks for: `read NODE`, or those that it has in a script of `distac sim`
 abbrev pub asked_roles : List ℕ → Option (List Role)
-asked_roles word =
-    if bytes_eq word (codes "read") then Some (Actor ∷ [])
-    else (if bytes_eq word (codes "boot") then Some (Actor ∷ Number ∷ [])
-    else (if bytes_eq word (codes "crash") then Some (Actor ∷ [])
-    else (if bytes_eq word (codes "tick") then Some (Actor ∷ Number ∷ [])
-    else (if bytes_eq word (codes "down") then Some (Actor ∷ About ∷ [])
-    else (if bytes_eq word (codes "permit") then Some (Actor ∷ Application ∷ About ∷ Flag ∷ [])
-    else (if bytes_eq word (codes "start") then Some (Actor ∷ Application ∷ About ∷ [])
-    else (if bytes_eq word (codes "stop") then Some (Actor ∷ Application ∷ About ∷ [])
-    else (if bytes_eq word (codes "drain") then Some (Actor ∷ About ∷ Flag ∷ [])
-    else (if bytes_eq word (codes "takeover") then Some (Actor ∷ Application ∷ [])
-    else None)))))))))
+asked_roles word = if bytes_eq word (codes "read") then Some (Actor ∷ []) else option_map ask_roles (ask_of word)
 
 -- a first word that is there for a caller: it has digits alone
 abbrev pub IsForCaller : List ℕ → Type 0

@@ -4,12 +4,14 @@ ghost use Rattle.std.specs.Prelude.{◌≡◌, IfOk, IfErr, IfSome, All};
 ghost use Rattle.dac_config.specs.Table.{node_count};
 ghost use Rattle.dac_script.specs.Input.{IsReadWithinBound};
 ghost use Rattle.dac_script.specs.Sources.{IsReadBy};
-ghost use Rattle.dac_live_script.specs.LiveLines.{HasActors};
-ghost use Rattle.dac_live_script.specs.LiveInputs.{SaysLiveScript, IsLiveFailureOf};
+ghost use Rattle.dac_script.specs.LiveCallers.{HasActors};
+ghost use Rattle.dac_script.specs.LiveInputs.{SaysLiveScript, IsLiveFailureOf};
 
-use crate::line::LiveLine;
+use crate::failure::Failure;
+use crate::live_line::LiveLine;
+use crate::preparing::prepare_lines;
+use crate::source::Source;
 use dac_config::Config;
-use dac_script::{Failure, Source, prepare_lines};
 use std::alloc::Global;
 use std::io::Read;
 

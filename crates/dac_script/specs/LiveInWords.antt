@@ -1,0 +1,8 @@
+-- A line of a script of `live` that is accepted is exactly a spelling of what is read.
+use Rattle.dac_script.specs.LiveFaults.{HasFault}
+use Rattle.dac_script.specs.LiveForms.{SpellsLive}
+use Rattle.dac_script.specs.Script.{IsExact}
+
+-- words that spell a line have no fault and spell no other
+abbrev pub LiveLinesInWords : Type 0
+LiveLinesInWords = IsExact SpellsLive HasFault
