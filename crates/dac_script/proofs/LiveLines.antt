@@ -1,14 +1,13 @@
 -- Words spell at most one line of a script of `live`, and have no fault if they spell one. Behind a caller's number this rests
 -- on the lines of `sim`.
 use Rattle.std.proofs.Common.{◌≡◌, ℕ, zero, suc, ◌^◌, ◌<◌, ◌≤◌, Bool, true, false, cond, List, [], ◌∷◌, map, Option, Some, None, Result, Ok, Err, codes, decimal, refl, sym, ap, subst, ◌∙◌, arith, inl, inr}
-use Rattle.std.specs.Prelude.{◌≢◌, option_map, nat_lt}
+use Rattle.std.specs.Prelude.{◌≢◌, IfOk, option_map, nat_lt}
 use Rattle.std.specs.Option.{MatchOption}
 use Rattle.std.specs.Result.{MatchResult}
 use Rattle.std.specs.Str.{bytes_eq}
 use Rattle.std.specs.Bool.{Decides}
 use Rattle.std.specs.Char.{is_ascii_digit}
-use Rattle.std.proofs.lemmas.Bool.{false≢true}
-use Rattle.std.proofs.lemmas.Bool.Decides.{nat_tests}
+use Rattle.std.proofs.lemmas.Bool.{false≢true, ltb-false, ltb-true}
 use Rattle.std.proofs.lemmas.Fmt.{decimal_digit}
 use Rattle.std.proofs.lemmas.List.Sums.{AllPass-from_list_all, list_all-from_AllPass}
 use Rattle.std.proofs.lemmas.Slice.Eq.{bytes_eq-Decides}
@@ -122,14 +121,14 @@ asked_verb (node, Some (deed.Command (command.Drain about value))) = (role.Actor
 asked_verb (node, Some (deed.Command (command.Takeover app))) = (role.Actor ∷ role.Application ∷ [], refl, refl)
 
 -- what is asked is known by its places
-deed_of : What → Option Deed
+abbrev deed_of : What → Option Deed
 deed_of (what.Boot now) = Some (deed.Boot now)
 deed_of what.Crash = Some deed.Crash
 deed_of (what.Command given) = Some (deed.Command given)
 deed_of (what.Tick now) = Some (deed.Tick now)
 deed_of happened = None
 
-asked_by : Option ScriptLine → List Slot → Option (NodeId × Option Deed)
+abbrev asked_by : Option ScriptLine → List Slot → Option (NodeId × Option Deed)
 asked_by (Some (says.Event event)) slots = option_map (λ asked. (event.node, Some asked)) (deed_of event.what)
 asked_by None (word ∷ Node node ∷ []) = Some (node, None)
 asked_by line slots = None
@@ -233,17 +232,17 @@ module _ (table : Table) where
   live_same (Do node c asked) (Read at d) words has also = callers_same c d (node, Some asked) (at, None) words has.0 also.0 has.1 also.1
   live_same (Read node c) (Do at d too) words has also = callers_same c d (node, None) (at, Some too) words has.0 also.0 has.1 also.1
   live_same (Read node c) (Read at d) words has also = callers_same c d (node, None) (at, None) words has.0 also.0 has.1 also.1
-  live_same (Do node c asked) (Feed bytes) words has also = absurd (not_plain c _ (codes "feed") _ _ words has.0 refl has.1 also.1)
-  live_same (Do node c asked) Phase words has also = absurd (not_plain c _ (codes "phase") _ _ words has.0 refl has.1 also.1)
-  live_same (Read node c) (Feed bytes) words has also = absurd (not_plain c _ (codes "feed") _ _ words has.0 refl has.1 also.1)
-  live_same (Read node c) Phase words has also = absurd (not_plain c _ (codes "phase") _ _ words has.0 refl has.1 also.1)
-  live_same (Feed bytes) (Do at d too) words has also = absurd (not_plain d _ (codes "feed") _ _ words also.0 refl also.1 has.1)
-  live_same (Feed bytes) (Read at d) words has also = absurd (not_plain d _ (codes "feed") _ _ words also.0 refl also.1 has.1)
-  live_same Phase (Do at d too) words has also = absurd (not_plain d _ (codes "phase") _ _ words also.0 refl also.1 has.1)
-  live_same Phase (Read at d) words has also = absurd (not_plain d _ (codes "phase") _ _ words also.0 refl also.1 has.1)
+  live_same (Do node c asked) (Feed bytes) words has also = absurd (not_plain c (role.Hex ∷ []) (codes "feed") (asked_form (node, Some asked)) (Hex bytes ∷ []) words has.0 refl has.1 also.1)
+  live_same (Do node c asked) Phase words has also = absurd (not_plain c [] (codes "phase") (asked_form (node, Some asked)) [] words has.0 refl has.1 also.1)
+  live_same (Read node c) (Feed bytes) words has also = absurd (not_plain c (role.Hex ∷ []) (codes "feed") (asked_form (node, None)) (Hex bytes ∷ []) words has.0 refl has.1 also.1)
+  live_same (Read node c) Phase words has also = absurd (not_plain c [] (codes "phase") (asked_form (node, None)) [] words has.0 refl has.1 also.1)
+  live_same (Feed bytes) (Do at d too) words has also = absurd (not_plain d (role.Hex ∷ []) (codes "feed") (asked_form (at, Some too)) (Hex bytes ∷ []) words also.0 refl also.1 has.1)
+  live_same (Feed bytes) (Read at d) words has also = absurd (not_plain d (role.Hex ∷ []) (codes "feed") (asked_form (at, None)) (Hex bytes ∷ []) words also.0 refl also.1 has.1)
+  live_same Phase (Do at d too) words has also = absurd (not_plain d [] (codes "phase") (asked_form (at, Some too)) [] words also.0 refl also.1 has.1)
+  live_same Phase (Read at d) words has also = absurd (not_plain d [] (codes "phase") (asked_form (at, None)) [] words also.0 refl also.1 has.1)
   live_same (Feed bytes) (Feed other) words has also = fed_same bytes other words has.1 also.1
-  live_same (Feed bytes) Phase words has also = absurd (feed_no_phase _ _ words has.1 also.1)
-  live_same Phase (Feed bytes) words has also = absurd (feed_no_phase _ _ words also.1 has.1)
+  live_same (Feed bytes) Phase words has also = absurd (feed_no_phase (Hex bytes ∷ []) [] words has.1 also.1)
+  live_same Phase (Feed bytes) words has also = absurd (feed_no_phase (Hex bytes ∷ []) [] words also.1 has.1)
   live_same Phase Phase words has also = refl
 
 -- words that spell a line have no fault, and spell no other
@@ -252,6 +251,19 @@ live_lines_in_words table line words has = (live_fine table line words has, λ o
 
 pub live_read : (table : Table) (words : List (List ℕ)) (said : Result LiveLine ScriptFaultKind) → MatchResult said (λ line. SpellsLive table line words) (IsLeast (HasFault table words)) → IsReading SpellsLive HasFault table words said
 live_read table words said is = reading SpellsLive HasFault live_lines_in_words table words said is
+
+-- a word that begins neither of the lines without a caller
+pub no_plain : (first : List ℕ) → first ≢ codes "phase" → first ≢ codes "feed" → plain_roles first ≡ None
+no_plain first phase feed =
+    ap (λ b. cond b (Some []) (cond (bytes_eq first (codes "feed")) (Some (role.Hex ∷ [])) None)) (differs (codes "phase") phase)
+    ∙ ap (λ b. cond b (Some (role.Hex ∷ [])) None) (differs (codes "feed") feed)
+  where
+    differs : (text : List ℕ) → first ≢ text → bytes_eq first text ≡ false
+    differs text other = by (bytes_eq first text) (bytes_eq-Decides first text)
+      where
+        by : (b : Bool) → Decides b (first ≡ text) → b ≡ false
+        by true is = absurd (other (is.0 refl))
+        by false is = refl
 
 module _ (table : Table) where
   -- ---- what is read of words
@@ -310,13 +322,13 @@ module _ (table : Table) where
           pick true less = record { has = inr least.has; least = each }
             where
               each : (other : ScriptFaultKind) → IsCallerWrong table first rest other → script_number kind ≤ script_number other
-              each other (inl p) = omega (arith, nat_tests, less, ap script_number p.0)
+              each other (inl p) = omega (arith, ltb-true (script_number kind) (script_number BadNumber) less, ap script_number p.0)
               each other (inr p) = least.least other p
           pick false less = record { has = inl (refl, none); least = each }
             where
               each : (other : ScriptFaultKind) → IsCallerWrong table first rest other → script_number BadNumber ≤ script_number other
               each other (inl p) = omega (arith, ap script_number p.0)
-              each other (inr p) = omega (arith, nat_tests, less, least.least other p)
+              each other (inr p) = omega (arith, ltb-false (script_number kind) (script_number BadNumber) less, least.least other p)
 
       by : (caller : Option ℕ) (said : Result (NodeId × Option Deed) ScriptFaultKind) → MatchOption caller (IsNoCaller first) (IsCaller first) → MatchResult said (λ both. AllTell table (asked_form both) rest) (IsLeast (IsAskedWrong table rest))
           → MatchResult (with_caller caller said) (λ line. SpellsLive table line (first ∷ rest)) (IsLeast (HasFault table (first ∷ rest)))
@@ -329,7 +341,7 @@ module _ (table : Table) where
   -- a line that words spell is of nodes of the configuration, and of callers from 1 to 4
   asked_below : (both : NodeId × Option Deed) (words : List (List ℕ)) → AllTell table (asked_form both) words → both.0.0 < node_count table
   asked_below (node, Some asked) words has = event_below table node (what_of asked) words has
-  asked_below (node, None) words has = first_node table _ node _ words has
+  asked_below (node, None) words has = first_node table (codes "read") node [] words has
 
   caller_below : (caller : ℕ) (both : NodeId × Option Deed) (words : List (List ℕ)) → AllTell table (Number caller ∷ asked_form both) words → both.0.0 < node_count table
   caller_below caller both [] has = absurd has
@@ -340,3 +352,7 @@ module _ (table : Table) where
   live_actors (Read node caller) words has = (caller_below caller (node, None) words has.1, has.0.0, has.0.1)
   live_actors (Feed bytes) words has = tt
   live_actors Phase words has = tt
+
+  pub read_actors : (words : List (List ℕ)) (said : Result LiveLine ScriptFaultKind) → MatchResult said (λ line. SpellsLive table line words) (IsLeast (HasFault table words)) → IfOk said (HasActors (node_count table))
+  read_actors words (Ok line) is = live_actors line words is
+  read_actors words (Err kind) is = tt

@@ -26,8 +26,10 @@ use Rattle.dac_script.specs.Forms.{Slot, AllTell, event_form, form_of, Spells}
 use Rattle.dac_script.specs.Forms.Slot.{Word, Node, About, App, Number, Flag, Hex}
 use Rattle.dac_script.specs.InWords.{LinesInWords}
 use Rattle.dac_script.specs.LineFaults.{roles_of, AreWrong, HasFault, IsFaultless, IsLeast}
-use Rattle.dac_script.specs.Script.{IsExact, IsReading}
+use Rattle.dac_script.specs.Script.{IsAcceptedInWords, IsExact, IsReading, IsSpelling}
+use Rattle.dac_script.specs.Words.{words_of}
 use Rattle.dac_script.specs.Verbs.{ask_text, text_of, ask_of, verb_of}
+use Rattle.dac_script.specs.laws.Spaces.{words_in_words}
 use Rattle.dac_script.proofs.Told.{kind_of, role_kind, all_same, all_fine}
 
 -- ---- first words
@@ -105,7 +107,7 @@ form_verb (says.Feed bytes) = (verb.Feed, refl, refl)
 abbrev happens : NodeId → What → Option ScriptLine
 happens node happened = Some (says.Event (record { node = node; what = happened }))
 
-asked_by : Ask → List Slot → Option ScriptLine
+abbrev asked_by : Ask → List Slot → Option ScriptLine
 asked_by ask.Boot (Node node ∷ Number now ∷ []) = happens node (what.Boot now)
 asked_by ask.Crash (Node node ∷ []) = happens node what.Crash
 asked_by ask.Tick (Node node ∷ Number now ∷ []) = happens node (what.Tick now)
@@ -117,7 +119,7 @@ asked_by ask.Drain (Node node ∷ About about ∷ Flag value ∷ []) = happens n
 asked_by ask.Takeover (Node node ∷ App app ∷ []) = happens node (what.Command (command.Takeover app))
 asked_by request slots = None
 
-said_by : Option Verb → List Slot → Option ScriptLine
+abbrev said_by : Option Verb → List Slot → Option ScriptLine
 said_by (Some (verb.Ask request)) slots = asked_by request slots
 said_by (Some verb.Ship) (Node node ∷ About to ∷ []) = happens node (what.Ship to)
 said_by (Some verb.Hear) (Node node ∷ Number message ∷ []) = happens node (what.Deliver message)
@@ -173,7 +175,7 @@ module _ (table : Table) where
   faultless_by : (slots : List Slot) (words : List (List ℕ)) → HasVerb slots → AllTell table slots words → IsFaultless (HasFault table words)
   faultless_by (Word word ∷ slots) (first ∷ words) (v, is, kinds) has kind wrong =
       all_fine table (roles_of v) slots words kinds has.1 kind
-      (subst (λ o. MatchOption o _ (λ verb. AreWrong table (roles_of verb) words kind)) (ap verb_of has.0 ∙ is) wrong)
+      (subst (λ o. MatchOption o (kind ≡ BadWord) (λ verb. AreWrong table (roles_of verb) words kind)) (ap verb_of has.0 ∙ is) wrong)
   faultless_by (Word word ∷ slots) [] well has kind wrong = absurd has
   faultless_by slots words well has kind wrong = absurd well
 
@@ -204,6 +206,18 @@ pub reading : {Line : Type 0} (S : Table → Line → List (List ℕ) → Type 0
     → (table : Table) (words : List (List ℕ)) (said : Result Line ScriptFaultKind) → MatchResult said (λ line. S table line words) (IsLeast (F table words)) → IsReading S F table words said
 reading S F exact table words (Ok line) is = record { judged = (is, (exact table line words is).0); exact = λ other has. ap (λ l. Ok l) (sym ((exact table line words is).1 other has)) }
 reading S F exact table words (Err kind) is = record { judged = is; exact = λ other has. absurd ((exact table other words has).0 kind is.has) }
+
+-- of a line that is read so, the words between its spaces spell that
+pub accepted : {Line : Type 0} (S : Table → Line → List (List ℕ) → Type 0) (F : Table → List (List ℕ) → ScriptFaultKind → Type 0) → IsAcceptedInWords S F
+accepted S F table said line read is = (spells, reads)
+  where
+    spells : read ≡ Ok said → IsSpelling S F table said line
+    spells same =
+        let judged = subst (λ r. MatchResult r (λ l. S table l (words_of line) × IsFaultless (F table (words_of line))) (IsLeast (F table (words_of line)))) same is.judged in
+        (words_of line, (words_in_words (words_of line) line).0 refl, judged.0)
+
+    reads : IsSpelling S F table said line → read ≡ Ok said
+    reads (words, has, tells) = is.exact said (subst (λ ws. S table said ws) (sym ((words_in_words words line).1 has)) tells)
 
 pub line_read : (table : Table) (words : List (List ℕ)) (said : Result ScriptLine ScriptFaultKind) → MatchResult said (λ line. Spells table line words) (IsLeast (HasFault table words)) → IsReading Spells HasFault table words said
 line_read table words said is = reading Spells HasFault lines_in_words table words said is
@@ -247,25 +261,25 @@ module _ (table : Table) where
   second_node text slot node slots (word ∷ name ∷ other ∷ words) has = node_below has.1.1.0.0 node has.1.1.0.2
 
   pub event_below : (node : NodeId) (happened : What) (words : List (List ℕ)) → AllTell table (event_form node happened) words → node.0 < node_count table
-  event_below node (what.Boot now) words has = first_node _ node _ words has
-  event_below node what.Crash words has = first_node _ node _ words has
-  event_below node (what.Command (command.Down about)) words has = first_node _ node _ words has
-  event_below node (what.Command (command.Permit app about value)) words has = first_node _ node _ words has
-  event_below node (what.Command (command.Start app about)) words has = first_node _ node _ words has
-  event_below node (what.Command (command.Stop app about)) words has = first_node _ node _ words has
-  event_below node (what.Command (command.Drain about value)) words has = first_node _ node _ words has
-  event_below node (what.Command (command.Takeover app)) words has = first_node _ node _ words has
-  event_below node (what.Tick now) words has = first_node _ node _ words has
-  event_below node (what.Ship to) words has = first_node _ node _ words has
-  event_below node (what.Deliver message) words has = first_node _ node _ words has
-  event_below node (what.Hand operation) words has = first_node _ node _ words has
+  event_below node (what.Boot now) words has = first_node (codes "boot") node (Number now ∷ []) words has
+  event_below node what.Crash words has = first_node (codes "crash") node [] words has
+  event_below node (what.Command (command.Down about)) words has = first_node (codes "down") node (About about ∷ []) words has
+  event_below node (what.Command (command.Permit app about value)) words has = first_node (codes "permit") node (App app ∷ About about ∷ Flag value ∷ []) words has
+  event_below node (what.Command (command.Start app about)) words has = first_node (codes "start") node (App app ∷ About about ∷ []) words has
+  event_below node (what.Command (command.Stop app about)) words has = first_node (codes "stop") node (App app ∷ About about ∷ []) words has
+  event_below node (what.Command (command.Drain about value)) words has = first_node (codes "drain") node (About about ∷ Flag value ∷ []) words has
+  event_below node (what.Command (command.Takeover app)) words has = first_node (codes "takeover") node (App app ∷ []) words has
+  event_below node (what.Tick now) words has = first_node (codes "tick") node (Number now ∷ []) words has
+  event_below node (what.Ship to) words has = first_node (codes "ship") node (About to ∷ []) words has
+  event_below node (what.Deliver message) words has = first_node (codes "hear") node (Number message ∷ []) words has
+  event_below node (what.Hand operation) words has = first_node (codes "hand") node (Number operation ∷ []) words has
 
   -- a line that words spell happens at nodes of the configuration
   pub actors_are : (line : ScriptLine) (words : List (List ℕ)) → Spells table line words → HasActors (node_count table) line
   actors_are (says.Event event) words has = event_below event.node event.what words has
   actors_are says.Share words has = tt
-  actors_are (says.Page node) words has = first_node _ node _ words has
-  actors_are (says.State node) words has = first_node _ node _ words has
-  actors_are (says.Same first second) words has = (first_node _ first _ words has, second_node _ (Node first) second _ words has)
+  actors_are (says.Page node) words has = first_node (codes "page") node [] words has
+  actors_are (says.State node) words has = first_node (codes "state") node [] words has
+  actors_are (says.Same first second) words has = (first_node (codes "same") first (Node second ∷ []) words has, second_node (codes "same") (Node first) second [] words has)
   actors_are (says.Bytes message) words has = tt
   actors_are (says.Feed bytes) words has = tt

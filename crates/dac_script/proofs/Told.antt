@@ -1,14 +1,16 @@
 -- Words in their roles: a word that tells what its place is for has no fault in the role of that place, and tells nothing else.
 -- Of the faults of many words the least is returned.
-use Rattle.std.proofs.Common.{◌≡◌, ℕ, zero, suc, ◌≤◌, Bool, true, false, cond, List, [], ◌∷◌, length, map, Option, Some, None, codes, unwrap_or, refl, sym, ap, subst, ◌∙◌, arith, inl, inr}
-use Rattle.std.specs.Prelude.{◌⊎◌, nat_lt}
+use Rattle.std.proofs.Common.{◌≡◌, ℕ, zero, suc, ◌-◌, ◌<◌, ◌≤◌, Bool, true, false, cond, List, [], ◌∷◌, length, take, drop, get_or, map, Option, Some, None, codes, unwrap_or, refl, sym, ap, subst, ◌∙◌, arith, inl, inr}
+use Rattle.std.specs.Prelude.{◌≢◌, ◌⊎◌, nat_lt}
+use Rattle.std.specs.Borrow.{Bor}
 use Rattle.std.specs.Option.{MatchOption, IsSomeAnd}
 use Rattle.std.specs.List.{Any, zip}
-use Rattle.std.proofs.lemmas.Bool.Decides.{nat_tests}
+use Rattle.std.proofs.lemmas.Bool.{ltb-false, ltb-true}
+use Rattle.std.proofs.lemmas.List.{length-drop, take_all}
 use Rattle.dac_base.specs.declared.NodeId.{NodeId}
 use Rattle.dac_config.specs.Table.{Table, node_count, app_count, node_named, app_named}
 use Rattle.dac_script.specs.declared.fault.ScriptFaultKind.{ScriptFaultKind}
-use Rattle.dac_script.specs.declared.fault.ScriptFaultKind.TheVariants.{BadName, BadNumber, UnknownActor, BadHex}
+use Rattle.dac_script.specs.declared.fault.ScriptFaultKind.TheVariants.{BadCount, BadName, BadNumber, UnknownActor, BadHex}
 use Rattle.dac_script.specs.declared.values.Values.{Values}
 use Rattle.dac_script.specs.declared.verb.Role.{Role}
 use Rattle.dac_script.specs.declared.verb.Role.TheVariants as role
@@ -16,7 +18,7 @@ use Rattle.dac_script.specs.Faults.{script_number}
 use Rattle.dac_script.specs.Words.{name_in, number_in, bytes_in}
 use Rattle.dac_script.specs.Forms.{Slot, Tells, AllTell}
 use Rattle.dac_script.specs.Forms.Slot.{Word, Node, About, App, Number, Flag, Hex}
-use Rattle.dac_script.specs.LineFaults.{IsNoHex, IsNoNode, IsWrong, IsAnyWrong, AreWrong, IsFaultless, IsLeast}
+use Rattle.dac_script.specs.LineFaults.{IsNoHex, IsNoNode, IsWrong, IsAnyWrong, AreWrong, AreDistinct, IsOutside, IsFaultless, IsLeast}
 use Rattle.dac_script.specs.Values.{slot_of, lesser}
 use Rattle.dac_script.specs.laws.Atoms.{name_read, name_spelled}
 use Rattle.dac_script.specs.laws.Numbers.{number_read, number_spelled}
@@ -274,5 +276,57 @@ module _ (table : Table) where
     read_on (Some one) (Some other) first rest = by (nat_lt (script_number other) (script_number one)) refl
       where
         by : (b : Bool) → nat_lt (script_number other) (script_number one) ≡ b → IsLeast Both (cond b other one)
-        by true less = least_later other (λ k p. omega (arith, nat_tests, less, first.least k p)) rest
-        by false less = least_first one first (λ k p. omega (arith, nat_tests, less, rest.least k p))
+        by true less = least_later other (λ k p. omega (arith, ltb-true (script_number other) (script_number one) less, first.least k p)) rest
+        by false less = least_first one first (λ k p. omega (arith, ltb-false (script_number other) (script_number one) less, rest.least k p))
+
+  -- the words after the first one, as a slice has them
+  behind_first : {X : Type 0} (xs : List X) → take (length xs - 1) (drop 1 xs) ≡ drop 1 xs
+  behind_first xs = take_all (length xs - 1) (drop 1 xs) (omega (arith, length-drop 1 xs))
+
+  -- the first word is read, and then those after it
+  pub words_read : (values later : Values) (roles : List Role) (words : List (Bor (List ℕ))) (r : Role) (none : Bor (List ℕ)) (fault rest : Option ScriptFaultKind)
+      → length words ≡ length roles → 0 < length roles → AreDistinct roles
+      → WordRead values (get_or roles 0 r) (get_or words 0 none).now fault
+      → ((sought : Role) → IsOutside sought (take (length roles - 1) (drop 1 roles)) → slot_of later sought ≡ slot_of values sought)
+      → WordsRead later (take (length roles - 1) (drop 1 roles)) (map (λ word. word.now) (take (length words - 1) (drop 1 words))) rest
+      → WordsRead later roles (map (λ word. word.now) words) (lesser fault rest)
+  words_read values later [] words r none fault rest many some distinct first kept read = absurd (omega (arith, some))
+  words_read values later (role ∷ roles) [] r none fault rest many some distinct first kept read = absurd (omega (arith, many))
+  words_read values later (role ∷ roles) (word ∷ words) r none fault rest many some distinct first kept read =
+      let same_roles = behind_first (role ∷ roles) in
+      let same_words = behind_first (word ∷ words) in
+      let stays = kept role (subst (IsOutside role) (sym same_roles) distinct.0) in
+      let others = subst (λ (ws : List (Bor (List ℕ))). WordsRead later roles (map (λ word. word.now) ws) rest) same_words (subst (λ rs. WordsRead later rs (map (λ word. word.now) (take (length (word ∷ words) - 1) (drop 1 (word ∷ words)))) rest) same_roles read) in
+      read_on later role roles word.now (map (λ word. word.now) words) fault rest (word_kept values later role word.now fault stays first) others
+
+  -- ---- as many words as roles
+
+  after_count : (r : Role) (word : List ℕ) (kind : ScriptFaultKind) → IsWrong table r word kind → 2 ≤ script_number kind
+  after_count role.Actor word kind (inl p) = omega (arith, ap script_number p.0)
+  after_count role.Actor word kind (inr p) = omega (arith, ap script_number p.0)
+  after_count role.Other word kind (inl p) = omega (arith, ap script_number p.0)
+  after_count role.Other word kind (inr p) = omega (arith, ap script_number p.0)
+  after_count role.Application word kind p = omega (arith, ap script_number p.0)
+  after_count role.About word kind p = omega (arith, ap script_number p.0)
+  after_count role.Number word kind p = omega (arith, ap script_number p.0)
+  after_count role.Flag word kind p = omega (arith, ap script_number p.0)
+  after_count role.Hex word kind p = omega (arith, ap script_number p.0)
+
+  any_after_count : (roles : List Role) (words : List (List ℕ)) (kind : ScriptFaultKind) → IsAnyWrong table roles words kind → 2 ≤ script_number kind
+  any_after_count roles words kind (k, both, lt, is, wrong) = after_count both.0 both.1 kind wrong
+
+  -- too few words, or too many
+  pub miscounted : (roles : List Role) (words : List (List ℕ)) → length words ≢ length roles → IsLeast (AreWrong table roles words) BadCount
+  miscounted roles words differ = record { has = inl (refl, differ); least = by }
+    where
+      by : (kind : ScriptFaultKind) → AreWrong table roles words kind → 2 ≤ script_number kind
+      by kind (inl p) = omega (arith, ap script_number p.0)
+      by kind (inr wrong) = any_after_count roles words kind wrong
+
+  -- as many as there are roles
+  pub counted : (roles : List Role) (words : List (List ℕ)) (kind : ScriptFaultKind) → length words ≡ length roles → IsLeast (IsAnyWrong table roles words) kind → IsLeast (AreWrong table roles words) kind
+  counted roles words kind as_many least = record { has = inr least.has; least = by }
+    where
+      by : (other : ScriptFaultKind) → AreWrong table roles words other → script_number kind ≤ script_number other
+      by other (inl p) = absurd (p.1 as_many)
+      by other (inr wrong) = least.least other wrong

@@ -3,7 +3,7 @@ use Rattle.std.specs.Prelude.{◌≡◌, ◌↔◌, ℕ, List}
 use Rattle.dac_script.specs.Words.{words_of}
 use Rattle.dac_script.specs.Forms.{HasWords, Spells}
 use Rattle.dac_script.specs.LineFaults.{HasFault}
-use Rattle.dac_script.specs.Script.{IsExact}
+use Rattle.dac_script.specs.Script.{IsAcceptedInWords, IsExact}
 
 -- the words of a line are what stands between its spaces
 abbrev pub WordsInWords : Type 0
@@ -12,3 +12,7 @@ WordsInWords = (words : List (List ℕ)) (line : List ℕ) → (words_of line �
 -- words that spell a line have no fault and spell no other
 abbrev pub LinesInWords : Type 0
 LinesInWords = IsExact Spells HasFault
+
+-- a line is read so exactly if it spells that
+abbrev pub AcceptedInWords : Type 0
+AcceptedInWords = IsAcceptedInWords Spells HasFault

@@ -1,5 +1,5 @@
 -- A whole script, of `sim` or of `live`: by which words spell a line, and which faults words have.
-use Rattle.std.specs.Prelude.{◌≡◌, ℕ, ◌-◌, ◌<◌, Bool, true, false, not, List, [], ◌∷◌, All, filter, take, Some, Ok, Result, slice_get, ◌==◌}
+use Rattle.std.specs.Prelude.{◌≡◌, ◌↔◌, ℕ, ◌-◌, ◌<◌, Bool, true, false, not, List, [], ◌∷◌, All, filter, take, Some, Ok, Result, slice_get, ◌==◌}
 use Rattle.std.specs.List.{slice_split, AllZip}
 use Rattle.std.specs.Result.{MatchResult}
 use Rattle.dac_config.specs.Table.{Table}
@@ -8,6 +8,7 @@ use Rattle.dac_script.specs.declared.failure.Failure.TheVariants as failure
 use Rattle.dac_script.specs.declared.fault.ScriptFault.{ScriptFault}
 use Rattle.dac_script.specs.declared.fault.ScriptFaultKind.{ScriptFaultKind}
 use Rattle.dac_script.specs.Words.{words_of}
+use Rattle.dac_script.specs.Forms.{HasWords}
 use Rattle.dac_script.specs.LineFaults.{IsFaultless, IsLeast}
 
 -- the lines of a text stand between its line feeds
@@ -32,6 +33,15 @@ module _ {Line : Type 0} (Spells : Table → Line → List (List ℕ) → Type 0
   pub record IsReading (table : Table) (words : List (List ℕ)) (said : Result Line ScriptFaultKind) : Type 0 where
     pub judged : MatchResult said (λ line. Spells table line words × IsFaultless (HasFault table words)) (IsLeast (HasFault table words))
     pub exact : (line : Line) → Spells table line words → said ≡ Ok line
+
+  -- a line of a text spells this: the words between its spaces do
+  abbrev pub IsSpelling : Table → Line → List ℕ → Type 0
+  IsSpelling table said line = (words : List (List ℕ)) × HasWords words line × Spells table said words
+
+  -- Whatever is read of the words of a line, it is this exactly if the line spells this.
+  abbrev pub IsAcceptedInWords : Type 0
+  IsAcceptedInWords = (table : Table) (said : Line) (line : List ℕ) (read : Result Line ScriptFaultKind)
+      → IsReading table (words_of line) read → (read ≡ Ok said) ↔ IsSpelling table said line
 
   -- why the line of this number isn't read: its least fault, or `NoMemory`
   abbrev pub IsLineFailure : Table → ℕ → List ℕ → Failure → Type 0

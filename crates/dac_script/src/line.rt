@@ -127,6 +127,7 @@ fn line(verb: Verb, values: Values) -> ScriptLine
 }
 
 /// Reads the words of a line. Of its faults it returns the least kind.
+#[tactic(auto, using(crate::proofs::SpelledLines::no_verb))]
 pub fn line_of(
     alloc: Global,
     config: &Config,

@@ -64,6 +64,7 @@ fn caller_of(word: &[u8]) -> Option<u8>
 }
 
 /// What a caller asks of which node, by the words after its number. `None` reads the node's page.
+#[tactic(auto, using(crate::proofs::LiveLines::asked_fails, crate::proofs::LiveLines::nothing_asked))]
 fn asked(
     alloc: Global,
     config: &Config,

@@ -45,6 +45,7 @@ impl Values {
 }
 
 /// A node of the configuration, by its name.
+#[tactic(auto, using(crate::proofs::Told::no_node, crate::proofs::Told::unknown_node))]
 fn node_in(config: &Config, word: &[u8]) -> Result<NodeId, ScriptFaultKind>
     ensures { MatchResult result (λ node. Tells config.now (TheNode node) word.now)
         (IsLeast (IsWrong config.now a_role.Actor word.now)) }
@@ -59,6 +60,7 @@ fn node_in(config: &Config, word: &[u8]) -> Result<NodeId, ScriptFaultKind>
 }
 
 /// The node that a line is about: the number past all nodes if the configuration has no node of this name.
+#[tactic(auto, using(crate::proofs::Told::no_name))]
 fn about_in(config: &Config, word: &[u8]) -> Result<NodeId, ScriptFaultKind>
     ensures { MatchResult result (λ node. Tells config.now (AboutNode node) word.now)
         (IsLeast (IsWrong config.now a_role.About word.now)) }
@@ -70,6 +72,7 @@ fn about_in(config: &Config, word: &[u8]) -> Result<NodeId, ScriptFaultKind>
 }
 
 /// The application that a line is about: the number past all if the configuration has none of this name.
+#[tactic(auto, using(crate::proofs::Told::no_name))]
 fn app_in(config: &Config, word: &[u8]) -> Result<AppId, ScriptFaultKind>
     ensures { MatchResult result (λ app. Tells config.now (TheApp app) word.now)
         (IsLeast (IsWrong config.now a_role.Application word.now)) }
@@ -93,6 +96,7 @@ fn flag_in(word: &[u8]) -> Result<bool, ScriptFaultKind>
 }
 
 /// Reads a word whose role takes no memory.
+#[tactic(auto, using(crate::proofs::Told::no_number))]
 fn read_plain(
     config: &Config,
     role: Role,
@@ -169,6 +173,7 @@ fn lesser(
 }
 
 /// Reads as many words as there are roles. Returns the least fault, if a word has one.
+#[tactic(auto, using(crate::proofs::Told::nothing_read))]
 fn read_words(
     alloc: Global,
     config: &Config,
@@ -194,6 +199,7 @@ fn read_words(
 }
 
 /// What the words say in these roles, or the least of their faults. Too few or too many words are the first one.
+#[tactic(auto, using(crate::proofs::Told::miscounted))]
 pub(crate) fn values_of(
     alloc: Global,
     config: &Config,
