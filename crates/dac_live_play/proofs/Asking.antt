@@ -3,7 +3,7 @@ use Rattle.std.proofs.Common.{◌≡◌, ℕ, ◌+◌, ◌<◌, List, [], ◌∷
 use Rattle.std.specs.List.{cons_option}
 use Rattle.std.proofs.lemmas.List.{take_more, length-map, get_or-map}
 use Rattle.std.proofs.lemmas.List.Elements.{filter_map-append}
-use Rattle.dac_live_script.specs.declared.line.LiveLine.{LiveLine}
+use Rattle.dac_script.specs.declared.live_line.LiveLine.{LiveLine}
 use Rattle.dac_live.specs.Line.{Line}
 use Rattle.dac_live.specs.Phase.{Phase}
 use Rattle.dac_live_play.specs.Phases.{asked_by, lines_in, AsksAs}

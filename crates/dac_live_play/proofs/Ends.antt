@@ -3,8 +3,8 @@ use Rattle.std.proofs.Common.{◌≡◌, ℕ, List, Option, Some, None, sym, sub
 use Rattle.std.specs.Prelude.{IfSome}
 use Rattle.std.specs.Io.KnownBytes.{Appends}
 use Rattle.dac_config.specs.Table.{Table}
-use Rattle.dac_live_script.specs.declared.line.LiveLine.{LiveLine}
-use Rattle.dac_live_script.specs.LiveInputs.{SaysLiveScript, IsLiveFailureOf}
+use Rattle.dac_script.specs.declared.live_line.LiveLine.{LiveLine}
+use Rattle.dac_script.specs.LiveInputs.{SaysLiveScript, IsLiveFailureOf}
 use Rattle.dac_play.specs.Texts.{failure_text}
 use Rattle.dac_script.specs.declared.failure.Failure.{Failure}
 use Rattle.dac_script.specs.declared.source.Progress.TheVariants.{Ended}

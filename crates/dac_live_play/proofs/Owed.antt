@@ -4,9 +4,9 @@ use Rattle.std.specs.Prelude.{All}
 use Rattle.std.specs.List.{onto_first}
 use Rattle.std.proofs.lemmas.List.{length-map, get_or-map}
 use Rattle.std.proofs.lemmas.List.Elements.{All-nil, All-cons, All-head, All-tail, All-same, All-map}
-use Rattle.dac_live_script.specs.declared.line.LiveLine.{LiveLine}
-use Rattle.dac_live_script.specs.declared.line.LiveLine.TheVariants.{Do, Read, Feed, Phase}
-use Rattle.dac_live_script.specs.LiveLines.{HasActors}
+use Rattle.dac_script.specs.declared.live_line.LiveLine.{LiveLine}
+use Rattle.dac_script.specs.declared.live_line.LiveLine.TheVariants.{Do, Read, Feed, Phase}
+use Rattle.dac_script.specs.LiveCallers.{HasActors}
 use Rattle.dac_live.specs.Lines.{IsLineOf, HasLines}
 use Rattle.dac_live.specs.Line.{Line}
 use Rattle.dac_live.specs.Phase as run

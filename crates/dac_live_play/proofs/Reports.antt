@@ -2,7 +2,7 @@
 use Rattle.std.proofs.Common.{◌≡◌, ℕ, List, Result, Ok, Err, true≢false, Bor, map, sym, ap, subst, ◌∙◌}
 use Rattle.std.specs.Result.{is_ok}
 use Rattle.dac_config.specs.Table.{Table}
-use Rattle.dac_live_script.specs.declared.line.LiveLine.{LiveLine}
+use Rattle.dac_script.specs.declared.live_line.LiveLine.{LiveLine}
 use Rattle.dac_live.specs.Phase.{Phase}
 use Rattle.dac_live.specs.declared.report.LiveReport.{LiveReport}
 use Rattle.dac_weave.specs.Faults.{IsTrueFault, IsRefusal}

@@ -1,10 +1,10 @@
 -- A script in phases, and what its callers are asked in each.
 use Rattle.std.specs.Prelude.{Bool, true, false, ◌≡◌, List, map, Option, Some, None}
 use Rattle.std.specs.List.{slice_split, filter_map}
-use Rattle.dac_live_script.specs.declared.line.Deed.{Deed}
-use Rattle.dac_live_script.specs.declared.line.Deed.TheVariants as deed
-use Rattle.dac_live_script.specs.declared.line.LiveLine.{LiveLine}
-use Rattle.dac_live_script.specs.declared.line.LiveLine.TheVariants as says
+use Rattle.dac_script.specs.declared.line.Deed.{Deed}
+use Rattle.dac_script.specs.declared.line.Deed.TheVariants as deed
+use Rattle.dac_script.specs.declared.live_line.LiveLine.{LiveLine}
+use Rattle.dac_script.specs.declared.live_line.LiveLine.TheVariants as says
 use Rattle.dac_messages.specs.declared.event.Event.{Event}
 use Rattle.dac_messages.specs.declared.event.Event.TheVariants as event
 use Rattle.dac_live.specs.Ask.TheVariants as ask

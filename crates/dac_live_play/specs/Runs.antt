@@ -3,7 +3,7 @@ use Rattle.std.specs.Prelude.{◌≡◌, ◌≢◌, ◌↔◌, ℕ, ◌<◌, Lis
 use Rattle.dac_base.specs.declared.NodeId.{NodeId}
 use Rattle.dac_config.specs.Table.{Table, node_count}
 use Rattle.dac_events.specs.declared.WorldEvent.{WorldEvent}
-use Rattle.dac_live_script.specs.declared.line.LiveLine.{LiveLine}
+use Rattle.dac_script.specs.declared.live_line.LiveLine.{LiveLine}
 use Rattle.dac_live.specs.declared.report.LiveReport.{LiveReport}
 use Rattle.dac_live.specs.Lines.{CallersHold, AreAnswered}
 use Rattle.dac_live.specs.Nodes.{AreNodes, PagesHold, AreTrueOf}

@@ -7,8 +7,8 @@ use Rattle.dac_base.specs.declared.NodeId.{NodeId}
 use Rattle.dac_events.specs.Refusals.{number_of, name_of}
 use Rattle.dac_config.specs.Table.{Table, node_name}
 use Rattle.dac_config.specs.Canonical.{name_text}
-use Rattle.dac_live_script.specs.declared.line.LiveLine.{LiveLine}
-use Rattle.dac_live_script.specs.declared.line.LiveLine.TheVariants as says
+use Rattle.dac_script.specs.declared.live_line.LiveLine.{LiveLine}
+use Rattle.dac_script.specs.declared.live_line.LiveLine.TheVariants as says
 use Rattle.dac_pages.specs.declared.page.Page.{Page}
 use Rattle.dac_placement.specs.Placement.{nodes_of}
 use Rattle.dac_play.specs.Texts.{refused_text}

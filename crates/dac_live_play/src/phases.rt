@@ -5,8 +5,8 @@ ghost use Rattle.dac_live_play.specs.Phases.{ends_phase, parts_of, event_of, ask
 
 use dac_base::NoMemory;
 use dac_live::{Ask, Line, Phase};
-use dac_live_script::{Deed, LiveLine};
 use dac_messages::Event;
+use dac_script::{Deed, LiveLine};
 use std::alloc::Global;
 
 /// Whether a phase ends.

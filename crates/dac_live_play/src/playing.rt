@@ -2,7 +2,7 @@
 
 ghost use Rattle.std.specs.Prelude.{All, IfOk, IfErr};
 ghost use Rattle.dac_config.specs.Table.{node_count};
-ghost use Rattle.dac_live_script.specs.LiveLines.{HasActors};
+ghost use Rattle.dac_script.specs.LiveCallers.{HasActors};
 ghost use Rattle.dac_live_play.specs.Runs.{IsFaultOf};
 ghost use Rattle.dac_live_play.specs.Lives.{IsRunOf, IsPlayed};
 ghost use Rattle.dac_live_play.specs.Records.{IsKept, IsUnkept};
@@ -15,7 +15,7 @@ use dac_base::NodeId;
 use dac_config::Config;
 use dac_events::WorldEvent;
 use dac_live::{Gate, run_live};
-use dac_live_script::LiveLine;
+use dac_script::LiveLine;
 use dac_weave::weave;
 use std::alloc::Global;
 use std::sync::Wait;

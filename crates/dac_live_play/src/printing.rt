@@ -10,7 +10,7 @@ use crate::texts::{CALLERS, put_feed, put_own};
 use dac_base::{NoMemory, NodeId};
 use dac_config::Config;
 use dac_live::{AnswerList, Line, LineAnswer, LiveReport, Page, Phase};
-use dac_live_script::LiveLine;
+use dac_script::LiveLine;
 use dac_status::{header, page};
 use std::alloc::Global;
 

@@ -7,9 +7,8 @@ ghost use Rattle.dac_live_play.specs.Records.{EndsRecord};
 
 use crate::ending::{LiveEnding, given_up, refuse_live};
 use crate::playing::record_live;
-use dac_live_script::prepare_live;
 use dac_play::print;
-use dac_script::Source;
+use dac_script::{Source, prepare_live};
 use std::alloc::Global;
 use std::io::{Read, Write};
 use std::sync::Wait;

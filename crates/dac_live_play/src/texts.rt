@@ -7,8 +7,8 @@ ghost use Rattle.dac_live_play.specs.Texts.{outcome_text, line_text, is_of, own_
 use dac_base::{NoMemory, NodeId};
 use dac_config::{Config, printed_name};
 use dac_live::{Line, LineAnswer};
-use dac_live_script::LiveLine;
 use dac_play::{fed_line, refused_line};
+use dac_script::LiveLine;
 use std::alloc::Global;
 
 /// The callers of a node, by their numbers.

@@ -5,7 +5,7 @@ ghost use Rattle.std.specs.Io.KnownBytes.{Appends};
 ghost use Rattle.dac_config.specs.Table.{node_count};
 ghost use Rattle.dac_core.specs.ModelWorld.{start};
 ghost use Rattle.dac_script.specs.Input.{IsReadWithinBound};
-ghost use Rattle.dac_script.specs.Line.{HasActors};
+ghost use Rattle.dac_script.specs.Actors.{HasActors};
 ghost use Rattle.dac_script.specs.declared.line.ScriptLine.TheVariants as says;
 ghost use Rattle.dac_play.specs.Play.{script_text, PlaysLine};
 ghost use Rattle.dac_play.specs.Endings.{IsLeftAt};

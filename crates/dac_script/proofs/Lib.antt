@@ -1,4 +1,6 @@
 mod Parting
 mod LineByLine
 mod ReadOn
-mod Accepted
+mod Told
+mod SpelledLines
+mod LiveLines

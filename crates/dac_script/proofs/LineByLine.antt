@@ -1,10 +1,10 @@
 -- Reading a script of any kind of lines, one line after the other. A line that is read has no fault, and any other is answered
 -- its least.
-use Rattle.std.proofs.Common.{◌≡◌, ℕ, ◌+◌, ◌-◌, ◌<◌, ◌≤◌, Bool, true, false, cond, List, [], ◌∷◌, ◌++◌, length, map, Result, Ok, Err, sym, ap, subst, ◌∙◌, arith, append-nil, length-append}
+use Rattle.std.proofs.Common.{◌≡◌, ℕ, ◌+◌, ◌-◌, ◌<◌, ◌≤◌, Bool, true, false, cond, List, [], ◌∷◌, ◌++◌, length, sym, ap, subst, ◌∙◌, arith, append-nil, length-append}
 use Rattle.std.specs.Prelude.{All, Option, Some, None, IfSome, IfNone, filter}
 use Rattle.std.specs.Borrow.{Bor}
-use Rattle.std.specs.Result.{MatchResult}
-use Rattle.std.proofs.lemmas.List.{get_or_at, map_push, take_at}
+use Rattle.std.specs.List.{AllZip}
+use Rattle.std.proofs.lemmas.List.{get_or_at, take_at}
 use Rattle.std.proofs.lemmas.List.Elements.{All-push, filter-append}
 use Rattle.std.proofs.lemmas.Option.{slice_get-get_or}
 use Rattle.dac_config.specs.Table.{Table}
@@ -14,14 +14,21 @@ use Rattle.dac_script.specs.declared.failure.Failure.{Failure}
 use Rattle.dac_script.specs.declared.failure.Failure.TheVariants as failure
 use Rattle.dac_script.specs.Words.{words_of}
 use Rattle.dac_script.specs.LineFaults.{IsFaultless, IsLeast}
-use Rattle.dac_script.specs.Script.{lines_of, is_said, line_in, readable, IsJudged, ReadsAs, IsFirstFault, IsScriptFailure, IsLineFailure}
+use Rattle.dac_script.specs.Script.{lines_of, is_said, ReadsAs, IsFirstFault, IsScriptFailure, IsLineFailure}
 
 -- a text begins with its first line
 begins : (rest line : List ℕ) (behind : Option (Bor (List ℕ))) → IfNone behind (lines_of rest ≡ line ∷ []) → IfSome behind (λ b. lines_of rest ≡ line ∷ lines_of b.now) → (more : List (List ℕ)) × (lines_of rest ≡ line ∷ more)
 begins rest line None last next = ([], last)
 begins rest line (Some b) last next = (lines_of b.now, next)
 
-module _ {Line : Type 0} (read : Table → List (List ℕ) → Result Line ScriptFaultKind)
+-- what holds of a pair of lists, place by place, holds with one more pair behind them
+zip_push : {A B : Type 0} (R : A → B → Type 0) (xs : List A) (ys : List B) (x : A) (y : B) → AllZip R xs ys → R x y → AllZip R (xs ++ x ∷ []) (ys ++ y ∷ [])
+zip_push R [] [] x y all here = (here, tt)
+zip_push R [] (b ∷ ys) x y all here = absurd all
+zip_push R (a ∷ xs) [] x y all here = absurd all
+zip_push R (a ∷ xs) (b ∷ ys) x y all here = (all.0, zip_push R xs ys x y all.1 here)
+
+module _ {Line : Type 0} (Spells : Table → Line → List (List ℕ) → Type 0)
     (HasFault : Table → List (List ℕ) → ScriptFaultKind → Type 0) (table : Table) where
   -- so far: lines that were read, and then the rest, which begins with the line of this number
   pub record IsReadTo (text rest : List ℕ) (number : ℕ) (script : List Line) : Type 0 where
@@ -29,70 +36,64 @@ module _ {Line : Type 0} (read : Table → List (List ℕ) → Result Line Scrip
     pub lines : lines_of text ≡ before ++ lines_of rest
     pub counted : number ≡ length before + 1
     pub within : number + length rest ≤ length text + 1
-    pub reads : ReadsAs read HasFault table before script
+    pub reads : ReadsAs Spells HasFault table before script
 
   -- what a call does that reads one line more
   abbrev Adds : List ℕ → List Line → List Line → Type 0
-  Adds line old new = (before : List (List ℕ)) → ReadsAs read HasFault table before old → ReadsAs read HasFault table (before ++ line ∷ []) new
+  Adds line old new = (before : List (List ℕ)) → ReadsAs Spells HasFault table before old → ReadsAs Spells HasFault table (before ++ line ∷ []) new
 
-  module _ (judged : IsJudged read HasFault) where
-    abbrev Fine : List ℕ → Type 0
-    Fine line = IsFaultless (HasFault table (words_of line))
+  abbrev Fine : List ℕ → Type 0
+  Fine line = IsFaultless (HasFault table (words_of line))
 
-    fine : (line : List ℕ) (said : Line) → line_in read table line ≡ Ok said → Fine line
-    fine line said answer = subst (λ r. MatchResult r (λ _. Fine line) (IsLeast (HasFault table (words_of line)))) answer (judged table (words_of line))
+  abbrev Tells : List ℕ → Line → Type 0
+  Tells line said = Spells table said (words_of line)
 
-    least_fault : (line : List ℕ) (kind : ScriptFaultKind) → line_in read table line ≡ Err kind → IsLeast (HasFault table (words_of line)) kind
-    least_fault line kind answer = subst (λ r. MatchResult r (λ _. Fine line) (IsLeast (HasFault table (words_of line)))) answer (judged table (words_of line))
+  -- a line that says nothing adds nothing
+  pub reads_silent : (line : List ℕ) (script : List Line) → is_said line ≡ false → Adds line script script
+  reads_silent line script silent before reads =
+      let none : filter is_said (before ++ line ∷ []) ≡ filter is_said before =
+      filter-append is_said before (line ∷ []) ∙ ap (λ (b : Bool). filter is_said before ++ cond b (line ∷ []) []) silent ∙ append-nil _ in
+      record { said = subst (λ lines. AllZip Tells lines script) (sym none) reads.said; faultless = subst (All Fine) (sym none) reads.faultless }
 
-    -- a line that says nothing adds nothing
-    pub reads_silent : (line : List ℕ) (script : List Line) → is_said line ≡ false → Adds line script script
-    reads_silent line script silent before reads =
-        let none : filter is_said (before ++ line ∷ []) ≡ filter is_said before =
-        filter-append is_said before (line ∷ []) ∙ ap (λ (b : Bool). filter is_said before ++ cond b (line ∷ []) []) silent ∙ append-nil _ in
-        record { said = ap (map (line_in read table)) none ∙ reads.said; faultless = subst (All Fine) (sym none) reads.faultless }
+  -- a line that says something adds it
+  pub reads_more : (line : List ℕ) (script : List Line) (said : Line) → is_said line ≡ true → Tells line said × Fine line → Adds line script (script ++ said ∷ [])
+  reads_more line script said says read before reads =
+      let more : filter is_said (before ++ line ∷ []) ≡ filter is_said before ++ line ∷ [] =
+      filter-append is_said before (line ∷ []) ∙ ap (λ (b : Bool). filter is_said before ++ cond b (line ∷ []) []) says in
+      record {
+        said = subst (λ lines. AllZip Tells lines (script ++ said ∷ [])) (sym more) (zip_push Tells (filter is_said before) script line said reads.said read.0);
+        faultless = subst (All Fine) (sym more) (All-push Fine _ _ reads.faultless read.1);
+      }
 
-    -- a line that says something adds it
-    pub reads_more : (line : List ℕ) (script : List Line) (said : Line) → is_said line ≡ true → line_in read table line ≡ Ok said → Adds line script (script ++ said ∷ [])
-    reads_more line script said says answer before reads =
-        let more : filter is_said (before ++ line ∷ []) ≡ filter is_said before ++ line ∷ [] =
-        filter-append is_said before (line ∷ []) ∙ ap (λ (b : Bool). filter is_said before ++ cond b (line ∷ []) []) says in
-        record {
-          said = ap (map (line_in read table)) more ∙ map_push (line_in read table) (filter is_said before) line
-              ∙ ap (λ l. l ++ line_in read table line ∷ []) reads.said ∙ ap (λ r. map readable script ++ r ∷ []) answer ∙ sym (map_push readable script said);
-          faultless = subst (All Fine) (sym more) (All-push Fine _ _ reads.faultless (fine line said answer));
-        }
+  -- the first line with a fault, after lines that were read
+  first_fault : (before more : List (List ℕ)) (line : List ℕ) (script : List Line) (fault : ScriptFault) → fault.line ≡ length before + 1 → is_said line ≡ true → IsLeast (HasFault table (words_of line)) fault.kind
+      → ReadsAs Spells HasFault table before script → IsFirstFault Spells HasFault table (before ++ line ∷ more) fault
+  first_fault before more line script fault at says least reads =
+      let place : length before ≡ fault.line - 1 = omega (arith, at) in
+      let within : fault.line - 1 < length (before ++ line ∷ more) = omega (arith, at, length-append before (line ∷ more)) in
+      record {
+        before = script;
+        reads = subst (λ lines. ReadsAs Spells HasFault table lines script) (sym (take_at before (line ∷ more) (fault.line - 1) place)) reads;
+        counted = omega (arith, at);
+        line = line;
+        stands = slice_get-get_or (before ++ line ∷ more) (fault.line - 1) line within ∙ ap (λ l. Some l) (get_or_at before line more line (fault.line - 1) place);
+        said = says;
+        least = least;
+      }
 
-    -- the first line with a fault, after lines that were read
-    first_fault : (before more : List (List ℕ)) (line : List ℕ) (script : List Line) (fault : ScriptFault) → fault.line ≡ length before + 1 → is_said line ≡ true → line_in read table line ≡ Err fault.kind
-        → ReadsAs read HasFault table before script → IsFirstFault read HasFault table (before ++ line ∷ more) fault
-    first_fault before more line script fault at says answer reads =
-        let place : length before ≡ fault.line - 1 = omega (arith, at) in
-        let within : fault.line - 1 < length (before ++ line ∷ more) = omega (arith, at, length-append before (line ∷ more)) in
-        record {
-          before = script;
-          reads = subst (λ lines. ReadsAs read HasFault table lines script) (sym (take_at before (line ∷ more) (fault.line - 1) place)) reads;
-          counted = omega (arith, at);
-          line = line;
-          stands = slice_get-get_or (before ++ line ∷ more) (fault.line - 1) line within ∙ ap (λ l. Some l) (get_or_at before line more line (fault.line - 1) place);
-          said = says;
-          answered = answer;
-          least = least_fault line fault.kind answer;
-        }
+  -- the failure of a line is that of the script
+  script_fails_by : (text rest line : List ℕ) (more : List (List ℕ)) (number : ℕ) (script : List Line) (why : Failure) → lines_of rest ≡ line ∷ more
+      → (is_said line ≡ true) × IsLineFailure Spells HasFault table number line why → IsReadTo text rest number script → IsScriptFailure Spells HasFault table (lines_of text) why
+  script_fails_by text rest line more number script (failure.Input fault) is fails so_far = fails.1
+  script_fails_by text rest line more number script (failure.Config fault) is fails so_far = fails.1
+  script_fails_by text rest line more number script (failure.Script fault) is fails so_far =
+      subst (λ lines. IsFirstFault Spells HasFault table lines fault) (sym (so_far.lines ∙ ap (λ l. so_far.before ++ l) is))
+      (first_fault so_far.before more line script fault (fails.1.0 ∙ so_far.counted) fails.0 fails.1.1 so_far.reads)
+  script_fails_by text rest line more number script failure.NoMemory is fails so_far = tt
 
-    -- the failure of a line is that of the script
-    script_fails_by : (text rest line : List ℕ) (more : List (List ℕ)) (number : ℕ) (script : List Line) (why : Failure) → lines_of rest ≡ line ∷ more
-        → (is_said line ≡ true) × IsLineFailure read table number line why → IsReadTo text rest number script → IsScriptFailure read HasFault table (lines_of text) why
-    script_fails_by text rest line more number script (failure.Input fault) is fails so_far = fails.1
-    script_fails_by text rest line more number script (failure.Config fault) is fails so_far = fails.1
-    script_fails_by text rest line more number script (failure.Script fault) is fails so_far =
-        subst (λ lines. IsFirstFault read HasFault table lines fault) (sym (so_far.lines ∙ ap (λ l. so_far.before ++ l) is))
-        (first_fault so_far.before more line script fault (fails.1.0 ∙ so_far.counted) fails.0 fails.1.1 so_far.reads)
-    script_fails_by text rest line more number script failure.NoMemory is fails so_far = tt
-
-    pub script_fails : (text rest line : List ℕ) (behind : Option (Bor (List ℕ))) (number : ℕ) (script : List Line) (why : Failure)
-        → IfNone behind (lines_of rest ≡ line ∷ []) → IfSome behind (λ b. lines_of rest ≡ line ∷ lines_of b.now)
-        → (is_said line ≡ true) × IsLineFailure read table number line why → IsReadTo text rest number script → IsScriptFailure read HasFault table (lines_of text) why
-    script_fails text rest line behind number script why last next fails so_far =
-        let begun = begins rest line behind last next in
-        script_fails_by text rest line begun.0 number script why begun.1 fails so_far
+  pub script_fails : (text rest line : List ℕ) (behind : Option (Bor (List ℕ))) (number : ℕ) (script : List Line) (why : Failure)
+      → IfNone behind (lines_of rest ≡ line ∷ []) → IfSome behind (λ b. lines_of rest ≡ line ∷ lines_of b.now)
+      → (is_said line ≡ true) × IsLineFailure Spells HasFault table number line why → IsReadTo text rest number script → IsScriptFailure Spells HasFault table (lines_of text) why
+  script_fails text rest line behind number script why last next fails so_far =
+      let begun = begins rest line behind last next in
+      script_fails_by text rest line begun.0 number script why begun.1 fails so_far

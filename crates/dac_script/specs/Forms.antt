@@ -99,6 +99,10 @@ form_of (says.Same first second) = Word (codes "same") ∷ Node first ∷ Node s
 form_of (says.Bytes message) = Word (codes "bytes") ∷ Number message ∷ []
 form_of (says.Feed bytes) = Word (codes "feed") ∷ Hex bytes ∷ []
 
+-- these words spell a line
+abbrev pub Spells : Table → ScriptLine → List (List ℕ) → Type 0
+Spells table said words = AllTell table (form_of said) words
+
 -- ---- words in a line
 
 -- spaces alone, if anything

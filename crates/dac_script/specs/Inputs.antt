@@ -1,5 +1,5 @@
 -- What an input says, and why it says nothing: of a script of `sim` or of `live`.
-use Rattle.std.specs.Prelude.{◌≡◌, ◌≢◌, ℕ, ◌<◌, List, length, All, Result, Err}
+use Rattle.std.specs.Prelude.{◌≡◌, ◌≢◌, ℕ, ◌<◌, List, length, All, Err}
 use Rattle.dac_tokens.specs.declared.fault.ConfigFault.{ConfigFault}
 use Rattle.dac_config.specs.Table.{Table}
 use Rattle.dac_config.specs.Says.{IsConfigOf}
@@ -12,8 +12,8 @@ use Rattle.dac_script.specs.declared.input.TheConstants.{MAX_INPUT}
 use Rattle.dac_script.specs.declared.fault.ScriptFaultKind.{ScriptFaultKind}
 use Rattle.dac_script.specs.declared.line.ScriptLine.{ScriptLine}
 use Rattle.dac_script.specs.Script.{lines_of, ReadsAs, IsFirstFault}
-use Rattle.dac_script.specs.Line.{line_of}
-use Rattle.dac_script.specs.LineFaults as sim
+use Rattle.dac_script.specs.Forms.{Spells}
+use Rattle.dac_script.specs.LineFaults.{HasFault}
 use Rattle.dac_script.specs.Input.{IsTaken, divider, IsParted}
 
 -- the configuration of a text has this fault
@@ -23,8 +23,8 @@ pub record HasConfigFault (text : List ℕ) (fault : ConfigFault) : Type 0 where
   pub parted : IsParted text config script
   pub fault_is : config_at config ≡ Err fault
 
--- inputs in general, by what words say and by which kinds of fault they have
-module _ {Line : Type 0} (read : Table → List (List ℕ) → Result Line ScriptFaultKind)
+-- inputs in general, by which words spell a line and which kinds of fault words have
+module _ {Line : Type 0} (Spells : Table → Line → List (List ℕ) → Type 0)
     (HasFault : Table → List (List ℕ) → ScriptFaultKind → Type 0) where
   -- a text has two parts, which say this configuration and this script
   pub record HasParts (text : List ℕ) (table : Table) (lines : List Line) : Type 0 where
@@ -32,7 +32,7 @@ module _ {Line : Type 0} (read : Table → List (List ℕ) → Result Line Scrip
     pub script : List ℕ
     pub parted : IsParted text config script
     pub table_is : IsConfigOf config table
-    pub lines_are : ReadsAs read HasFault table (lines_of script) lines
+    pub lines_are : ReadsAs Spells HasFault table (lines_of script) lines
 
   -- the configuration of a text has no fault, and its script has this one
   pub record HasScriptFault (text : List ℕ) (fault : ScriptFault) : Type 0 where
@@ -41,7 +41,7 @@ module _ {Line : Type 0} (read : Table → List (List ℕ) → Result Line Scrip
     pub parted : IsParted text config script
     pub table : Table
     pub table_is : IsConfigOf config table
-    pub fault_is : IsFirstFault read HasFault table (lines_of script) fault
+    pub fault_is : IsFirstFault Spells HasFault table (lines_of script) fault
 
   -- why the parts of a text aren't read: it has only one, its configuration or its script has a fault, or memory is
   -- refused
@@ -70,8 +70,8 @@ module _ {Line : Type 0} (read : Table → List (List ℕ) → Result Line Scrip
 
 -- an input of `sim` isn't too long, and says this configuration and this script
 abbrev pub SaysScript : List ℕ → Table → List ScriptLine → Type 0
-SaysScript bytes table lines = SaysAll line_of sim.HasFault bytes table lines
+SaysScript bytes table lines = SaysAll Spells HasFault bytes table lines
 
 -- why an input of `sim` isn't read
 abbrev pub IsFailureOf : List ℕ → Failure → Type 0
-IsFailureOf bytes why = IsInputFailure line_of sim.HasFault bytes why
+IsFailureOf bytes why = IsInputFailure Spells HasFault bytes why

@@ -1,8 +1,10 @@
 pub mod Sources
 pub mod Words
 pub mod Faults
-pub mod Asked
-pub mod Line
+pub mod Verbs
+pub mod Values
+pub mod Requests
+pub mod Actors
 pub mod LineFaults
 pub mod Script
 pub mod Input
@@ -11,4 +13,9 @@ pub mod Inputs
 pub mod Limits
 pub mod Forms
 pub mod InWords
+pub mod LiveCallers
+pub mod LiveFaults
+pub mod LiveForms
+pub mod LiveInputs
+pub mod LiveInWords
 pub mod laws

@@ -6,42 +6,50 @@ use Rattle.std.specs.List.{Any, AllPass, zip}
 use Rattle.dac_config.specs.Table.{Table, node_named}
 use Rattle.dac_script.specs.declared.fault.ScriptFaultKind.{ScriptFaultKind}
 use Rattle.dac_script.specs.declared.fault.ScriptFaultKind.TheVariants.{BadWord, BadCount, BadName, BadNumber, UnknownActor, BadHex}
-use Rattle.dac_script.specs.declared.line.Verb.{Verb}
-use Rattle.dac_script.specs.declared.line.Verb.TheVariants as verb
+use Rattle.dac_script.specs.declared.verb.Ask.{Ask}
+use Rattle.dac_script.specs.declared.verb.Ask.TheVariants as ask
+use Rattle.dac_script.specs.declared.verb.Role.{Role}
+use Rattle.dac_script.specs.declared.verb.Role.TheVariants.{Actor, Other, Application, About, Number, Flag, Hex}
+use Rattle.dac_script.specs.declared.verb.Verb.{Verb}
+use Rattle.dac_script.specs.declared.verb.Verb.TheVariants as verb
 use Rattle.dac_script.specs.Faults.{script_number}
 use Rattle.dac_script.specs.Words.{name_in, number_in, is_small_digit}
-use Rattle.dac_script.specs.Line.{verb_of}
+use Rattle.dac_script.specs.Verbs.{verb_of}
 
--- What a word has to be: the node where something happens, the application or the node that it is about, or a number.
--- Or it is `true` or `false`, or bytes in digits
-pub data Role : Type 0 where
-  Actor : Role
-  Application : Role
-  About : Role
-  Number : Role
-  Flag : Role
-  Hex : Role
+-- the words behind a request
+abbrev pub ask_roles : Ask → List Role
+ask_roles ask.Boot = Actor ∷ Number ∷ []
+ask_roles ask.Crash = Actor ∷ []
+ask_roles ask.Tick = Actor ∷ Number ∷ []
+ask_roles ask.Down = Actor ∷ About ∷ []
+ask_roles ask.Permit = Actor ∷ Application ∷ About ∷ Flag ∷ []
+ask_roles ask.Start = Actor ∷ Application ∷ About ∷ []
+ask_roles ask.Stop = Actor ∷ Application ∷ About ∷ []
+ask_roles ask.Drain = Actor ∷ About ∷ Flag ∷ []
+ask_roles ask.Takeover = Actor ∷ Application ∷ []
 
 -- the words behind the first one
 abbrev pub roles_of : Verb → List Role
-roles_of verb.Boot = Actor ∷ Number ∷ []
-roles_of verb.Crash = Actor ∷ []
-roles_of verb.Down = Actor ∷ About ∷ []
-roles_of verb.Permit = Actor ∷ Application ∷ About ∷ Flag ∷ []
-roles_of verb.Start = Actor ∷ Application ∷ About ∷ []
-roles_of verb.Stop = Actor ∷ Application ∷ About ∷ []
-roles_of verb.Drain = Actor ∷ About ∷ Flag ∷ []
-roles_of verb.Takeover = Actor ∷ Application ∷ []
-roles_of verb.Tick = Actor ∷ Number ∷ []
+roles_of (verb.Ask request) = ask_roles request
 roles_of verb.Ship = Actor ∷ About ∷ []
 roles_of verb.Hear = Actor ∷ Number ∷ []
 roles_of verb.Hand = Actor ∷ Number ∷ []
 roles_of verb.Share = []
 roles_of verb.Page = Actor ∷ []
 roles_of verb.State = Actor ∷ []
-roles_of verb.Same = Actor ∷ Actor ∷ []
+roles_of verb.Same = Actor ∷ Other ∷ []
 roles_of verb.Bytes = Number ∷ []
 roles_of verb.Feed = Hex ∷ []
+
+-- none of these roles is this one
+abbrev pub IsOutside : Role → List Role → Type 0
+IsOutside sought [] = Unit {0}
+IsOutside sought (role ∷ roles) = (sought ≢ role) × IsOutside sought roles
+
+-- no role stands twice
+abbrev pub AreDistinct : List Role → Type 0
+AreDistinct [] = Unit {0}
+AreDistinct (role ∷ roles) = IsOutside role roles × AreDistinct roles
 
 -- neither `true` nor `false`; `'true'` isn't either
 abbrev pub IsNoFlag : List ℕ → Type 0
@@ -51,20 +59,28 @@ IsNoFlag word = (word ≢ codes "true") × (word ≢ codes "false")
 abbrev pub IsNoHex : List ℕ → Type 0
 IsNoHex word = (length word % 2 ≡ 1) ⊎ (¬ AllPass is_small_digit word)
 
+-- a word that names no node of the configuration has a fault of this kind
+abbrev pub IsNoNode : Table → List ℕ → ScriptFaultKind → Type 0
+IsNoNode table word kind = ((kind ≡ BadName) × (name_in word ≡ None))
+    ⊎ ((kind ≡ UnknownActor) × IsSomeAnd (name_in word) (λ name. node_named table name ≡ None))
+
 -- A word in its role has a fault of this kind. Names of other nodes and of applications may be unknown.
 abbrev pub IsWrong : Table → Role → List ℕ → ScriptFaultKind → Type 0
-IsWrong table Actor word kind = ((kind ≡ BadName) × (name_in word ≡ None))
-    ⊎ ((kind ≡ UnknownActor) × IsSomeAnd (name_in word) (λ name. node_named table name ≡ None))
+IsWrong table Actor word kind = IsNoNode table word kind
+IsWrong table Other word kind = IsNoNode table word kind
 IsWrong table Application word kind = (kind ≡ BadName) × (name_in word ≡ None)
 IsWrong table About word kind = (kind ≡ BadName) × (name_in word ≡ None)
 IsWrong table Number word kind = (kind ≡ BadNumber) × (number_in word ≡ None)
 IsWrong table Flag word kind = (kind ≡ BadName) × IsNoFlag word
 IsWrong table Hex word kind = (kind ≡ BadHex) × IsNoHex word
 
+-- one of these words has a fault of this kind in its role
+abbrev pub IsAnyWrong : Table → List Role → List (List ℕ) → ScriptFaultKind → Type 0
+IsAnyWrong table roles words kind = Any (λ (both : Role × List ℕ). IsWrong table both.0 both.1 kind) (zip roles words)
+
 -- Words in these roles have a fault of this kind: they are too few or too many, or one of them has it.
 abbrev pub AreWrong : Table → List Role → List (List ℕ) → ScriptFaultKind → Type 0
-AreWrong table roles words kind = ((kind ≡ BadCount) × (length words ≢ length roles))
-    ⊎ Any (λ (both : Role × List ℕ). IsWrong table both.0 both.1 kind) (zip roles words)
+AreWrong table roles words kind = ((kind ≡ BadCount) × (length words ≢ length roles)) ⊎ IsAnyWrong table roles words kind
 
 -- a line of these words has a fault of this kind
 abbrev pub HasFault : Table → List (List ℕ) → ScriptFaultKind → Type 0

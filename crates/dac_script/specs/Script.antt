@@ -1,6 +1,6 @@
--- A whole script, of `sim` or of `live`: by what the words of a line say, and by which faults they have.
-use Rattle.std.specs.Prelude.{◌≡◌, ℕ, ◌-◌, ◌<◌, Bool, true, false, not, List, [], ◌∷◌, All, map, filter, take, Some, Ok, Err, Result, slice_get, ◌==◌}
-use Rattle.std.specs.List.{slice_split}
+-- A whole script, of `sim` or of `live`: by which words spell a line, and which faults words have.
+use Rattle.std.specs.Prelude.{◌≡◌, ◌↔◌, ℕ, ◌-◌, ◌<◌, Bool, true, false, not, List, [], ◌∷◌, All, filter, take, Some, Ok, Result, slice_get, ◌==◌}
+use Rattle.std.specs.List.{slice_split, AllZip}
 use Rattle.std.specs.Result.{MatchResult}
 use Rattle.dac_config.specs.Table.{Table}
 use Rattle.dac_script.specs.declared.failure.Failure.{Failure}
@@ -8,6 +8,7 @@ use Rattle.dac_script.specs.declared.failure.Failure.TheVariants as failure
 use Rattle.dac_script.specs.declared.fault.ScriptFault.{ScriptFault}
 use Rattle.dac_script.specs.declared.fault.ScriptFaultKind.{ScriptFaultKind}
 use Rattle.dac_script.specs.Words.{words_of}
+use Rattle.dac_script.specs.Forms.{HasWords}
 use Rattle.dac_script.specs.LineFaults.{IsFaultless, IsLeast}
 
 -- the lines of a text stand between its line feeds
@@ -19,34 +20,43 @@ abbrev pub is_said : List ℕ → Bool
 is_said [] = false
 is_said (b ∷ bs) = not (b == 37)
 
--- a line that can be read
-abbrev pub readable : {Line : Type 0} → Line → Result Line ScriptFaultKind
-readable said = Ok said
+-- scripts in general, by which words spell a line and which kinds of fault words have
+module _ {Line : Type 0} (Spells : Table → Line → List (List ℕ) → Type 0)
+    (HasFault : Table → List (List ℕ) → ScriptFaultKind → Type 0) where
+  -- Words that spell a line have no fault, and spell no other line.
+  abbrev pub IsExact : Type 0
+  IsExact = (table : Table) (line : Line) (words : List (List ℕ)) → Spells table line words
+      → IsFaultless (HasFault table words) × ((other : Line) → Spells table other words → other ≡ line)
 
--- lines in general, by what their words say
-module _ {Line : Type 0} (read : Table → List (List ℕ) → Result Line ScriptFaultKind) where
-  -- what a line says
-  abbrev pub line_in : Table → List ℕ → Result Line ScriptFaultKind
-  line_in table line = read table (words_of line)
+  -- What is read of words: the line that they spell, if they spell one. Otherwise it is the least kind of fault that they
+  -- have.
+  pub record IsReading (table : Table) (words : List (List ℕ)) (said : Result Line ScriptFaultKind) : Type 0 where
+    pub judged : MatchResult said (λ line. Spells table line words × IsFaultless (HasFault table words)) (IsLeast (HasFault table words))
+    pub exact : (line : Line) → Spells table line words → said ≡ Ok line
 
-  -- why the line of this number isn't read: its fault, or `NoMemory`
+  -- a line of a text spells this: the words between its spaces do
+  abbrev pub IsSpelling : Table → Line → List ℕ → Type 0
+  IsSpelling table said line = (words : List (List ℕ)) × HasWords words line × Spells table said words
+
+  -- Whatever is read of the words of a line, it is this exactly if the line spells this.
+  abbrev pub IsAcceptedInWords : Type 0
+  IsAcceptedInWords = (table : Table) (said : Line) (line : List ℕ) (read : Result Line ScriptFaultKind)
+      → IsReading table (words_of line) read → (read ≡ Ok said) ↔ IsSpelling table said line
+
+  -- why the line of this number isn't read: its least fault, or `NoMemory`
   abbrev pub IsLineFailure : Table → ℕ → List ℕ → Failure → Type 0
   IsLineFailure table number line (failure.Input fault) = ⊥
   IsLineFailure table number line (failure.Config fault) = ⊥
-  IsLineFailure table number line (failure.Script fault) = (fault.line ≡ number) × (line_in table line ≡ Err fault.kind)
+  IsLineFailure table number line (failure.Script fault) = (fault.line ≡ number) × IsLeast (HasFault table (words_of line)) fault.kind
   IsLineFailure table number line failure.NoMemory = Unit {0}
 
--- scripts in general, by what words say and by which kinds of fault they have
-module _ {Line : Type 0} (read : Table → List (List ℕ) → Result Line ScriptFaultKind)
-    (HasFault : Table → List (List ℕ) → ScriptFaultKind → Type 0) where
-  -- words say something if they have no fault, and else are answered the least kind of fault that they have
-  abbrev pub IsJudged : Type 0
-  IsJudged = (table : Table) (words : List (List ℕ))
-      → MatchResult (read table words) (λ _. IsFaultless (HasFault table words)) (IsLeast (HasFault table words))
+  -- a line of a text spells this
+  abbrev pub LineSpells : Table → List ℕ → Line → Type 0
+  LineSpells table line said = Spells table said (words_of line)
 
-  -- of these lines, those that say something have no fault and say this, in their order
+  -- of these lines, those that say something have no fault and spell this, in their order
   pub record ReadsAs (table : Table) (lines : List (List ℕ)) (script : List Line) : Type 0 where
-    pub said : map (line_in read table) (filter is_said lines) ≡ map readable script
+    pub said : AllZip (LineSpells table) (filter is_said lines) script
     pub faultless : All (λ line. IsFaultless (HasFault table (words_of line))) (filter is_said lines)
 
   -- the fault of the first line that has one, and of that line the least kind: all lines before it can be read
@@ -57,7 +67,6 @@ module _ {Line : Type 0} (read : Table → List (List ℕ) → Result Line Scrip
     pub line : List ℕ
     pub stands : slice_get lines (fault.line - 1) ≡ Some line
     pub said : is_said line ≡ true
-    pub answered : line_in read table line ≡ Err fault.kind
     pub least : IsLeast (HasFault table (words_of line)) fault.kind
 
   -- why a script isn't read: its first fault, or `NoMemory`

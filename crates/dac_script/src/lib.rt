@@ -1,14 +1,13 @@
-//! What an input of `distac sim` says: a configuration, a line `--`, and a script, line by line.
+//! Inputs of `distac sim` and `distac live`: a configuration, a line `--`, and a script, line by line.
 //!
-//! [`prepare`] reads a whole input, or says which fault it has. An input is parted at its first line `--`. A script
-//! is read exactly, up to the first fault of the first line that has one. [`laws`] has what an accepted line is, in words.
-//! Nothing is played or printed here.
+//! [`prepare`] and [`prepare_live`] read a whole input, or return its first fault. An input is split at its first line `--`.
+//! A script is read up to the first fault of the first line that has one. Nothing is run or printed here.
 //!
-//! Inputs are read alike whatever kind of lines their script has: the kind, as the trait [`ReadsLine`] has it, says how
-//! the words of one line are read.
+//! The first word of a line determines the roles of the other words. One reader reads words by their roles, for both kinds
+//! of scripts, and returns the least fault. [`laws`] states which lines are accepted. The trait [`ReadsLine`] is what a kind
+//! of lines provides, so that whole inputs of both kinds are read alike.
 #![tactic(auto)]
 
-mod asked;
 mod byte_list;
 mod failure;
 mod fault;
@@ -16,18 +15,25 @@ mod input;
 pub mod laws;
 mod line;
 mod lines;
+mod live_line;
+mod live_preparing;
+mod live_script;
 mod preparing;
 mod script;
 mod source;
+mod values;
+mod verb;
 mod words;
 
-pub use asked::{actor, name_word, one};
 pub use byte_list::ByteList;
 pub use failure::Failure;
 pub use fault::{InputFault, ScriptFault, ScriptFaultKind};
 pub use input::{MAX_INPUT, read_input, split_input};
-pub use line::{ScriptLine, line_of};
+pub use line::{Deed, ScriptLine, line_of};
 pub use lines::{ReadsLine, is_said, read_lines};
+pub use live_line::{LiveLine, live_line_of};
+pub use live_preparing::prepare_live;
+pub use live_script::read_live_script;
 pub use preparing::{prepare, prepare_lines};
 pub use script::read_script;
 pub use source::{MAX_READS, Progress, Source};

@@ -1,9 +1,11 @@
 //! Scripts of any kind of lines.
 
-ghost use Rattle.std.specs.Prelude.{◌≡◌, ℕ, true, List, [], ◌∷◌, ◌++◌, Result, IfOk, IfErr, OnOk, All, map};
+ghost use Rattle.std.specs.Prelude.{◌≡◌, ℕ, true, List, [], ◌∷◌, ◌++◌, IfOk, IfErr, OnOk, All, map};
 ghost use Rattle.dac_config.specs.Table.{Table, node_count};
 ghost use Rattle.dac_script.specs.declared.fault.ScriptFaultKind.{ScriptFaultKind as FaultKind};
-ghost use Rattle.dac_script.specs.Script.{lines_of, is_said, line_in, IsJudged, ReadsAs, IsScriptFailure, IsLineFailure};
+ghost use Rattle.dac_script.specs.LineFaults.{IsFaultless};
+ghost use Rattle.dac_script.specs.Words.{words_of as split_words};
+ghost use Rattle.dac_script.specs.Script.{lines_of, is_said, IsReading, ReadsAs, IsScriptFailure, IsLineFailure};
 
 use crate::failure::Failure;
 use crate::fault::{ScriptFault, ScriptFaultKind};
@@ -15,27 +17,24 @@ use std::alloc::Global;
 
 /// A kind of lines, of which a script may be made: those of `sim` and those of `live`.
 pub trait ReadsLine: Drop {
-    /// What the words of a line say.
-    ghost said_by: { Table → List (List ℕ) → Result Self FaultKind };
+    /// These words spell this line.
+    ghost spells: { Table → Self → List (List ℕ) → Type 0 };
 
-    /// Which kinds of fault they have.
+    /// Which kinds of fault words have.
     ghost has_fault: { Table → List (List ℕ) → FaultKind → Type 0 };
 
     /// A line names nodes below this number.
     ghost has_actors: { ℕ → Self → Type 0 };
 
-    /// What the words of a line say, or the first kind of fault that they have.
+    /// Reads the words of a line. Of its faults it returns the least kind.
     fn read_words(
         alloc: Global,
         config: &Config,
         words: &[&[u8]],
     ) -> Result<Result<Self, ScriptFaultKind>, NoMemory>
-        ensures line { IfOk result
-            (λ said. said ≡ said_by config.now (map (λ word. word.now) words.now)) }
+        ensures read { IfOk result
+            (IsReading spells has_fault config.now (map (λ word. word.now) words.now)) }
         ensures actors { IfOk result (λ said. IfOk said (has_actors (node_count config.now))) };
-
-    /// A line is read if it has no fault, and else answered the least kind of fault that it has.
-    ghost is_judged: { IsJudged said_by has_fault };
 }
 
 /// Whether the line says something: empty lines and lines that begin with `%` don't.
@@ -55,9 +54,11 @@ fn read_line<L: ReadsLine>(
     number: usize,
     line: &[u8],
 ) -> Result<L, Failure>
-    ensures ok { IfOk result (λ said. line_in L.said_by config.now line.now ≡ Ok said) }
+    ensures ok { IfOk result
+        (λ said. L.spells config.now said (split_words line.now)
+        × IsFaultless (L.has_fault config.now (split_words line.now))) }
     ensures actors { IfOk result (L.has_actors (node_count config.now)) }
-    ensures fault { IfErr result (IsLineFailure L.said_by config.now number line.now) }
+    ensures fault { IfErr result (IsLineFailure L.spells L.has_fault config.now number line.now) }
 {
     let words = words_of(alloc, line)?;
     match L::read_words(alloc, config, &words)? {
@@ -75,12 +76,12 @@ fn read_next<L: ReadsLine>(
     script: &mut Vec<L>,
 ) -> Result<(), Failure>
     ensures ok { OnOk result ((before : List (List ℕ))
-        → ReadsAs L.said_by L.has_fault config.now before script.old.items
-        → ReadsAs L.said_by L.has_fault config.now (before ++ line.now ∷ []) script.new.items) }
+        → ReadsAs L.spells L.has_fault config.now before script.old.items
+        → ReadsAs L.spells L.has_fault config.now (before ++ line.now ∷ []) script.new.items) }
     ensures actors { OnOk result (All (L.has_actors (node_count config.now)) script.old.items
         → All (L.has_actors (node_count config.now)) script.new.items) }
     ensures fault { IfErr result (λ why. (is_said line.now ≡ true)
-        × IsLineFailure L.said_by config.now number line.now why) }
+        × IsLineFailure L.spells L.has_fault config.now number line.now why) }
 {
     if is_said(line) {
         script.push(read_line(alloc, config, number, line)?)?;
@@ -99,10 +100,10 @@ pub fn read_lines<L: ReadsLine>(
     text: &[u8],
 ) -> Result<Vec<L>, Failure>
     ensures ok { IfOk result
-        (λ script. ReadsAs L.said_by L.has_fault config.now (lines_of text.now) script.items) }
+        (λ script. ReadsAs L.spells L.has_fault config.now (lines_of text.now) script.items) }
     ensures actors { IfOk result (λ script. All (L.has_actors (node_count config.now)) script.items) }
     ensures fault { IfErr result
-        (IsScriptFailure L.said_by L.has_fault config.now (lines_of text.now)) }
+        (IsScriptFailure L.spells L.has_fault config.now (lines_of text.now)) }
 {
     let mut script = Vec::new(alloc);
     let mut rest = text;

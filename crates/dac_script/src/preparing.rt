@@ -2,7 +2,7 @@
 
 ghost use Rattle.std.specs.Prelude.{◌≡◌, IfOk, IfErr, IfSome, All};
 ghost use Rattle.dac_config.specs.Table.{node_count};
-ghost use Rattle.dac_script.specs.Line.{HasActors};
+ghost use Rattle.dac_script.specs.Actors.{HasActors};
 ghost use Rattle.dac_script.specs.Inputs.{HasParts, IsPartsFailure, SaysAll, IsInputFailure, SaysScript, IsFailureOf};
 ghost use Rattle.dac_script.specs.Input.{IsReadWithinBound};
 ghost use Rattle.dac_script.specs.Sources.{IsReadBy};
@@ -20,9 +20,9 @@ use std::io::Read;
 /// Reads both parts of an input: its configuration, and then its script.
 fn parts_of<L: ReadsLine>(alloc: Global, text: &[u8]) -> Result<(Config, Vec<L>), Failure>
     ensures says { IfOk result
-        (λ both. HasParts L.said_by L.has_fault text.now both.0 both.1.items) }
+        (λ both. HasParts L.spells L.has_fault text.now both.0 both.1.items) }
     ensures actors { IfOk result (λ both. All (L.has_actors (node_count both.0)) both.1.items) }
-    ensures fails { IfErr result (IsPartsFailure L.said_by L.has_fault text.now) }
+    ensures fails { IfErr result (IsPartsFailure L.spells L.has_fault text.now) }
 {
     let Some((config, script)) = split_input(text) else {
         return Err(Failure::Input(InputFault::NoScript));
@@ -40,10 +40,10 @@ pub fn prepare_lines<L: ReadsLine, R: Read>(
 ) -> Result<(Config, Vec<L>), Failure>
     ensures says { IfOk result
         (λ both. IfSome source.old.left
-        (λ bytes. SaysAll L.said_by L.has_fault bytes both.0 both.1.items)) }
+        (λ bytes. SaysAll L.spells L.has_fault bytes both.0 both.1.items)) }
     ensures actors { IfOk result (λ both. All (L.has_actors (node_count both.0)) both.1.items) }
     ensures fails { IfErr result
-        (λ why. IfSome source.old.left (λ bytes. IsInputFailure L.said_by L.has_fault bytes why)) }
+        (λ why. IfSome source.old.left (λ bytes. IsInputFailure L.spells L.has_fault bytes why)) }
     ensures reads { IsReadBy result source.new }
     // However it ends, no more was read than the bound and one byte.
     ensures bound { IsReadWithinBound source.old.left source.new.left }

@@ -2,7 +2,8 @@
 
 ghost use Rattle.std.specs.Prelude.{IfOk, IfErr, All};
 ghost use Rattle.dac_config.specs.Table.{node_count};
-ghost use Rattle.dac_script.specs.Line.{line_of, HasActors};
+ghost use Rattle.dac_script.specs.Actors.{HasActors};
+ghost use Rattle.dac_script.specs.Forms.{Spells};
 ghost use Rattle.dac_script.specs.LineFaults.{HasFault};
 ghost use Rattle.dac_script.specs.Script.{lines_of, ReadsAs, IsScriptFailure};
 
@@ -15,9 +16,7 @@ use dac_config::Config;
 use std::alloc::Global;
 
 impl ReadsLine for ScriptLine {
-    ghost use Rattle.dac_script.specs.laws.Judged.{judged};
-
-    ghost said_by = { line_of };
+    ghost spells = { Spells };
 
     ghost has_fault = { HasFault };
 
@@ -30,8 +29,6 @@ impl ReadsLine for ScriptLine {
     ) -> Result<Result<ScriptLine, ScriptFaultKind>, NoMemory> {
         line_of(alloc, config, words)
     }
-
-    ghost is_judged = { judged };
 }
 
 /// Reads a script. Its lines end at a line feed or at the end of the text, and are counted from 1. Empty lines and
@@ -41,9 +38,9 @@ impl ReadsLine for ScriptLine {
 /// memory is refused before a fault is met.
 pub fn read_script(alloc: Global, config: &Config, text: &[u8]) -> Result<Vec<ScriptLine>, Failure>
     ensures ok { IfOk result
-        (λ script. ReadsAs line_of HasFault config.now (lines_of text.now) script.items) }
+        (λ script. ReadsAs Spells HasFault config.now (lines_of text.now) script.items) }
     ensures actors { IfOk result (λ script. All (HasActors (node_count config.now)) script.items) }
-    ensures fault { IfErr result (IsScriptFailure line_of HasFault config.now (lines_of text.now)) }
+    ensures fault { IfErr result (IsScriptFailure Spells HasFault config.now (lines_of text.now)) }
 {
     read_lines(alloc, config, text)
 }

@@ -2,8 +2,7 @@
 use dac_base::NodeId;
 use dac_config::Config;
 use dac_live::{Ask, Gate, Line, Phase, are_runnable, run_live};
-use dac_live_play::dac_script::{Failure, read_script};
-use dac_live_script::read_live_script;
+use dac_live_play::dac_script::{Failure, read_live_script, read_script};
 use dac_messages::Event;
 use std::alloc::Global;
 use std::io::Print;

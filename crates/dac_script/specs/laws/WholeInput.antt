@@ -1,5 +1,5 @@
 -- From what was read to what the input says, of a script of `sim` or of `live`.
-use Rattle.std.proofs.Common.{◌≡◌, ℕ, List, Option, Some, None, Result, Err, Bool, true, false, sym, ap, subst, ◌∙◌}
+use Rattle.std.proofs.Common.{◌≡◌, ℕ, List, Option, Some, None, Err, Bool, true, false, sym, ap, subst, ◌∙◌}
 use Rattle.std.proofs.lemmas.Bool.{false≢true}
 use Rattle.std.specs.Prelude.{IfSome}
 use Rattle.dac_tokens.specs.declared.fault.ConfigFault.{ConfigFault}
@@ -35,9 +35,9 @@ is_failed Failed = true
 ended_not_failed : Ended ≡ Failed → ⊥
 ended_not_failed same = false≢true (ap is_failed same)
 
-module _ {Line : Type 0} (read : Table → List (List ℕ) → Result Line ScriptFaultKind)
+module _ {Line : Type 0} (Spells : Table → Line → List (List ℕ) → Type 0)
     (HasFault : Table → List (List ℕ) → ScriptFaultKind → Type 0) where
-  pub read_fails : (a : Option (List ℕ)) (why : Failure) → IsReadFailure MAX_INPUT a why → IfSome a (λ bytes. IsInputFailure read HasFault bytes why)
+  pub read_fails : (a : Option (List ℕ)) (why : Failure) → IsReadFailure MAX_INPUT a why → IfSome a (λ bytes. IsInputFailure Spells HasFault bytes why)
   read_fails None (failure.Input TooLong) fails = tt
   read_fails (Some bytes) (failure.Input TooLong) fails = fails
   read_fails None why fails = tt
@@ -48,7 +48,7 @@ module _ {Line : Type 0} (read : Table → List (List ℕ) → Result Line Scrip
   read_fails (Some bytes) failure.NoMemory fails = tt
 
   -- what fails in the parts of a text that isn't too long
-  pub parts_fail : (text : List ℕ) (why : Failure) → IsTaken text → IsPartsFailure read HasFault text why → IsInputFailure read HasFault text why
+  pub parts_fail : (text : List ℕ) (why : Failure) → IsTaken text → IsPartsFailure Spells HasFault text why → IsInputFailure Spells HasFault text why
   parts_fail text (failure.Input TooLong) taken fails = absurd fails
   parts_fail text (failure.Input NoScript) taken fails = (taken, fails)
   parts_fail text (failure.Input Read) taken fails = absurd fails
@@ -57,7 +57,7 @@ module _ {Line : Type 0} (read : Table → List (List ℕ) → Result Line Scrip
   parts_fail text failure.NoMemory taken fails = tt
 
   -- the source of an input whose parts fail was read to its end
-  pub left_by_parts : (text : List ℕ) (source : Sourced) (why : Failure) → source.progress ≡ Ended → IsPartsFailure read HasFault text why → IsLeftBy why source
+  pub left_by_parts : (text : List ℕ) (source : Sourced) (why : Failure) → source.progress ≡ Ended → IsPartsFailure Spells HasFault text why → IsLeftBy why source
   left_by_parts text source (failure.Input TooLong) ended fails = absurd fails
   left_by_parts text source (failure.Input NoScript) ended fails = ended
   left_by_parts text source (failure.Input Read) ended fails = absurd fails
@@ -65,14 +65,14 @@ module _ {Line : Type 0} (read : Table → List (List ℕ) → Result Line Scrip
   left_by_parts text source (failure.Script fault) ended fails = ended
   left_by_parts text source failure.NoMemory ended fails = λ failed. ended_not_failed (sym ended ∙ failed)
 
-  config_fails_by : (kind : FaultKind) (text config script : List ℕ) (fault : ConfigFault) → IsParted text config script → OrMemory kind fault.at (config_at config ≡ Err fault) → IsPartsFailure read HasFault text (failure_of_kind kind fault)
+  config_fails_by : (kind : FaultKind) (text config script : List ℕ) (fault : ConfigFault) → IsParted text config script → OrMemory kind fault.at (config_at config ≡ Err fault) → IsPartsFailure Spells HasFault text (failure_of_kind kind fault)
   config_fails_by NoMemory text config script fault parted fails = tt
   config_fails_by _ text config script fault parted fails = record { config = config; script = script; parted = parted; fault_is = fails }
 
-  pub config_fails : (text config script : List ℕ) (fault : ConfigFault) (why : Failure) → IsParted text config script → OrMemory fault.kind fault.at (config_at config ≡ Err fault) → why ≡ failure_of_kind fault.kind fault → IsPartsFailure read HasFault text why
-  config_fails text config script fault why parted fails is_why = subst (IsPartsFailure read HasFault text) (sym is_why) (config_fails_by fault.kind text config script fault parted fails)
+  pub config_fails : (text config script : List ℕ) (fault : ConfigFault) (why : Failure) → IsParted text config script → OrMemory fault.kind fault.at (config_at config ≡ Err fault) → why ≡ failure_of_kind fault.kind fault → IsPartsFailure Spells HasFault text why
+  config_fails text config script fault why parted fails is_why = subst (IsPartsFailure Spells HasFault text) (sym is_why) (config_fails_by fault.kind text config script fault parted fails)
 
-  pub script_has : (text config script : List ℕ) (table : Table) (why : Failure) → IsParted text config script → IsConfigOf config table → IsScriptFailure read HasFault table (lines_of script) why → IsPartsFailure read HasFault text why
+  pub script_has : (text config script : List ℕ) (table : Table) (why : Failure) → IsParted text config script → IsConfigOf config table → IsScriptFailure Spells HasFault table (lines_of script) why → IsPartsFailure Spells HasFault text why
   script_has text config script table (failure.Input fault) parted table_is fails = absurd fails
   script_has text config script table (failure.Config fault) parted table_is fails = absurd fails
   script_has text config script table (failure.Script fault) parted table_is fails = record { config = config; script = script; parted = parted; table = table; table_is = table_is; fault_is = fails }

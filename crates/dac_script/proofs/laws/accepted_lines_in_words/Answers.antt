@@ -1,12 +1,14 @@
-use Rattle.dac_script.proofs.Accepted.{lines_in_words, accepted_in_words}
+use Rattle.dac_script.specs.Forms.{Spells}
+use Rattle.dac_script.specs.LineFaults.{HasFault}
 use Rattle.dac_script.specs.laws.Spaces.{words_in_words}
+use Rattle.dac_script.proofs.SpelledLines.{accepted, lines_in_words}
 use Rattle.dac_script.proofs.laws.accepted_lines_in_words.Goals as goal
-
-pub returns-clause-accepted : goal.returns-clause-accepted
-returns-clause-accepted c = accepted_in_words
 
 pub returns-clause-words : goal.returns-clause-words
 returns-clause-words c = words_in_words
 
 pub returns-clause-lines : goal.returns-clause-lines
 returns-clause-lines c = lines_in_words
+
+pub returns-clause-accepted : goal.returns-clause-accepted
+returns-clause-accepted c = accepted Spells HasFault

@@ -1,0 +1,142 @@
+//! One line of a script of `distac live`.
+
+ghost use Rattle.std.specs.Prelude.{◌≡◌, IfOk, MatchResult, map};
+ghost use Rattle.dac_config.specs.Table.{node_count};
+ghost use Rattle.dac_script.specs.Forms.{AllTell};
+ghost use Rattle.dac_script.specs.LineFaults.{IsLeast};
+ghost use Rattle.dac_script.specs.LiveCallers.{is_caller_word, caller_of, with_caller, HasActors};
+ghost use Rattle.dac_script.specs.LiveFaults.{IsAskedWrong, HasFault};
+ghost use Rattle.dac_script.specs.LiveForms.{asked_form, SpellsLive};
+ghost use Rattle.dac_script.specs.Script.{IsReading};
+
+use crate::byte_list::ByteList;
+use crate::fault::ScriptFaultKind;
+use crate::line::{Deed, deed_for};
+use crate::values::{Values, least_of, values_of};
+use crate::verb::{Role, ask_of, ask_roles};
+use dac_base::{NoMemory, NodeId};
+use dac_config::Config;
+use std::alloc::Global;
+
+/// A line that says something.
+#[derive(Drop)]
+pub enum LiveLine {
+    /// A caller of a node asks this of it.
+    Do {
+        /// The node.
+        node: NodeId,
+        /// The caller's number, from 1 to 4.
+        caller: u8,
+        /// What it asks.
+        deed: Deed,
+    },
+    /// A caller reads the page of its node.
+    Read {
+        /// The node.
+        node: NodeId,
+        /// The caller's number, from 1 to 4.
+        caller: u8,
+    },
+    /// These bytes are read as a message or an operation, which comes to no node.
+    Feed(ByteList),
+    /// A phase ends.
+    Phase,
+}
+
+/// Whether the word is the number of a caller, or of none: it has digits alone.
+fn is_caller_word(word: &[u8]) -> bool
+    ensures { result ≡ is_caller_word word.now }
+{
+    word.iter().all(|byte| byte.is_ascii_digit())
+}
+
+/// The caller's number that the word is: from 1 to 4, with no zero before it.
+fn caller_of(word: &[u8]) -> Option<u8>
+    ensures { result ≡ caller_of word.now }
+{
+    match word {
+        b"1" => Some(1),
+        b"2" => Some(2),
+        b"3" => Some(3),
+        b"4" => Some(4),
+        _ => None,
+    }
+}
+
+/// What a caller asks of which node, by the words after its number. `None` reads the node's page.
+#[tactic(auto, using(crate::proofs::LiveLines::asked_fails, crate::proofs::LiveLines::nothing_asked))]
+fn asked(
+    alloc: Global,
+    config: &Config,
+    words: &[&[u8]],
+) -> Result<Result<(NodeId, Option<Deed>), ScriptFaultKind>, NoMemory>
+    ensures { IfOk result
+        (λ said. MatchResult said
+        (λ both. AllTell config.now (asked_form both) (map (λ word. word.now) words.now))
+        (IsLeast (IsAskedWrong config.now (map (λ word. word.now) words.now)))) }
+{
+    let Some((first, rest)) = words.split_first() else {
+        return Ok(Err(ScriptFaultKind::BadCount));
+    };
+    if *first == b"read".as_slice() {
+        return match values_of(alloc, config, &[Role::Actor], rest)? {
+            Ok(values) => Ok(Ok((values.actor, None))),
+            Err(kind) => Ok(Err(kind)),
+        };
+    }
+    let Some(ask) = ask_of(first) else {
+        return Ok(Err(ScriptFaultKind::BadWord));
+    };
+    match values_of(alloc, config, ask_roles(ask), rest)? {
+        Ok(values) => Ok(Ok((values.actor, Some(deed_for(ask, &values))))),
+        Err(kind) => Ok(Err(kind)),
+    }
+}
+
+/// A line of this caller. A number that is no caller's is a fault like any of the other words: the least one is returned.
+fn with_caller(
+    caller: Option<u8>,
+    said: Result<(NodeId, Option<Deed>), ScriptFaultKind>,
+) -> Result<LiveLine, ScriptFaultKind>
+    ensures { result ≡ with_caller caller said }
+{
+    match (caller, said) {
+        (Some(caller), Ok((node, Some(deed)))) => Ok(LiveLine::Do { node, caller, deed }),
+        (Some(caller), Ok((node, None))) => Ok(LiveLine::Read { node, caller }),
+        (Some(_), Err(kind)) => Err(kind),
+        (None, Ok(_)) => Err(ScriptFaultKind::BadNumber),
+        (None, Err(kind)) => Err(least_of(ScriptFaultKind::BadNumber, kind)),
+    }
+}
+
+/// Reads the words of a line. Of its faults it returns the least kind.
+pub fn live_line_of(
+    alloc: Global,
+    config: &Config,
+    words: &[&[u8]],
+) -> Result<Result<LiveLine, ScriptFaultKind>, NoMemory>
+    ensures read { IfOk result
+        (IsReading SpellsLive HasFault config.now (map (λ word. word.now) words.now)) }
+    ensures actors { IfOk result (λ said. IfOk said (HasActors (node_count config.now))) }
+{
+    let Some((first, rest)) = words.split_first() else {
+        return Ok(Err(ScriptFaultKind::BadWord));
+    };
+    if *first == b"phase".as_slice() {
+        return match values_of(alloc, config, &[], rest)? {
+            Ok(_) => Ok(Ok(LiveLine::Phase)),
+            Err(kind) => Ok(Err(kind)),
+        };
+    }
+    if *first == b"feed".as_slice() {
+        return match values_of(alloc, config, &[Role::Hex], rest)? {
+            Ok(Values { bytes, .. }) => Ok(Ok(LiveLine::Feed(bytes))),
+            Err(kind) => Ok(Err(kind)),
+        };
+    }
+    if !is_caller_word(first) {
+        return Ok(Err(ScriptFaultKind::BadWord));
+    }
+    let said = asked(alloc, config, rest)?;
+    Ok(with_caller(caller_of(first), said))
+}

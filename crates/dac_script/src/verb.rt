@@ -1,0 +1,154 @@
+//! The first word of a line, and the roles of the words after it.
+
+ghost use Rattle.std.specs.Prelude.{◌≡◌};
+ghost use Rattle.dac_script.specs.Verbs.{ask_of, verb_of};
+ghost use Rattle.dac_script.specs.LineFaults.{ask_roles, roles_of, AreDistinct};
+
+/// What an operator, or a caller of a node, asks of a node.
+#[derive(Clone, Copy, Debug, PartialEq, Eq)]
+pub(crate) enum Ask {
+    Boot,
+    Crash,
+    Tick,
+    Down,
+    Permit,
+    Start,
+    Stop,
+    Drain,
+    Takeover,
+}
+
+/// What the first word of a line asks for.
+#[derive(Clone, Copy, Debug, PartialEq, Eq)]
+pub(crate) enum Verb {
+    Ask(Ask),
+    Ship,
+    Hear,
+    Hand,
+    Share,
+    Page,
+    State,
+    Same,
+    Bytes,
+    Feed,
+}
+
+/// What a word must be. No two words of a line have the same role.
+#[derive(Clone, Copy, Debug, PartialEq, Eq)]
+pub(crate) enum Role {
+    /// The node at which it happens.
+    Actor,
+    /// Another node of the configuration.
+    Other,
+    /// The application that it is about.
+    Application,
+    /// The node that it is about.
+    About,
+    /// A number.
+    Number,
+    /// `true` or `false`.
+    Flag,
+    /// Bytes, in hexadecimal digits.
+    Hex,
+}
+
+/// The request that the word stands for.
+pub(crate) fn ask_of(word: &[u8]) -> Option<Ask>
+    ensures { result ≡ ask_of word.now }
+{
+    if word == b"boot".as_slice() {
+        return Some(Ask::Boot);
+    }
+    if word == b"crash".as_slice() {
+        return Some(Ask::Crash);
+    }
+    if word == b"tick".as_slice() {
+        return Some(Ask::Tick);
+    }
+    if word == b"down".as_slice() {
+        return Some(Ask::Down);
+    }
+    if word == b"permit".as_slice() {
+        return Some(Ask::Permit);
+    }
+    if word == b"start".as_slice() {
+        return Some(Ask::Start);
+    }
+    if word == b"stop".as_slice() {
+        return Some(Ask::Stop);
+    }
+    if word == b"drain".as_slice() {
+        return Some(Ask::Drain);
+    }
+    if word == b"takeover".as_slice() {
+        return Some(Ask::Takeover);
+    }
+    None
+}
+
+/// The verb that the word is.
+pub(crate) fn verb_of(word: &[u8]) -> Option<Verb>
+    ensures { result ≡ verb_of word.now }
+{
+    if word == b"ship".as_slice() {
+        return Some(Verb::Ship);
+    }
+    if word == b"hear".as_slice() {
+        return Some(Verb::Hear);
+    }
+    if word == b"hand".as_slice() {
+        return Some(Verb::Hand);
+    }
+    if word == b"share".as_slice() {
+        return Some(Verb::Share);
+    }
+    if word == b"page".as_slice() {
+        return Some(Verb::Page);
+    }
+    if word == b"state".as_slice() {
+        return Some(Verb::State);
+    }
+    if word == b"same".as_slice() {
+        return Some(Verb::Same);
+    }
+    if word == b"bytes".as_slice() {
+        return Some(Verb::Bytes);
+    }
+    if word == b"feed".as_slice() {
+        return Some(Verb::Feed);
+    }
+    Some(Verb::Ask(ask_of(word)?))
+}
+
+/// The roles of the words after a request.
+pub(crate) fn ask_roles(ask: Ask) -> &'static [Role]
+    ensures roles { result.now ≡ ask_roles ask }
+    ensures distinct { AreDistinct result.now }
+{
+    match ask {
+        Ask::Boot | Ask::Tick => &[Role::Actor, Role::Number],
+        Ask::Crash => &[Role::Actor],
+        Ask::Down => &[Role::Actor, Role::About],
+        Ask::Permit => &[Role::Actor, Role::Application, Role::About, Role::Flag],
+        Ask::Start | Ask::Stop => &[Role::Actor, Role::Application, Role::About],
+        Ask::Drain => &[Role::Actor, Role::About, Role::Flag],
+        Ask::Takeover => &[Role::Actor, Role::Application],
+    }
+}
+
+/// The roles of the words after a verb.
+pub(crate) fn roles_of(verb: Verb) -> &'static [Role]
+    ensures roles { result.now ≡ roles_of verb }
+    ensures distinct { AreDistinct result.now }
+{
+    match verb {
+        Verb::Ask(ask) => ask_roles(ask),
+        Verb::Ship => &[Role::Actor, Role::About],
+        Verb::Hear | Verb::Hand => &[Role::Actor, Role::Number],
+        Verb::Share => &[],
+        Verb::Page | Verb::State => &[Role::Actor],
+        Verb::Same => &[Role::Actor, Role::Other],
+        Verb::Bytes => &[Role::Number],
+        Verb::Feed => &[Role::Hex],
+    }
+}
