@@ -110,6 +110,7 @@ fn with_caller(
 }
 
 /// Reads the words of a line. Of its faults it returns the least kind.
+#[tactic(auto, using(crate::proofs::LiveLines::read_actors))]
 pub fn live_line_of(
     alloc: Global,
     config: &Config,
