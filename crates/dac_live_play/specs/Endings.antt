@@ -47,11 +47,14 @@ call_name call.JournalFull = codes "JournalFull"
 call_name (call.Refused place why) = codes "Refused"
 call_name call.NoMemory = codes "NoMemory"
 
+-- a record of this node's site is another one
+abbrev pub mismatch_text : Table → NodeId → ℕ → List ℕ
+mismatch_text table node place = cause_text table (codes "Mismatch") node ++ (codes ", record " ++ decimal place)
+
 -- why a site isn't closed at this node
 abbrev pub closing_text : Table → NodeId → CloseFault → List ℕ
 closing_text table node closing.SeatMissing = cause_text table (codes "SeatMissing") node
-closing_text table node (closing.Mismatch place) =
-    cause_text table (codes "Mismatch") node ++ (codes ", record " ++ decimal place)
+closing_text table node (closing.Mismatch place) = mismatch_text table node place
 
 -- What the standard error says of a run that wasn't ended: the cause, and the node or the link. It says nothing of a
 -- fault that has no more than its name.

@@ -1,7 +1,7 @@
 //! How `distac live` ends, and the lines of its faults.
 
 ghost use Rattle.std.specs.Prelude.{◌≡◌, ◌++◌, IfOk, OnOk};
-ghost use Rattle.dac_live_play.specs.Endings.{status_of, run_fault_text, weave_fault_text, fault_text, cause_text, opening_name, call_name, closing_text, where_text, IsRefusal, IsGivenUp};
+ghost use Rattle.dac_live_play.specs.Endings.{status_of, run_fault_text, weave_fault_text, fault_text, cause_text, opening_name, call_name, mismatch_text, closing_text, where_text, IsRefusal, IsGivenUp};
 
 use crate::fault::PlayFault;
 use dac_base::{NoMemory, NodeId};
@@ -102,6 +102,23 @@ fn call_name(why: LiveFault) -> &'static str
     }
 }
 
+/// Puts behind a text that a record of a node's site is another one.
+fn put_mismatch(
+    alloc: Global,
+    text: &mut Vec<u8>,
+    config: &Config,
+    node: NodeId,
+    place: u64,
+) -> Result<(), NoMemory>
+    ensures { OnOk result
+        (text.new.items ≡ text.old.items ++ mismatch_text config.now node place) }
+{
+    put_cause(alloc, text, config, b"Mismatch", node)?;
+    let record = format!(in alloc; ", record {place}")?;
+    text.extend_from_slice(record.as_bytes())?;
+    Ok(())
+}
+
 /// Puts behind a text why the site of a node isn't closed.
 fn put_closing(
     alloc: Global,
@@ -114,12 +131,7 @@ fn put_closing(
 {
     match why {
         CloseFault::SeatMissing => put_cause(alloc, text, config, b"SeatMissing", node),
-        CloseFault::Mismatch { place } => {
-            put_cause(alloc, text, config, b"Mismatch", node)?;
-            let record = format!(in alloc; ", record {place}")?;
-            text.extend_from_slice(record.as_bytes())?;
-            Ok(())
-        }
+        CloseFault::Mismatch { place } => put_mismatch(alloc, text, config, node, place),
     }
 }
 
