@@ -6,6 +6,7 @@ ghost use Rattle.dac_journal.specs.declared.limits.TheConstants.{MAX_RECORDS as 
 ghost use Rattle.dac_journal.specs.Journals.{beginning_of, EndsAt};
 ghost use Rattle.dac_journal.specs.Going.{FitsBy, GoesOnBy, GoesTo, node_by};
 
+use crate::answers::is_no_memory;
 use crate::closed::Closed;
 use crate::limits::MAX_RECORDS;
 use crate::next::Next;
@@ -255,12 +256,4 @@ fn three_copies(change: &Change) -> Result<(Reply, Reply, Reply), NoMemory>
     let second = change.copy_reply()?;
     let third = change.copy_reply()?;
     Ok((one, second, third))
-}
-
-/// Whether memory was refused, so that nothing was answered.
-fn is_no_memory(why: Refusal) -> bool
-    ensures yes { result ≡ true → why ≡ Refusal.NoMemory }
-    ensures no { result ≡ false → why ≢ Refusal.NoMemory }
-{
-    why == Refusal::NoMemory
 }

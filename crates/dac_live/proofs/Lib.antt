@@ -1,6 +1,3 @@
 mod Followed
 mod Passed
 mod Repeated
-mod Seating
-mod Shipped
-mod Spoken

@@ -2,12 +2,14 @@ pub mod Asked
 pub mod Following
 pub mod Lines
 pub mod Nodes
-pub mod Pairs
 pub mod Reads
-pub mod Seating
 pub use Rattle.dac_sites.specs.Sites
 pub use Rattle.dac_crews.specs.RunFault
 pub use Rattle.dac_crews.specs.RunFaults
 pub use Rattle.dac_crews.specs.declared.phases.Ask
 pub use Rattle.dac_crews.specs.declared.phases.Line
 pub use Rattle.dac_crews.specs.declared.phases.Phase
+pub use Rattle.dac_phases.specs.Asks
+pub use Rattle.dac_phases.specs.Pairs
+pub use Rattle.dac_phases.specs.Phases
+pub use Rattle.dac_phases.specs.Seating

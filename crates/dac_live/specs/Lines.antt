@@ -1,7 +1,6 @@
--- What the lines of callers ask, and what they are answered.
-use Rattle.std.specs.Prelude.{⊤, ℕ, ◌≡◌, ◌<◌, ◌≤◌, ◌==◌, ◌&&◌, ◌++◌, ◌∷◌, [], All, Bool, true, false, List, Option, Some, None, Result, flat_map, if◌then◌else◌, length, zip}
+-- What the lines of callers are answered, and what their seats asked and were answered.
+use Rattle.std.specs.Prelude.{⊤, ℕ, ◌≡◌, ◌<◌, ◌≤◌, ◌++◌, ◌∷◌, [], All, List, Option, Some, None, Result, flat_map, if◌then◌else◌, length, zip}
 use Rattle.std.specs.List.{AllZip}
-use Rattle.dac_messages.specs.declared.event.Event.{Event}
 use Rattle.dac_messages.specs.declared.reply.Reply.{Reply}
 use Rattle.dac_events.specs.declared.refusal.Refusal.{Refusal}
 use Rattle.dac_pages.specs.declared.page.Page.{Page}
@@ -17,7 +16,8 @@ use Rattle.dac_crews.specs.declared.phases.Phase.{Phase}
 use Rattle.dac_live.specs.declared.report.LineAnswer.{LineAnswer}
 use Rattle.dac_live.specs.declared.report.LineAnswer.TheVariants.{Done, Fresh, Stale}
 use Rattle.dac_live.specs.Asked.{answer_one}
-use Rattle.dac_live.specs.Pairs.{records_at}
+use Rattle.dac_phases.specs.Asks.{is_of, asks_of}
+use Rattle.dac_phases.specs.Pairs.{records_at}
 
 -- ---- what a caller owes
 -- the line is one of a node that there is, and of a caller from 1 to 4
@@ -27,23 +27,6 @@ IsLineOf nodes line = (line.node.0 < nodes) × (1 ≤ line.caller) × (line.call
 -- all lines of the phase are
 abbrev pub HasLines : ℕ → Phase → Type 0
 HasLines nodes phase = All (IsLineOf nodes) phase.lines.items
-
--- ---- what a caller's lines ask
--- whether the line is this caller's of this node
-abbrev pub is_of : ℕ → ℕ → Line → Bool
-is_of node caller line = (line.node.0 == node) && (line.caller == caller)
-
-abbrev pub event_in : Ask → Option Event
-event_in (Do event) = Some event
-event_in Read = None
-
--- the event that this caller asks by the line, if any
-abbrev pub ask_one : ℕ → ℕ → Line → Option Event
-ask_one node caller line = if is_of node caller line then event_in line.what else None
-
--- the events that it asks over all phases, in order
-abbrev pub asks_of : ℕ → ℕ → List Phase → List Event
-asks_of node caller phases = flat_map (λ (p : Phase). found (ask_one node caller) p.lines.items) phases
 
 -- ---- what they are answered
 abbrev pub answer_in : LineAnswer → Option (Result Reply Refusal)
@@ -115,3 +98,10 @@ NodeHolds node phases answers records =
 abbrev pub CallersHold : List Phase → List (List LineAnswer) → List JournalValue → Type 0
 CallersHold phases answers closed =
     (node : ℕ) → node < length closed → NodeHolds node phases answers (records_at closed node)
+
+-- those of this node aren't, and those of nodes before it are
+pub record IsStrange (node : ℕ) (phases : List Phase) (answers : List (List LineAnswer)) (closed : List JournalValue)
+    : Type 0 where
+  pub within : node < length closed
+  pub strange : NodeHolds node phases answers (records_at closed node) → ⊥
+  pub before : (n : ℕ) → n < node → NodeHolds n phases answers (records_at closed n)

@@ -14,8 +14,9 @@ use Rattle.dac_crews.specs.declared.phases.Line.{Line}
 use Rattle.dac_crews.specs.declared.phases.Phase.{Phase}
 use Rattle.dac_live.specs.declared.report.LineAnswer.{LineAnswer}
 use Rattle.dac_live.specs.declared.report.LineAnswer.TheVariants.{Done, Fresh, Stale}
-use Rattle.dac_live.specs.Lines.{is_of, answer_in}
-use Rattle.dac_live.specs.Pairs.{records_at}
+use Rattle.dac_phases.specs.Asks.{is_of}
+use Rattle.dac_live.specs.Lines.{answer_in}
+use Rattle.dac_phases.specs.Pairs.{records_at}
 
 -- each line of each phase has an entry: the page that it read, or none
 abbrev pub AreNoted : List Phase → List (List (Option Page)) → Type 0

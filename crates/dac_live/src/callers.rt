@@ -1,42 +1,19 @@
-//! What a caller's seat asked, and what it was answered.
+//! What a caller's seat was answered, and whether that is what its lines were.
 
-ghost use Rattle.std.specs.Prelude.{◌≡◌, ◌≤◌, ◌++◌, ◌∷◌, ◌↔◌, [], true, map, length, IfOk, OnOk, IsTrue};
+ghost use Rattle.std.specs.Prelude.{◌≡◌, ◌≤◌, ◌++◌, ◌∷◌, ◌↔◌, [], map, length, IfOk, OnOk, IsTrue, MatchOption};
 ghost use Rattle.std.specs.Option.{option_copied};
 ghost use Rattle.dac_base.specs.declared.limits.TheConstants.{MAX_NODES};
-ghost use Rattle.dac_crews.specs.Compared.{found, event_one};
+ghost use Rattle.dac_crews.specs.Compared.{found};
 ghost use Rattle.dac_live.specs.Asked.{answer_one};
-ghost use Rattle.dac_live.specs.Lines.{AreAnswered, CallerHolds, NodeHolds, CallersHold};
+ghost use Rattle.dac_live.specs.Lines.{AreAnswered, CallerHolds, NodeHolds, CallersHold, IsStrange};
 
-use crate::lines::{asked_by, told_to};
+use crate::lines::told_to;
 use crate::lists::AnswerList;
 use dac_base::{NoMemory, NodeId};
-use dac_crews::{Answer, CALLERS, Closed, Phase, Record, event_of};
-use dac_messages::Event;
+use dac_crews::{Answer, CALLERS, Closed, Phase, Record};
+use dac_journal::same_answer;
+use dac_phases::{are_asked, asked_by};
 use std::alloc::Global;
-
-/// Whether the records of this seat ask these events, in order and no others.
-pub fn are_asked(asked: &[&Event], records: &[Record], seat: u16) -> bool
-    ensures { result ≡ true → found (event_one seat) records.now ≡ map (λ e. e.now) asked.now }
-{
-    let mut next = 0;
-    for i in 0..records.len() {
-        let one = &records[i];
-        match event_of(one, seat) {
-            Some(event) => {
-                if next >= asked.len() {
-                    return false;
-                }
-                let wanted = asked[next];
-                if !wanted.equal(event) {
-                    return false;
-                }
-                next += 1;
-            }
-            None => {}
-        }
-    }
-    next == asked.len()
-}
 
 /// What this seat's record was answered, if it is one.
 fn answer_of(one: &Record, seat: u16) -> Option<&Answer>
@@ -86,20 +63,10 @@ pub fn answers_of(alloc: Global, records: &[Record], seat: u16) -> Result<Vec<An
     Ok(all)
 }
 
-/// Whether the two are one answer.
-pub(crate) fn same_answer(answer: &Answer, other: &Answer) -> bool
-    ensures { IsTrue result ↔ (answer.now ≡ other.now) }
-{
-    match (answer, other) {
-        (Ok(reply), Ok(other_reply)) => reply.equal(other_reply),
-        (Err(why), Err(other_why)) => why == other_why,
-        _ => false,
-    }
-}
-
 /// Whether the records of this seat were answered so, in order and no others.
 pub fn are_told(told: &[&Answer], records: &[Record], seat: u16) -> bool
-    ensures { result ≡ true → found (answer_one seat) records.now ≡ map (λ a. a.now) told.now }
+    ensures { IsTrue result
+        ↔ (found (answer_one seat) records.now ≡ map (λ a. a.now) told.now) }
 {
     let mut next = 0;
     for i in 0..records.len() {
@@ -132,7 +99,7 @@ fn caller_holds(
 ) -> Result<bool, NoMemory>
     requires { AreAnswered phases.now answers.now }
     ensures { IfOk result
-        (λ b. b ≡ true → CallerHolds node.0 caller phases.now answers.now records.now) }
+        (λ b. IsTrue b ↔ CallerHolds node.0 caller phases.now answers.now records.now) }
 {
     let seat = u16::from(caller);
     let asked = asked_by(alloc, phases, node, caller)?;
@@ -152,7 +119,8 @@ fn node_holds(
     records: &[Record],
 ) -> Result<bool, NoMemory>
     requires { AreAnswered phases.now answers.now }
-    ensures { IfOk result (λ b. b ≡ true → NodeHolds node.0 phases.now answers.now records.now) }
+    ensures { IfOk result
+        (λ b. IsTrue b ↔ NodeHolds node.0 phases.now answers.now records.now) }
 {
     for before in 0..CALLERS {
         let caller = before + 1;
@@ -174,7 +142,8 @@ pub fn strange_node(
     requires few { length closed.now ≤ MAX_NODES }
     requires answered { AreAnswered phases.now answers.now }
     ensures { IfOk result
-        (λ strange. strange ≡ None → CallersHold phases.now answers.now closed.now) }
+        (λ strange. MatchOption strange (CallersHold phases.now answers.now closed.now)
+        (λ node. IsStrange node.0 phases.now answers.now closed.now)) }
 {
     for i in 0..closed.len() {
         let one = &closed[i];

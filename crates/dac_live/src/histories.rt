@@ -1,37 +1,19 @@
 //! A journal's records, replayed once: the answers, the pages that were read, and the page after all of them.
 
-ghost use Rattle.std.specs.Prelude.{◌≡◌, ◌≢◌, ◌≤◌, true, All, IfErr, IfOk, IfSome, OnOk, length, map};
+ghost use Rattle.std.specs.Prelude.{◌≡◌, ◌≤◌, true, All, IfOk, IfSome, length, map};
 ghost use Rattle.std.specs.List.{AllWithin};
 ghost use Rattle.dac_crews.specs.Paged.{page_of, page_after};
 ghost use Rattle.dac_journal.specs.Journals.{beginning_of, AreHistory};
 ghost use Rattle.dac_journal.specs.Step.{Steps};
 ghost use Rattle.dac_live.specs.Reads.{IsPageOf};
 
-use crate::callers::same_answer;
 use crate::same_pages::same_page;
 use dac_base::{NoMemory, NodeId};
 use dac_config::Config;
-use dac_crews::{Answer, Page, Record};
-use dac_events::Refusal;
-use dac_journal::Node;
+use dac_crews::{Page, Record};
+use dac_journal::{Node, is_answered, same_answer};
 use dac_sites::page_of;
 use std::alloc::Global;
-
-/// Refuses an answer that memory was refused: nothing was answered.
-fn is_answered(answer: &Answer) -> Result<(), NoMemory>
-    ensures { OnOk result (IfErr answer.now (λ why. why ≢ Refusal.NoMemory)) }
-{
-    match answer {
-        Ok(_) => Ok(()),
-        Err(why) => {
-            if *why == Refusal::NoMemory {
-                Err(NoMemory)
-            } else {
-                Ok(())
-            }
-        }
-    }
-}
 
 /// The node goes on by what a record asks. It tells whether the node answers as the record says.
 fn repeats(config: &Config, me: NodeId, node: &mut Node, one: &Record) -> Result<bool, NoMemory>

@@ -4,22 +4,21 @@
 //! journal is a history of its node, and the rest of the report is compared with the journals before it is handed out.
 #![tactic(auto)]
 
-pub use callers::{answers_of, are_asked, are_told, strange_node};
-pub use dac_crews::{Ask, Closed, Gate, Line, Page, Phase, RunFault};
+pub use callers::{answers_of, are_told, strange_node};
+pub use dac_crews::{Ask, CALLERS, Closed, Gate, Line, Page, Phase, RunFault};
+pub use dac_phases::{are_asked, asked_by, is_of, lost_link, seats_are_in_order, stray_node};
 pub use dac_sites::{
     Answer, Call, CloseFault, Desk, LiveFault, OpenFault, PageReader, Receipt, Record, Seat, Site,
     SiteBlank, SiteName, blank_site, laws, open_site,
 };
 pub use dac_workers::{Reading, fresh_page, links};
-pub use lines::{are_answered, asked_by, told_to};
+pub use lines::{are_answered, told_to};
 pub use lists::{AnswerList, AnswersByPhase, ClosedList, PageList, ReadList, ReadsByPhase};
 pub use live::run_live;
 pub use nodes::last_pages;
 pub use owed::are_runnable;
 pub use pages::last_page;
-pub use pairs::lost_link;
 pub use report::{LineAnswer, LiveReport};
-pub use seats::seats_are_in_order;
 
 mod callers;
 mod handing;
@@ -30,9 +29,7 @@ mod live;
 mod nodes;
 mod owed;
 mod pages;
-mod pairs;
 mod reads;
 mod receipts;
 mod report;
 mod same_pages;
-mod seats;

@@ -1,73 +1,16 @@
-//! What the lines of callers ask, and what they are answered.
+//! What the lines of callers are answered.
 
 ghost use Rattle.std.specs.Prelude.{◌≡◌, ◌++◌, true, map, length, IfOk};
 ghost use Rattle.std.specs.Option.{option_copied};
 ghost use Rattle.dac_crews.specs.Compared.{found};
-ghost use Rattle.dac_live.specs.Lines.{is_of, ask_one, asks_of, told_one, told_in, told_of, Answers, LinesAnswered, AreAnswered};
+ghost use Rattle.dac_live.specs.Lines.{told_one, told_in, told_of, Answers, LinesAnswered, AreAnswered};
 
 use crate::lists::AnswerList;
 use crate::report::LineAnswer;
 use dac_base::{NoMemory, NodeId};
 use dac_crews::{Answer, Ask, Line, Phase};
-use dac_messages::Event;
+use dac_phases::is_of;
 use std::alloc::Global;
-
-/// Whether the line is this caller's of this node.
-pub(crate) fn is_of(line: &Line, node: NodeId, caller: u8) -> bool
-    ensures { result ≡ is_of node.0 caller line.now }
-{
-    line.node == node && line.caller == caller
-}
-
-/// The event that this caller asks by the line, if it is one that asks.
-fn event_in(line: &Line, node: NodeId, caller: u8) -> Option<&Event>
-    ensures { option_copied result ≡ ask_one node.0 caller line.now }
-{
-    if !is_of(line, node, caller) {
-        return None;
-    }
-    match &line.what {
-        Ask::Do(event) => Some(event),
-        Ask::Read => None,
-    }
-}
-
-/// The list, with the events behind it that this caller asks by the lines of a phase.
-fn with_events<'a>(
-    mut all: Vec<&'a Event>,
-    lines: &'a [Line],
-    node: NodeId,
-    caller: u8,
-) -> Result<Vec<&'a Event>, NoMemory>
-    ensures { IfOk result (λ more. map (λ e. e.now) more.items
-        ≡ map (λ e. e.now) all.entry.items ++ found (ask_one node.0 caller) lines.now) }
-{
-    for i in 0..lines.len() {
-        let line = &lines[i];
-        match event_in(line, node, caller) {
-            Some(event) => all.push(event)?,
-            None => {}
-        }
-    }
-    Ok(all)
-}
-
-/// The events that this caller's lines ask, over all phases, in order. [`NoMemory`] is the only error.
-pub fn asked_by(
-    alloc: Global,
-    phases: &[Phase],
-    node: NodeId,
-    caller: u8,
-) -> Result<Vec<&Event>, NoMemory>
-    ensures { IfOk result (λ all. map (λ e. e.now) all.items ≡ asks_of node.0 caller phases.now) }
-{
-    let mut all = Vec::new(alloc);
-    for i in 0..phases.len() {
-        let phase = &phases[i];
-        all = with_events(all, phase.lines.as_slice(), node, caller)?;
-    }
-    Ok(all)
-}
 
 /// The answer that this caller is given at the line, if it is one that asks.
 fn answer_in<'a>(

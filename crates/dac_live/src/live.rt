@@ -5,7 +5,8 @@ ghost use Rattle.dac_base.specs.declared.limits.TheConstants.{MAX_NODES};
 ghost use Rattle.dac_config.specs.Table.{node_count};
 ghost use Rattle.dac_live.specs.Lines.{HasLines, AreAnswered, CallersHold};
 ghost use Rattle.dac_live.specs.Nodes.{AreNodes, PagesHold, AreTrueOf};
-ghost use Rattle.dac_live.specs.Pairs.{LinksHold, SeatsHold};
+ghost use Rattle.dac_phases.specs.Pairs.{LinksHold, SeatsHold};
+ghost use Rattle.dac_phases.specs.Phases.{FallIntoPhases};
 ghost use Rattle.dac_live.specs.Reads.{AreNoted, PagesAreRead, ReadsHold};
 
 use crate::callers::strange_node;
@@ -13,14 +14,13 @@ use crate::handing::{all_told, mismatch};
 use crate::lines::are_answered;
 use crate::lists::{AnswerList, AnswersByPhase, ClosedList, PageList, ReadList, ReadsByPhase};
 use crate::nodes::last_pages;
-use crate::pairs::lost_link;
 use crate::reads::are_noted;
 use crate::receipts::strange_read;
 use crate::report::LiveReport;
-use crate::seats::check_seats;
 use dac_base::NodeId;
 use dac_config::Config;
 use dac_crews::{Closed, Gate, MAX_SITES, Outcome, Phase, RunFault, run_sites};
+use dac_phases::{check_seats, lost_link, stray_node};
 use std::alloc::Global;
 use std::sync::Wait;
 use std::thread::Threads;
@@ -33,6 +33,17 @@ fn check_links(alloc: Global, phases: usize, closed: &[Closed]) -> Result<(), Ru
     match lost_link(alloc, phases, closed)? {
         None => Ok(()),
         Some((from, to)) => Err(RunFault::LinkLost { from, to }),
+    }
+}
+
+/// Refuses journals that don't fall into the phases. No record is named: it may be that one is missing.
+fn check_phases(alloc: Global, phases: &[Phase], closed: &[Closed]) -> Result<(), RunFault>
+    requires { length closed.now ≤ MAX_NODES }
+    ensures { OnOk result (FallIntoPhases phases.now closed.now) }
+{
+    match stray_node(alloc, phases, closed)? {
+        None => Ok(()),
+        Some(node) => Err(mismatch(node)),
     }
 }
 
@@ -110,6 +121,7 @@ fn report_of(
     ensures histories { IfOk result (λ r. AreTrueOf config.now r.closed) }
     ensures seats { IfOk result (λ r. SeatsHold r.closed) }
     ensures links { IfOk result (λ r. LinksHold (length phases.now) r.closed) }
+    ensures phases { IfOk result (λ r. FallIntoPhases phases.now r.closed) }
     ensures pages { IfOk result (λ r. PagesHold config.now r.closed r.pages) }
     ensures read { IfOk result (λ r. r.pages ≡ outcome.pages.items) }
     ensures callers { IfOk result (λ r. CallersHold phases.now r.answers r.closed) }
@@ -130,6 +142,7 @@ fn report_of(
     let pages = last_pages(alloc, config, phases, read, journals, pages.as_slice())?;
     check_seats(journals)?;
     check_links(alloc, phases.len(), journals)?;
+    check_phases(alloc, phases, journals)?;
     check_callers(alloc, phases, told, journals)?;
     check_reads(alloc, config, phases, told, read, journals)?;
     Ok(LiveReport {
@@ -148,7 +161,7 @@ fn report_of(
 /// carried. `NoPage` comes too where a node's journal or last page is missing, the page isn't that of the whole journal, a page
 /// that a line read isn't that after as many records as its place says, or this is no history of the node. `Close` with a
 /// `Mismatch` comes too where a record is of a seat that no node has, at its place. It comes at place 0 where the records of a
-/// caller's seat aren't what its lines ask, a line lacks its answer, or a line that reads is fresh or stale otherwise than by
+/// caller's seat aren't what its lines ask, a journal doesn't fall into the phases, a line lacks its answer, or a line that reads is fresh or stale otherwise than by
 /// its page and its caller's last receipt.
 pub fn run_live<G: Gate, R: Threads + Wait + Sync>(
     rt: &R,
@@ -168,6 +181,9 @@ pub fn run_live<G: Gate, R: Threads + Wait + Sync>(
     // All that a link's worker asked is to hear what its shipper shipped, in order and each once. All that the shipper asked is to
     // ship, five times a phase.
     ensures links { IfOk result (λ r. LinksHold (length phases.now) r.closed) }
+    // Each journal is the records of the phases, one phase behind the other. In those of a phase callers ask its lines, each shipper
+    // ships five times, and each link worker hears just what its shipper shipped in that phase.
+    ensures phases { IfOk result (λ r. FallIntoPhases phases.now r.closed) }
     // The last page of each node is that after all records of its journal.
     ensures pages { IfOk result (λ r. PagesHold config.now r.closed r.pages) }
     // The records of each caller's seat are what its lines ask, in order, and were answered as the lines are.

@@ -7,11 +7,11 @@ ghost use Rattle.dac_live.specs.Lines.{AreAnswered};
 ghost use Rattle.dac_live.specs.Reads.{AreNoted, IsTold, receipt_by, own_one, own_in, own_of, asked_in, FollowsReceipts, NodeFollows, FollowReceipts};
 ghost use Rattle.dac_live.specs.Following.{receipts_from, Follows};
 
-use crate::lines::is_of;
 use crate::lists::{AnswerList, ReadList};
 use crate::report::LineAnswer;
 use dac_base::{NoMemory, NodeId};
 use dac_crews::{Answer, CALLERS, Closed, Line, Page, Phase, Record};
+use dac_phases::is_of;
 use std::alloc::Global;
 
 /// The place of a caller's last receipt after a record at this place, where it was this one before. A refusal gives none.

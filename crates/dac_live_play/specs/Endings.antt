@@ -1,5 +1,5 @@
 -- How `distac live` ends.
-use Rattle.std.specs.Prelude.{◌≡◌, ℕ, List, ◌++◌, Option, IfSome, codes}
+use Rattle.std.specs.Prelude.{◌≡◌, ℕ, List, [], ◌++◌, Option, IfSome, codes}
 use Rattle.std.specs.Fmt.{decimal}
 use Rattle.std.specs.Io.KnownBytes.{Appends}
 use Rattle.dac_base.specs.declared.NodeId.{NodeId}
@@ -9,7 +9,14 @@ use Rattle.dac_script.specs.declared.failure.Failure.{Failure}
 use Rattle.dac_script.specs.declared.source.Progress.TheVariants.{Ended}
 use Rattle.dac_script.specs.Sources.{Sourced, IsLeftBy}
 use Rattle.dac_status.specs.Texts.{node_text}
+use Rattle.dac_sites.specs.declared.faults.CloseFault.{CloseFault}
+use Rattle.dac_sites.specs.declared.faults.CloseFault.TheVariants as closing
+use Rattle.dac_sites.specs.declared.faults.LiveFault.{LiveFault}
+use Rattle.dac_sites.specs.declared.faults.LiveFault.TheVariants as call
+use Rattle.dac_sites.specs.declared.faults.OpenFault.{OpenFault}
+use Rattle.dac_sites.specs.declared.faults.OpenFault.TheVariants as opening
 use Rattle.dac_live.specs.RunFault.{RunFault}
+use Rattle.dac_live.specs.RunFault.TheVariants as run
 use Rattle.dac_live.specs.RunFaults.{number_of, name_of}
 use Rattle.dac_live_play.specs.declared.fault.PlayFault.{PlayFault}
 use Rattle.dac_live_play.specs.declared.fault.PlayFault.TheVariants as fault
@@ -24,6 +31,43 @@ run_fault_text why = codes "live fault " ++ (decimal (number_of why) ++ (codes "
 abbrev pub weave_fault_text : Table → NodeId → ℕ → List ℕ
 weave_fault_text table node place =
     codes "weave fault 1 Unwoven " ++ (node_text table node ++ (codes " " ++ (decimal place ++ codes "\n")))
+
+-- a cause at a node
+abbrev pub cause_text : Table → List ℕ → NodeId → List ℕ
+cause_text table cause node = cause ++ (codes " at " ++ node_text table node)
+
+-- why a site isn't opened
+abbrev pub opening_name : OpenFault → List ℕ
+opening_name opening.NoReader = codes "NoReader"
+opening_name opening.NoMemory = codes "NoMemory"
+
+-- why a call of a site isn't recorded
+abbrev pub call_name : LiveFault → List ℕ
+call_name call.JournalFull = codes "JournalFull"
+call_name (call.Refused place why) = codes "Refused"
+call_name call.NoMemory = codes "NoMemory"
+
+-- a record of this node's site is another one
+abbrev pub mismatch_text : Table → NodeId → ℕ → List ℕ
+mismatch_text table node place = cause_text table (codes "Mismatch") node ++ (codes ", record " ++ decimal place)
+
+-- why a site isn't closed at this node
+abbrev pub closing_text : Table → NodeId → CloseFault → List ℕ
+closing_text table node closing.SeatMissing = cause_text table (codes "SeatMissing") node
+closing_text table node (closing.Mismatch place) = mismatch_text table node place
+
+-- What the standard error says of a run that wasn't ended: the cause, and the node or the link. It says nothing of a
+-- fault that has no more than its name.
+abbrev pub where_text : Table → RunFault → List ℕ
+where_text table run.TooManyNodes = []
+where_text table run.NoThread = []
+where_text table (run.LinkLost from to) =
+    codes "LinkLost from " ++ (node_text table from ++ (codes " to " ++ node_text table to))
+where_text table (run.Open why) = opening_name why
+where_text table (run.Site node why) = cause_text table (call_name why) node
+where_text table (run.Close node why) = closing_text table node why
+where_text table (run.NoPage node) = cause_text table (codes "NoPage") node
+where_text table run.NoMemory = []
 
 -- the line of a fault
 abbrev pub fault_text : Table → PlayFault → List ℕ

@@ -8,6 +8,7 @@ use Rattle.dac_live.specs.declared.report.LiveReport.{LiveReport}
 use Rattle.dac_live.specs.Lines.{CallersHold, AreAnswered}
 use Rattle.dac_live.specs.Nodes.{AreNodes, PagesHold, AreTrueOf}
 use Rattle.dac_live.specs.Pairs.{LinksHold, SeatsHold}
+use Rattle.dac_live.specs.Phases.{FallIntoPhases}
 use Rattle.dac_live.specs.Phase.{Phase}
 use Rattle.dac_live.specs.Reads.{ReadsHold}
 use Rattle.dac_weave.specs.Converging.{IsConverged}
@@ -20,14 +21,16 @@ use Rattle.dac_live_play.specs.Phases.{parts_of, AsksAs}
 
 -- What a run in these phases leaves: a journal and a page of each node. Each journal is a history of its node. Each
 -- record is of a seat of its node. All that a link's worker asked is to hear what its shipper shipped, and all that
--- this one asked is to ship. The pages are those of the whole journals. Each caller's seat has exactly its lines as
--- records, and was answered so. A fresh line read a page of its node's journal that isn't before its caller's last
--- receipt, and a stale one an older page or none.
+-- this one asked is to ship. Each journal is the records of the phases, one phase behind the other. The pages are
+-- those of the whole journals. Each caller's seat has exactly its lines as records, and was answered so. A fresh line
+-- read a page of its node's journal that isn't before its caller's last receipt, and a stale one an older page or
+-- none.
 pub record IsReport (table : Table) (phases : List Phase) (report : LiveReport) : Type 0 where
   pub nodes : AreNodes (node_count table) report.closed
   pub histories : AreTrueOf table report.closed
   pub seats : SeatsHold report.closed
   pub links : LinksHold (length phases) report.closed
+  pub falls : FallIntoPhases phases report.closed
   pub pages : PagesHold table report.closed report.pages
   pub callers : CallersHold phases report.answers report.closed
   pub lines : AreAnswered phases report.answers

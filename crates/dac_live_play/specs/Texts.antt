@@ -1,5 +1,5 @@
 -- What `distac live` prints.
-use Rattle.std.specs.Prelude.{ℕ, ◌+◌, Bool, ◌&&◌, ◌==◌, List, [], ◌∷◌, ◌++◌, map, Option, Ok, Err, codes, slice_get, if◌then◌else◌}
+use Rattle.std.specs.Prelude.{ℕ, ◌+◌, ◌==◌, List, [], ◌∷◌, ◌++◌, map, Option, Ok, Err, codes, slice_get, if◌then◌else◌}
 use Rattle.std.specs.List.{flat_map}
 use Rattle.std.specs.Option.{option_map_or}
 use Rattle.std.specs.Fmt.{decimal}
@@ -16,6 +16,7 @@ use Rattle.dac_play.specs.Wires.{fed_text}
 use Rattle.dac_live.specs.declared.report.LineAnswer.{LineAnswer}
 use Rattle.dac_live.specs.declared.report.LineAnswer.TheVariants.{Done, Fresh, Stale}
 use Rattle.dac_live.specs.declared.report.LiveReport.{LiveReport}
+use Rattle.dac_live.specs.Asks.{is_of}
 use Rattle.dac_live.specs.Line.{Line}
 use Rattle.dac_status.specs.Texts.{header_text, page_text}
 use Rattle.dac_wire.specs.Decoding.{packet_at}
@@ -36,13 +37,9 @@ abbrev pub line_text : Table → Line → LineAnswer → List ℕ
 line_text table line answer =
     name_text (node_name table line.node) ++ (codes " " ++ (decimal line.caller ++ (codes " " ++ outcome_text answer)))
 
--- the line is this caller's of this node
-abbrev pub is_of : NodeId → ℕ → Line → Bool
-is_of node caller line = (line.node.0 == node.0) && (line.caller == caller)
-
--- it is printed where it is this caller's of this node
+-- it is printed where the line is this caller's of this node
 abbrev pub own_text : Table → NodeId → ℕ → Line → LineAnswer → List ℕ
-own_text table node caller line answer = if is_of node caller line then line_text table line answer else []
+own_text table node caller line answer = if is_of node.0 caller line then line_text table line answer else []
 
 -- ---- a phase
 

@@ -1,17 +1,17 @@
 //! How `distac live` ends, and the lines of its faults.
 
-ghost use Rattle.std.specs.Prelude.{◌≡◌, IfOk};
-ghost use Rattle.dac_live_play.specs.Endings.{status_of, run_fault_text, weave_fault_text, fault_text, IsRefusal, IsGivenUp};
+ghost use Rattle.std.specs.Prelude.{◌≡◌, ◌++◌, IfOk, OnOk};
+ghost use Rattle.dac_live_play.specs.Endings.{status_of, run_fault_text, weave_fault_text, fault_text, cause_text, opening_name, call_name, mismatch_text, closing_text, where_text, IsRefusal, IsGivenUp};
 
 use crate::fault::PlayFault;
 use dac_base::{NoMemory, NodeId};
 use dac_config::Config;
-use dac_live::RunFault;
+use dac_live::{CloseFault, LiveFault, OpenFault, RunFault};
 use dac_play::{Ending, OUT_OF_MEMORY, print, refuse};
 use dac_script::Failure;
 use dac_status::put_node;
 use std::alloc::Global;
-use std::io::Write;
+use std::io::{Eprint, Write};
 
 /// How `distac live` ended.
 #[derive(Clone, Copy, Debug, PartialEq, Eq)]
@@ -65,6 +65,114 @@ fn weave_fault_line(
     Ok(line)
 }
 
+/// Puts behind a text a cause at a node.
+fn put_cause(
+    alloc: Global,
+    text: &mut Vec<u8>,
+    config: &Config,
+    cause: &[u8],
+    node: NodeId,
+) -> Result<(), NoMemory>
+    ensures { OnOk result
+        (text.new.items ≡ text.old.items ++ cause_text config.now cause.now node) }
+{
+    text.extend_from_slice(cause)?;
+    text.extend_from_slice(b" at ")?;
+    put_node(alloc, text, config, node)
+}
+
+/// The name of why a site isn't opened.
+fn opening_name(why: OpenFault) -> &'static str
+    ensures { result.now ≡ opening_name why }
+{
+    match why {
+        OpenFault::NoReader => "NoReader",
+        OpenFault::NoMemory => "NoMemory",
+    }
+}
+
+/// The name of why a call of a site isn't recorded.
+fn call_name(why: LiveFault) -> &'static str
+    ensures { result.now ≡ call_name why }
+{
+    match why {
+        LiveFault::JournalFull => "JournalFull",
+        LiveFault::Refused { place: _, why: _ } => "Refused",
+        LiveFault::NoMemory => "NoMemory",
+    }
+}
+
+/// Puts behind a text that a record of a node's site is another one.
+fn put_mismatch(
+    alloc: Global,
+    text: &mut Vec<u8>,
+    config: &Config,
+    node: NodeId,
+    place: u64,
+) -> Result<(), NoMemory>
+    ensures { OnOk result
+        (text.new.items ≡ text.old.items ++ mismatch_text config.now node place) }
+{
+    put_cause(alloc, text, config, b"Mismatch", node)?;
+    let record = format!(in alloc; ", record {place}")?;
+    text.extend_from_slice(record.as_bytes())?;
+    Ok(())
+}
+
+/// Puts behind a text why the site of a node isn't closed.
+fn put_closing(
+    alloc: Global,
+    text: &mut Vec<u8>,
+    config: &Config,
+    node: NodeId,
+    why: CloseFault,
+) -> Result<(), NoMemory>
+    ensures { OnOk result (text.new.items ≡ text.old.items ++ closing_text config.now node why) }
+{
+    match why {
+        CloseFault::SeatMissing => put_cause(alloc, text, config, b"SeatMissing", node),
+        CloseFault::Mismatch { place } => put_mismatch(alloc, text, config, node, place),
+    }
+}
+
+/// The cause of a fault of a run, and its node or its link. It is empty if the fault has no more than its name.
+pub fn where_of(alloc: Global, config: &Config, why: RunFault) -> Result<Vec<u8>, NoMemory>
+    ensures { IfOk result (λ text. text.items ≡ where_text config.now why) }
+{
+    let mut text = Vec::new(alloc);
+    match why {
+        RunFault::TooManyNodes | RunFault::NoThread | RunFault::NoMemory => {}
+        RunFault::LinkLost { from, to } => {
+            text.extend_from_slice(b"LinkLost from ")?;
+            put_node(alloc, &mut text, config, from)?;
+            text.extend_from_slice(b" to ")?;
+            put_node(alloc, &mut text, config, to)?;
+        }
+        RunFault::Open(why) => text.extend_from_slice(opening_name(why).as_bytes())?,
+        RunFault::Site { node, why } => {
+            put_cause(alloc, &mut text, config, call_name(why).as_bytes(), node)?;
+        }
+        RunFault::Close { node, why } => put_closing(alloc, &mut text, config, node, why)?,
+        RunFault::NoPage { node } => put_cause(alloc, &mut text, config, b"NoPage", node)?,
+    }
+    Ok(text)
+}
+
+/// Says on the standard error where a run had its fault. A name that isn't UTF-8 can't be said there, and then nothing is.
+fn say_where<T: Eprint>(rt: &T, alloc: Global, config: &Config, fault: PlayFault) {
+    let PlayFault::Run(why) = fault else {
+        return;
+    };
+    let Ok(line) = where_of(alloc, config, why) else {
+        return;
+    };
+    if let Ok(text) = str::from_utf8(&line) {
+        if !text.is_empty() {
+            let _said = eprintln!(rt; "distac: {text}");
+        }
+    }
+}
+
 /// The line of a fault.
 fn fault_line(alloc: Global, config: &Config, fault: PlayFault) -> Result<Vec<u8>, NoMemory>
     ensures { IfOk result (λ line. line.items ≡ fault_text config.now fault) }
@@ -97,8 +205,9 @@ pub(crate) fn refuse_live<W: Write>(alloc: Global, failure: Failure, output: &mu
     }
 }
 
-/// Prints why the script isn't run to its end.
-pub(crate) fn given_up<W: Write>(
+/// Prints why the script isn't run to its end, and says on the standard error where a run had its fault.
+pub(crate) fn given_up<T: Eprint, W: Write>(
+    rt: &T,
     alloc: Global,
     config: &Config,
     fault: PlayFault,
@@ -113,5 +222,6 @@ pub(crate) fn given_up<W: Write>(
     if !print(&line, output) {
         return LiveEnding::Stopped;
     }
+    say_where(rt, alloc, config, fault);
     LiveEnding::Faulted(fault)
 }

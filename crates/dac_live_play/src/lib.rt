@@ -23,7 +23,7 @@ mod running;
 mod saying;
 mod texts;
 
-pub use ending::LiveEnding;
+pub use ending::{LiveEnding, where_of};
 pub use fault::PlayFault;
 pub use phases::{parts_of, phases_of};
 pub use playing::{play_live, record_live};
@@ -31,4 +31,4 @@ pub use printing::live_lines;
 pub use recording::record_lines;
 pub use records::{record_reader, record_source};
 pub use running::{live, live_source};
-pub use texts::CALLERS;
+pub use texts::CALLER_NUMBERS;

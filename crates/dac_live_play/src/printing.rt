@@ -6,7 +6,7 @@ ghost use Rattle.dac_config.specs.Table.{node_count};
 ghost use Rattle.dac_live_play.specs.Phases.{lines_in, AsksAs};
 ghost use Rattle.dac_live_play.specs.Texts.{caller_text, callers_text, asked_text, feed_text, phase_text, phases_text, shown_text, last_text, pages_text, run_text};
 
-use crate::texts::{CALLERS, put_feed, put_own};
+use crate::texts::{CALLER_NUMBERS, put_feed, put_own};
 use dac_base::{NoMemory, NodeId};
 use dac_config::Config;
 use dac_live::{AnswerList, Line, LineAnswer, LiveReport, Page, Phase};
@@ -55,7 +55,7 @@ fn put_node(
     ensures { OnOk result
         (text.new.items ≡ text.old.items ++ callers_text config.now lines.now answers.now node) }
 {
-    for caller in &CALLERS {
+    for caller in &CALLER_NUMBERS {
         put_caller(alloc, text, config, lines, answers, node, *caller)?;
     }
     Ok(())

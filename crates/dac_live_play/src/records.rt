@@ -10,14 +10,14 @@ use crate::playing::record_live;
 use dac_play::print;
 use dac_script::{Source, prepare_live};
 use std::alloc::Global;
-use std::io::{Read, Write};
+use std::io::{Eprint, Read, Write};
 use std::sync::Wait;
 use std::thread::Threads;
 
 /// Reads a configuration and a script, runs the script at sites in threads, and prints the run as a script of `distac sim`. Where
 /// there is a fault, it ends as [`live_source`](crate::live_source).
 #[tactic(auto, using(crate::proofs::Ends::recorded, crate::proofs::Ends::refused_records, crate::proofs::Ends::given_up_records, crate::proofs::Ends::refused_left, crate::proofs::Ends::given_up_left))]
-pub fn record_source<R: Read, W: Write, T: Threads + Wait + Sync>(
+pub fn record_source<R: Read, W: Write, T: Eprint + Threads + Wait + Sync>(
     rt: &T,
     alloc: Global,
     source: &mut Source<'_, R>,
@@ -36,7 +36,7 @@ pub fn record_source<R: Read, W: Write, T: Threads + Wait + Sync>(
     };
     let text = match record_live(rt, alloc, &config, &script) {
         Ok(text) => text,
-        Err(fault) => return given_up(alloc, &config, fault, output),
+        Err(fault) => return given_up(rt, alloc, &config, fault, output),
     };
     if !print(&text, output) {
         return LiveEnding::Stopped;
@@ -45,7 +45,7 @@ pub fn record_source<R: Read, W: Write, T: Threads + Wait + Sync>(
 }
 
 /// As [`record_source`], of a reader of which nothing was read.
-pub fn record_reader<R: Read, W: Write, T: Threads + Wait + Sync>(
+pub fn record_reader<R: Read, W: Write, T: Eprint + Threads + Wait + Sync>(
     rt: &T,
     alloc: Global,
     input: &mut R,

@@ -10,7 +10,7 @@ use crate::playing::play_live;
 use dac_play::print;
 use dac_script::{Source, prepare_live};
 use std::alloc::Global;
-use std::io::{Read, Write};
+use std::io::{Eprint, Read, Write};
 use std::sync::Wait;
 use std::thread::Threads;
 
@@ -18,7 +18,7 @@ use std::thread::Threads;
 /// is read and checked before anything is run. All is known to be good before anything is printed. Where there is a fault
 /// of the input, of the run or of the weave, a line that says so is all that is printed.
 #[tactic(auto, using(crate::proofs::Ends::lived, crate::proofs::Ends::refused_ends, crate::proofs::Ends::given_up_ends, crate::proofs::Ends::refused_left, crate::proofs::Ends::given_up_left))]
-pub fn live_source<R: Read, W: Write, T: Threads + Wait + Sync>(
+pub fn live_source<R: Read, W: Write, T: Eprint + Threads + Wait + Sync>(
     rt: &T,
     alloc: Global,
     source: &mut Source<'_, R>,
@@ -37,7 +37,7 @@ pub fn live_source<R: Read, W: Write, T: Threads + Wait + Sync>(
     };
     let text = match play_live(rt, alloc, &config, &script) {
         Ok(text) => text,
-        Err(fault) => return given_up(alloc, &config, fault, output),
+        Err(fault) => return given_up(rt, alloc, &config, fault, output),
     };
     if !print(&text, output) {
         return LiveEnding::Stopped;
@@ -46,7 +46,7 @@ pub fn live_source<R: Read, W: Write, T: Threads + Wait + Sync>(
 }
 
 /// As [`live_source`], of a reader of which nothing was read.
-pub fn live<R: Read, W: Write, T: Threads + Wait + Sync>(
+pub fn live<R: Read, W: Write, T: Eprint + Threads + Wait + Sync>(
     rt: &T,
     alloc: Global,
     input: &mut R,

@@ -2,17 +2,18 @@
 
 ghost use Rattle.std.specs.Prelude.{◌≡◌, ◌<◌, ◌++◌, IfOk, OnOk};
 ghost use Rattle.dac_config.specs.Table.{node_count};
-ghost use Rattle.dac_live_play.specs.Texts.{outcome_text, line_text, is_of, own_text, feed_text};
+ghost use Rattle.dac_live_play.specs.Texts.{outcome_text, line_text, own_text, feed_text};
 
 use dac_base::{NoMemory, NodeId};
 use dac_config::{Config, printed_name};
 use dac_live::{Line, LineAnswer};
+use dac_phases::is_of;
 use dac_play::{fed_line, refused_line};
 use dac_script::LiveLine;
 use std::alloc::Global;
 
 /// The callers of a node, by their numbers.
-pub const CALLERS: [u8; 4] = [1, 2, 3, 4];
+pub const CALLER_NUMBERS: [u8; 4] = [1, 2, 3, 4];
 
 /// What a caller was answered.
 fn outcome_line(alloc: Global, answer: &LineAnswer) -> Result<Vec<u8>, NoMemory>
@@ -47,13 +48,6 @@ fn line_of(
     Ok(text)
 }
 
-/// Whether a line is this caller's of this node.
-fn is_of(node: NodeId, caller: u8, line: &Line) -> bool
-    ensures { result ≡ is_of node caller line.now }
-{
-    line.node == node && line.caller == caller
-}
-
 /// Puts behind a text the line for a line of a caller, where it is this caller's of this node.
 pub(crate) fn put_own(
     alloc: Global,
@@ -68,7 +62,7 @@ pub(crate) fn put_own(
     ensures { OnOk result
         (text.new.items ≡ text.old.items ++ own_text config.now node caller line.now answer.now) }
 {
-    if !is_of(node, caller, line) {
+    if !is_of(line, node, caller) {
         return Ok(());
     }
     let line = line_of(alloc, config, line, answer)?;

@@ -1,6 +1,6 @@
 //! The page after some records, by replaying them.
 
-ghost use Rattle.std.specs.Prelude.{◌≡◌, ◌≢◌, IfOk, IfErr, OnOk};
+ghost use Rattle.std.specs.Prelude.{◌≡◌, IfOk, OnOk};
 ghost use Rattle.dac_journal.specs.Journals.{beginning_of};
 ghost use Rattle.dac_sites.specs.Paged.{page_after};
 ghost use Rattle.dac_sites.specs.Replayed.{GoesOn};
@@ -8,27 +8,10 @@ ghost use Rattle.dac_sites.specs.Replayed.{GoesOn};
 use crate::desk::page_of;
 use dac_base::{NoMemory, NodeId};
 use dac_config::Config;
-use dac_events::Refusal;
-use dac_journal::{Node, Record};
-use dac_messages::{Event, Reply};
+use dac_journal::{Node, Record, is_answered};
+use dac_messages::Event;
 use dac_pages::Page;
 use std::alloc::Global;
-
-/// Refuses an answer that memory was refused: nothing was answered.
-fn is_answered(answer: &Result<Reply, Refusal>) -> Result<(), NoMemory>
-    ensures { OnOk result (IfErr answer.now (λ why. why ≢ Refusal.NoMemory)) }
-{
-    match answer {
-        Ok(_) => Ok(()),
-        Err(why) => {
-            if *why == Refusal::NoMemory {
-                Err(NoMemory)
-            } else {
-                Ok(())
-            }
-        }
-    }
-}
 
 /// The node goes on by the event, whatever it answers.
 fn go_on(config: &Config, me: NodeId, node: &mut Node, event: &Event) -> Result<(), NoMemory>

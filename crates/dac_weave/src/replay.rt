@@ -1,12 +1,12 @@
 //! One journal replayed alone.
 
-ghost use Rattle.std.specs.Prelude.{◌≡◌, ◌↔◌, ◌≢◌, true, false, IfOk, IsTrue, Ok, Err};
+ghost use Rattle.std.specs.Prelude.{◌≡◌, ◌↔◌, IfOk, IsTrue, Ok, Err};
 ghost use Rattle.dac_weave.specs.Replay.{IsLongest, Repeats};
 
 use dac_base::{NoMemory, NodeId};
 use dac_config::Config;
 use dac_events::Refusal;
-use dac_journal::{Answer, Closed, Node, Record};
+use dac_journal::{Answer, Closed, Node, Record, is_no_memory};
 use dac_messages::Reply;
 use std::alloc::Global;
 
@@ -28,14 +28,6 @@ fn is_refusal(why: Refusal, answer: &Answer) -> bool
         Ok(_) => false,
         Err(other) => *other == why,
     }
-}
-
-/// Whether memory was refused.
-fn is_no_memory(why: Refusal) -> bool
-    ensures yes { result ≡ true → why ≡ Refusal.NoMemory }
-    ensures no { result ≡ false → why ≢ Refusal.NoMemory }
-{
-    why == Refusal::NoMemory
 }
 
 /// Does what a record did, and tells whether the answer is the record's.

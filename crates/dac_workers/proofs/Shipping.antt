@@ -1,5 +1,5 @@
 -- One call more of a link's threads.
-use Rattle.std.proofs.Common.{◌≡◌, ℕ, zero, suc, ◌+◌, List, [], ◌∷◌, ◌++◌, map, All, Some, None, Ok, refl, sym, ap, ◌∙◌, subst, append_assoc, append-nil, arith}
+use Rattle.std.proofs.Common.{◌≡◌, ℕ, zero, suc, ◌+◌, List, [], ◌∷◌, ◌++◌, length, get_or, drop, map, All, Some, None, Ok, refl, sym, ap, ◌∙◌, subst, append_assoc, append-nil, arith}
 use Rattle.std.proofs.lemmas.List.Elements.{All-append, All-cons, All-nil}
 use Rattle.dac_base.specs.declared.NodeId.{NodeId}
 use Rattle.dac_config.specs.Table.{Table}
@@ -30,6 +30,17 @@ letters_append t (m ∷ ms) ns = ap (λ l. letters_of t (m ∷ []) ++ l) (letter
 pub ships_push : (to : NodeId) (n : ℕ) → ships_to to n ++ Ship to ∷ [] ≡ ships_to to (suc n)
 ships_push to zero = refl
 ships_push to (suc n) = ap (λ l. Ship to ∷ l) (ships_push to n)
+
+pub ships_many : (to : NodeId) (n : ℕ) → length (ships_to to n) ≡ n
+ships_many to zero = refl
+ships_many to (suc n) = ap suc (ships_many to n)
+
+-- each of them ships
+pub ships_each : (to : NodeId) (n : ℕ) (front : List Event) (e : Event) (rest : List Event) → ships_to to n ≡ (front ++ e ∷ []) ++ rest → e ≡ Ship to
+ships_each to zero [] e rest is = let none : 0 ≡ length (e ∷ rest) = ap length is in absurd (omega (arith, none))
+ships_each to zero (x ∷ front) e rest is = let none : 0 ≡ length (x ∷ ((front ++ e ∷ []) ++ rest)) = ap length is in absurd (omega (arith, none))
+ships_each to (suc n) [] e rest is = sym (ap (λ l. get_or l 0 e) is)
+ships_each to (suc n) (x ∷ front) e rest is = ships_each to n front e rest (ap (drop 1) is)
 
 hears_push : (ms : List Message) (m : Message) → map Hear (ms ++ m ∷ []) ≡ map Hear ms ++ Hear m ∷ []
 hears_push [] m = refl

@@ -1,17 +1,18 @@
 //! What the records of two journals say of a link.
 
-ghost use Rattle.std.specs.Prelude.{◌≡◌, true, map, IfOk};
+ghost use Rattle.std.specs.Prelude.{◌≡◌, ◌↔◌, map, IfOk, IsTrue};
 ghost use Rattle.std.specs.Option.{option_copied};
 ghost use Rattle.dac_workers.specs.Compared.{found, sent_one, event_one};
 ghost use Rattle.dac_workers.specs.Links.{ships_to};
 
+use crate::links::SHIPS;
 use dac_base::{NoMemory, NodeId};
 use dac_messages::{Event, Message, Reply};
 use dac_sites::Record;
 use std::alloc::Global;
 
 /// How often a shipper ships in a phase, with the last time that no thread runs.
-pub const SHIPS_OF_PHASE: usize = 5;
+pub const SHIPS_OF_PHASE: u64 = SHIPS + 1;
 
 /// The message that this seat's record ships, if it is one.
 fn sent_one(one: &Record, seat: u16) -> Option<&Message>
@@ -39,7 +40,7 @@ pub fn event_of(one: &Record, seat: u16) -> Option<&Event>
 
 /// Whether the event hears this message.
 fn is_heard(message: &Message, event: &Event) -> bool
-    ensures { result ≡ true → event.now ≡ Event.Hear message.now }
+    ensures { IsTrue result ↔ (event.now ≡ Event.Hear message.now) }
 {
     match event {
         Event::Hear(heard) => message.equal(heard),
@@ -49,7 +50,7 @@ fn is_heard(message: &Message, event: &Event) -> bool
 
 /// Whether the event ships to this node.
 fn is_ship(event: &Event, to: NodeId) -> bool
-    ensures { result ≡ true → event.now ≡ Event.Ship to }
+    ensures { IsTrue result ↔ (event.now ≡ Event.Ship to) }
 {
     match event {
         Event::Ship { to: other } => *other == to,
@@ -73,10 +74,10 @@ pub fn sent_by(alloc: Global, records: &[Record], seat: u16) -> Result<Vec<&Mess
 }
 
 /// Whether all that the records of this seat ask is to ship to this node, so many times.
-pub fn are_ships(wanted: usize, records: &[Record], seat: u16, to: NodeId) -> bool
-    ensures { result ≡ true → found (event_one seat) records.now ≡ ships_to to wanted }
+pub fn are_ships(wanted: u128, records: &[Record], seat: u16, to: NodeId) -> bool
+    ensures { IsTrue result ↔ (found (event_one seat) records.now ≡ ships_to to wanted) }
 {
-    let mut count = 0;
+    let mut count = 0usize;
     for i in 0..records.len() {
         let one = &records[i];
         match event_of(one, seat) {
@@ -89,13 +90,13 @@ pub fn are_ships(wanted: usize, records: &[Record], seat: u16, to: NodeId) -> bo
             None => {}
         }
     }
-    count == wanted
+    count as u128 == wanted
 }
 
 /// Whether all that the records of this seat ask is to hear these messages, in order and no others.
 pub fn are_heard(sent: &[&Message], records: &[Record], seat: u16) -> bool
-    ensures { result ≡ true
-        → found (event_one seat) records.now ≡ map (λ m. Event.Hear m.now) sent.now }
+    ensures { IsTrue result
+        ↔ (found (event_one seat) records.now ≡ map (λ m. Event.Hear m.now) sent.now) }
 {
     let mut next = 0;
     for i in 0..records.len() {

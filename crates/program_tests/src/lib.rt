@@ -13,6 +13,8 @@ mod faults;
 #[cfg(test)]
 mod lives;
 #[cfg(test)]
+mod long;
+#[cfg(test)]
 mod placements;
 #[cfg(test)]
 mod readers;

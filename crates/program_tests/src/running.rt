@@ -73,7 +73,7 @@ fn plays<T: Print + Eprint + Threads + Wait + Sync>(
 }
 
 /// Whether `distac live` prints this for a configuration and a script, and answers this status.
-fn lives<T: Print + Eprint + Threads + Wait + Sync>(
+pub fn lives<T: Print + Eprint + Threads + Wait + Sync>(
     rt: &T,
     alloc: Global,
     config: &str,

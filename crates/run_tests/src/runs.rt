@@ -26,19 +26,23 @@ const FIVE: &[u8] = b"[{kernel,[{distributed,[{a,[a@h,b@h,c@h,d@h,e@h]}]}]}].";
 /// How often a hearing yields while it is held.
 const TURNS: u32 = 1_000_000;
 
-/// Holds the hearings of the links from the first node to the two others, until both are inside at once.
+/// Holds the hearings of two links, each from one node to another, until both are inside at once.
 #[derive(Drop)]
 struct Both {
-    second: AtomicU64,
-    third: AtomicU64,
+    one: (u8, u8),
+    two: (u8, u8),
+    in_one: AtomicU64,
+    in_two: AtomicU64,
     met: AtomicU64,
 }
 
 impl Both {
-    fn new() -> Self {
+    fn new(one: (u8, u8), two: (u8, u8)) -> Self {
         Both {
-            second: AtomicU64::new(0),
-            third: AtomicU64::new(0),
+            one,
+            two,
+            in_one: AtomicU64::new(0),
+            in_two: AtomicU64::new(0),
             met: AtomicU64::new(0),
         }
     }
@@ -59,22 +63,20 @@ impl Both {
 
 impl Gate for Both {
     fn before(&self, from: NodeId, to: NodeId, _k: u64) {
-        if from == NodeId(0) {
-            if to == NodeId(1) {
-                self.hold(&self.second, &self.third);
-            } else {
-                self.hold(&self.third, &self.second);
-            }
+        if self.one.0 == from.0 && self.one.1 == to.0 {
+            self.hold(&self.in_one, &self.in_two);
+        }
+        if self.two.0 == from.0 && self.two.1 == to.0 {
+            self.hold(&self.in_two, &self.in_one);
         }
     }
 
     fn after(&self, from: NodeId, to: NodeId, _k: u64) {
-        if from == NodeId(0) {
-            if to == NodeId(1) {
-                self.second.store(0, Ordering::SeqCst);
-            } else {
-                self.third.store(0, Ordering::SeqCst);
-            }
+        if self.one.0 == from.0 && self.one.1 == to.0 {
+            self.in_one.store(0, Ordering::SeqCst);
+        }
+        if self.two.0 == from.0 && self.two.1 == to.0 {
+            self.in_two.store(0, Ordering::SeqCst);
         }
     }
 }
@@ -164,7 +166,7 @@ fn record_counts(report: &LiveReport) -> Option<[usize; 3]> {
 /// Whether the hearings of two links were held at once. The first node has its two calls and five ships to each other node
 /// a phase.
 fn meets<R: Threads + Wait + Sync>(rt: &R, alloc: Global) -> Option<bool> {
-    let gate = Both::new();
+    let gate = Both::new((0, 1), (0, 2));
     let phases = two_phases(alloc)?;
     let report = ran(rt, alloc, EXAMPLE, phases.as_slice(), &gate)?.ok()?;
     let records = record_counts(&report)?;
@@ -174,6 +176,20 @@ fn meets<R: Threads + Wait + Sync>(rt: &R, alloc: Global) -> Option<bool> {
 #[test]
 fn workers_of_two_links_meet(rt: HostRuntime) -> Result<(), Fail> {
     assert_eq!(rt; meets(&rt, rt.alloc()), Some(true));
+    Ok(())
+}
+
+/// Whether the hearings of the two links to the last of three nodes were held at once: each link has a worker of its own.
+fn meets_at_one_node<R: Threads + Wait + Sync>(rt: &R, alloc: Global) -> Option<bool> {
+    let gate = Both::new((0, 2), (1, 2));
+    let phases = three_phases(alloc)?;
+    let _report = ran(rt, alloc, EXAMPLE, phases.as_slice(), &gate)?.ok()?;
+    Some(gate.met.load(Ordering::SeqCst) == 1)
+}
+
+#[test]
+fn workers_of_two_links_to_one_node_meet(rt: HostRuntime) -> Result<(), Fail> {
+    assert_eq!(rt; meets_at_one_node(&rt, rt.alloc()), Some(true));
     Ok(())
 }
 

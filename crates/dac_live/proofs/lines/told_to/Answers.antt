@@ -4,7 +4,7 @@ use Rattle.dac_crews.specs.declared.phases.Line.{Line}
 use Rattle.dac_crews.specs.declared.phases.Phase.{Phase}
 use Rattle.dac_live.specs.declared.report.LineAnswer.{LineAnswer}
 use Rattle.dac_live.specs.Lines.{Answers, LinesAnswered, told_in}
-use Rattle.dac_live.proofs.Spoken.{flat_more, zip_within, zip_at, zip_all, all_zip_at}
+use Rattle.dac_phases.specs.laws.Spoken.{flat_more, zip_within, zip_at, zip_all, all_zip_at}
 use Rattle.dac_live.proofs.lines.told_to.Goals as goal
 
 -- of a phase and its answers

@@ -4,7 +4,7 @@ use Rattle.dac_messages.specs.declared.reply.Reply.{Reply}
 use Rattle.dac_events.specs.declared.refusal.Refusal.{Refusal}
 use Rattle.dac_crews.specs.Compared.{found}
 use Rattle.dac_live.specs.Lines.{told_one}
-use Rattle.dac_live.proofs.Spoken.{found_on, zip_within, zip_at, zip_all}
+use Rattle.dac_phases.specs.laws.Spoken.{found_on, zip_within, zip_at, zip_all}
 use Rattle.dac_live.proofs.lines.with_answers.Goals as goal
 use Rattle.dac_live.proofs.lines.with_answers.Goals.{in-Some+in_ok-push-in-Some, in-None}
 

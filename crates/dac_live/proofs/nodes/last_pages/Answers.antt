@@ -4,7 +4,7 @@ use Rattle.std.proofs.lemmas.List.{get_or_read}
 use borrow.Author.Count.{below_more}
 use Rattle.dac_crews.specs.Journals.{JournalValue, beginning_of, nowhere}
 use Rattle.dac_live.specs.Nodes.{IsTrueOf, journal_at}
-use Rattle.dac_live.specs.Pairs.{records_at}
+use Rattle.dac_phases.specs.Pairs.{records_at}
 use Rattle.dac_live.specs.Reads.{IsPageOf, pages_read}
 use Rattle.dac_live.proofs.nodes.last_pages.Goals as goal
 

@@ -1,7 +1,7 @@
 use Rattle.std.proofs.Common.{◌≡◌, ℕ, ◌<◌, All, map, take}
 use Rattle.dac_crews.specs.Journals.{beginning_of}
 use Rattle.dac_live.specs.Nodes.{IsFirstOf, IsTrueOf, journal_at, last_page_of}
-use Rattle.dac_live.specs.Pairs.{records_at}
+use Rattle.dac_phases.specs.Pairs.{records_at}
 use Rattle.dac_live.specs.Reads.{IsPageOf, pages_read}
 use Rattle.dac_live.proofs.nodes.last_pages.Given as goal
 

@@ -3,7 +3,7 @@ use Rattle.std.proofs.lemmas.List.{map_push, get_or_default}
 use Rattle.dac_pages.specs.declared.page.Page.{Page}
 use Rattle.dac_crews.specs.Compared.{found}
 use Rattle.dac_live.specs.Reads.{page_one}
-use Rattle.dac_live.proofs.Spoken.{found_on, zip_within, zip_at, zip_all}
+use Rattle.dac_phases.specs.laws.Spoken.{found_on, zip_within, zip_at, zip_all}
 use Rattle.dac_live.proofs.reads.with_pages.Goals as goal
 use Rattle.dac_live.proofs.reads.with_pages.Goals.{in-Some+in_ok-push-in-Some, in-None}
 

@@ -9,7 +9,7 @@ use Rattle.dac_live.specs.Lines.{Answers, LinesAnswered}
 use Rattle.dac_live.specs.Reads.{own_in, own_of, FollowsReceipts}
 use Rattle.dac_live.specs.Following.{receipts_from, Follows}
 use Rattle.dac_live.proofs.Followed.{follows_append, follows_receipts}
-use Rattle.dac_live.proofs.Spoken.{flat_more, zip_within, zip_at, zip_all, all_zip_at}
+use Rattle.dac_phases.specs.laws.Spoken.{flat_more, zip_within, zip_at, zip_all, all_zip_at}
 use Rattle.dac_live.proofs.receipts.caller_follows.Goals as goal
 
 -- of a phase and its answers

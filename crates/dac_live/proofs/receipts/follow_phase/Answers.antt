@@ -7,7 +7,7 @@ use Rattle.dac_crews.specs.Compared.{found}
 use Rattle.dac_live.specs.Reads.{own_one}
 use Rattle.dac_live.specs.Following.{Follows}
 use Rattle.dac_live.proofs.Followed.{follows_append, found_next}
-use Rattle.dac_live.proofs.Spoken.{zip_within, zip_at, zip_all}
+use Rattle.dac_phases.specs.laws.Spoken.{zip_within, zip_at, zip_all}
 use Rattle.dac_live.proofs.receipts.follow_phase.Goals as goal
 
 pub loop-i-preserved : goal.loop-i-preserved

@@ -21,7 +21,7 @@ pub returns-in_err-events-clause-fault : goal.returns-in_err-events-clause-fault
 returns-in_err-events-clause-fault g c =
     let asks : AsksAs c.deref-2.result.now (parts_of c.args.script.now) = asks_script c.args.script.now c.deref-2.result.now c.in_ok-phases.phases.items c.deref.result.now c.in_ok-parts.parts.items c.deref-2.ensures.value c.in_ok-phases.ensures c.deref.ensures.value c.in_ok-parts.ensures in
     let run = c.in_ok-report.ensures in
-    let is : IsReport c.args.config.now c.deref-2.result.now c.in_ok-report.report = record { nodes = run.nodes; histories = run.histories; seats = run.seats; links = run.links; pages = run.pages; callers = run.callers; lines = run.lines; reads = run.reads } in
+    let is : IsReport c.args.config.now c.deref-2.result.now c.in_ok-report.report = record { nodes = run.nodes; histories = run.histories; seats = run.seats; links = run.links; falls = run.phases; pages = run.pages; callers = run.callers; lines = run.lines; reads = run.reads } in
     let reported : IsReportOf c.args.config.now c.args.script.now c.in_ok-report.report = record { phases = c.deref-2.result.now; asks = asks; few = λ many. no_error _ _ (run.many many); is = is } in
     let p = err_from_is_err_and c.from_residual-in_err-events.result c.from_residual-in_err-events.ensures.1 in
     rw p.1 (weave_fails c.args.config.now c.args.script.now c.in_ok-report.report c.in_err-events.field-0.0 p.0 reported
@@ -33,7 +33,7 @@ pub returns-clause-ok : goal.returns-clause-ok
 returns-clause-ok g c =
     let asks : AsksAs c.deref-2.result.now (parts_of c.args.script.now) = asks_script c.args.script.now c.deref-2.result.now c.in_ok-phases.phases.items c.deref.result.now c.in_ok-parts.parts.items c.deref-2.ensures.value c.in_ok-phases.ensures c.deref.ensures.value c.in_ok-parts.ensures in
     let run = c.in_ok-report.ensures in
-    let is : IsReport c.args.config.now c.deref-2.result.now c.in_ok-report.report = record { nodes = run.nodes; histories = run.histories; seats = run.seats; links = run.links; pages = run.pages; callers = run.callers; lines = run.lines; reads = run.reads } in
+    let is : IsReport c.args.config.now c.deref-2.result.now c.in_ok-report.report = record { nodes = run.nodes; histories = run.histories; seats = run.seats; links = run.links; falls = run.phases; pages = run.pages; callers = run.callers; lines = run.lines; reads = run.reads } in
     let reported : IsReportOf c.args.config.now c.args.script.now c.in_ok-report.report = record { phases = c.deref-2.result.now; asks = asks; few = λ many. no_error _ _ (run.many many); is = is } in
     let events = c.in_ok-events.events.items in
     record {

@@ -1,6 +1,0 @@
-use Rattle.std.proofs.Common.{ℕ, ◌<◌}
-use Rattle.dac_live.specs.Pairs.{RowHolds, records_at}
-use Rattle.dac_live.proofs.pairs.lost_link.Given as goal
-
-abbrev pub invariant-loop-from : goal.invariant-loop-from
-invariant-loop-from l = (f : ℕ) → f < l.from → RowHolds l.phases f (records_at l.closed f) l.closed

@@ -1,6 +1,0 @@
-use Rattle.std.proofs.Common.{take}
-use Rattle.dac_live.specs.Pairs.{AreOfSeats}
-use Rattle.dac_live.proofs.seats.strange_place.Given as goal
-
-abbrev pub invariant-loop-i : goal.invariant-loop-i
-invariant-loop-i l = AreOfSeats l.nodes (take l.i l.records)

@@ -1,0 +1,3 @@
+mod Parted
+mod Seating
+mod Shipped

@@ -1,0 +1,8 @@
+use Rattle.std.proofs.Common.{◌<◌, ◌≢◌, ℕ, map}
+use Rattle.dac_crews.specs.Compared.{Linked}
+use Rattle.dac_phases.specs.Pairs.{shipper_seat, worker_seat}
+use Rattle.dac_phases.specs.Phases.{part_at}
+use Rattle.dac_phases.proofs.phases.use_links.Given as goal
+
+abbrev pub invariant-loop-to : goal.invariant-loop-to
+invariant-loop-to l = (t : ℕ) → t < l.to → t ≢ l.from → Linked 1 (record { 0 = t }) (shipper_seat l.from t) (worker_seat t l.from) (part_at (map (λ p. p.now) l.parts) l.from) (part_at (map (λ p. p.now) l.parts) t)

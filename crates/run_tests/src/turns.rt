@@ -1,0 +1,220 @@
+//! Who takes turns: the links of the last round in their order, and callers and links beside each other.
+use crate::runs::{EXAMPLE, Open, boot, ran, three_phases, tick};
+use dac_base::NodeId;
+use dac_live::{Closed, Gate, Line, Phase, Record};
+use dac_messages::Event;
+use std::alloc::Global;
+use std::sync::Wait;
+use std::sync::atomic::{AtomicU64, Ordering};
+use std::test::Fail;
+use std::thread::Threads;
+
+/// The links of three nodes, by name.
+const LINKS: [(u8, u8); 6] = [(0, 1), (0, 2), (1, 0), (1, 2), (2, 0), (2, 1)];
+
+/// Counts all hearings of a run, and keeps the last one of each link.
+#[derive(Drop)]
+struct Turns {
+    all: AtomicU64,
+    last: [AtomicU64; 6],
+}
+
+impl Turns {
+    fn new() -> Self {
+        Turns {
+            all: AtomicU64::new(0),
+            last: [
+                AtomicU64::new(0),
+                AtomicU64::new(0),
+                AtomicU64::new(0),
+                AtomicU64::new(0),
+                AtomicU64::new(0),
+                AtomicU64::new(0),
+            ],
+        }
+    }
+
+    /// Whether the last hearings of all were those of the links, by name.
+    fn are_in_order(&self) -> bool {
+        let all = self.all.load(Ordering::SeqCst);
+        let mut left = 6u64;
+        for last in &self.last {
+            left = left.saturating_sub(1);
+            if last.load(Ordering::SeqCst).checked_add(left) != Some(all) {
+                return false;
+            }
+        }
+        true
+    }
+}
+
+impl Gate for Turns {
+    fn before(&self, from: NodeId, to: NodeId, _k: u64) {
+        let turn = self.all.fetch_add(1, Ordering::SeqCst);
+        for (link, last) in LINKS.iter().zip(self.last.iter()) {
+            if link.0 == from.0 && link.1 == to.0 {
+                last.store(turn.saturating_add(1), Ordering::SeqCst);
+            }
+        }
+    }
+
+    fn after(&self, _from: NodeId, _to: NodeId, _k: u64) {}
+}
+
+/// Where the last record stands that hears from this node.
+fn last_hearing(records: &[Record], node: u8) -> Option<usize> {
+    let mut last = None;
+    for i in 0..records.len() {
+        match &records[i].event {
+            Event::Hear(message) if message.from.node == NodeId(node) => last = Some(i),
+            _ => {}
+        }
+    }
+    last
+}
+
+/// Where the last record stands that ships to this node.
+fn last_ship(records: &[Record], node: u8) -> Option<usize> {
+    let mut last = None;
+    for i in 0..records.len() {
+        match &records[i].event {
+            Event::Ship { to } if *to == NodeId(node) => last = Some(i),
+            _ => {}
+        }
+    }
+    last
+}
+
+/// Whether the last hearing from a node of a lesser name stands before the last ship to it.
+fn is_heard_first(closed: &[Closed], node: usize, other: u8) -> bool {
+    let Some(one) = closed.get(node) else {
+        return false;
+    };
+    match (
+        last_hearing(one.records(), other),
+        last_ship(one.records(), other),
+    ) {
+        (Some(hears), Some(ships)) => hears < ships,
+        _ => false,
+    }
+}
+
+/// Whether the links of a run's last round took turns by name: each shipped and was heard before the next one shipped.
+fn take_turns<R: Threads + Wait + Sync>(rt: &R, alloc: Global) -> Option<bool> {
+    let gate = Turns::new();
+    let phases = three_phases(alloc)?;
+    let report = ran(rt, alloc, EXAMPLE, phases.as_slice(), &gate)?.ok()?;
+    let closed = report.closed.as_slice();
+    let heard = is_heard_first(closed, 1, 0) && is_heard_first(closed, 2, 0);
+    Some(gate.are_in_order() && heard && is_heard_first(closed, 2, 1))
+}
+
+#[test]
+fn links_take_turns_by_name(rt: HostRuntime) -> Result<(), Fail> {
+    assert_eq!(rt; take_turns(&rt, rt.alloc()), Some(true));
+    Ok(())
+}
+
+/// Two nodes.
+const TWO: &[u8] = b"[{kernel,[{distributed,[{a,[a@h,b@h]}]}]}].";
+
+/// So often each of two callers of each node ticks.
+const TICKS: u32 = 500;
+
+/// Two nodes boot, and then two callers of each tick.
+fn ticking(alloc: Global) -> Option<Vec<Phase>> {
+    let mut boots = Vec::new(alloc);
+    let mut ticks = Vec::new(alloc);
+    for node in 0..2u8 {
+        boots
+            .push(Line {
+                node: NodeId(node),
+                caller: 1,
+                what: boot(0),
+            })
+            .ok()?;
+    }
+    for _time in 0..TICKS {
+        for (node, caller) in [(0, 1), (0, 2), (1, 1), (1, 2)] {
+            ticks
+                .push(Line {
+                    node: NodeId(node),
+                    caller,
+                    what: tick(0),
+                })
+                .ok()?;
+        }
+    }
+    let mut phases = Vec::new(alloc);
+    phases.push(Phase { lines: boots }).ok()?;
+    phases.push(Phase { lines: ticks }).ok()?;
+    Some(phases)
+}
+
+/// Whether the record is a tick of this caller.
+fn is_tick(one: &Record, caller: u16) -> bool {
+    match &one.event {
+        Event::Tick { now: _ } => one.seat == caller,
+        _ => false,
+    }
+}
+
+/// Whether the record hears a message.
+fn is_hearing(one: &Record) -> bool {
+    match &one.event {
+        Event::Hear(_) => true,
+        _ => false,
+    }
+}
+
+/// Whether the first caller ticks before and behind a tick of the second one, or before and behind a hearing.
+fn are_mixed(records: &[Record], hearing: bool) -> bool {
+    let mut began = false;
+    let mut other = false;
+    for one in records {
+        if is_tick(one, 1) {
+            if other {
+                return true;
+            }
+            began = true;
+        }
+        if began
+            && (if hearing {
+                is_hearing(one)
+            } else {
+                is_tick(one, 2)
+            })
+        {
+            other = true;
+        }
+    }
+    false
+}
+
+/// Whether some journal is mixed so.
+fn some_are_mixed(closed: &[Closed], hearing: bool) -> bool {
+    closed.iter().any(|one| are_mixed(one.records(), hearing))
+}
+
+/// Whether one of so many runs has callers beside each other, and one has a caller beside a link.
+fn run_beside<R: Threads + Wait + Sync>(rt: &R, alloc: Global, times: u32) -> Option<bool> {
+    let phases = ticking(alloc)?;
+    let mut callers = false;
+    let mut links = false;
+    for _time in 0..times {
+        let report = ran(rt, alloc, TWO, phases.as_slice(), &Open)?.ok()?;
+        let closed = report.closed.as_slice();
+        callers = callers || some_are_mixed(closed, false);
+        links = links || some_are_mixed(closed, true);
+        if callers && links {
+            return Some(true);
+        }
+    }
+    Some(false)
+}
+
+#[test]
+fn callers_and_links_run_beside_each_other(rt: HostRuntime) -> Result<(), Fail> {
+    assert_eq!(rt; run_beside(&rt, rt.alloc(), 100), Some(true));
+    Ok(())
+}
