@@ -1,5 +1,5 @@
 -- What lines ask and are answered, as they come.
-use Rattle.std.proofs.Common.{◌≡◌, ℕ, zero, suc, ◌+◌, ◌<◌, ◌≤◌, List, [], ◌∷◌, ◌++◌, length, take, get_or, Option, sym, ap, ◌∙◌, subst, arith, append-nil, append_assoc, take_all}
+use Rattle.std.proofs.Common.{◌≡◌, ◌⊎◌, inl, inr, ℕ, zero, suc, ◌+◌, ◌<◌, ◌≤◌, min, List, [], ◌∷◌, ◌++◌, length, take, get_or, map, Option, Some, None, refl, sym, ap, ◌∙◌, subst, arith, append-nil, append_assoc, take_all}
 use Rattle.std.specs.List.{AllZip, flat_map, zip}
 use Rattle.std.proofs.lemmas.List.{take_more}
 use Rattle.std.proofs.lemmas.List.Concat.{flat_map-append}
@@ -43,3 +43,8 @@ all_zip_next {A} {B} R xs ys i x y left right at on all here =
     let P : List A → Type 0 = λ v. AllZip R v (take (i + 1) ys) in
     let Q : List B → Type 0 = λ w. AllZip R (take i xs ++ x ∷ []) w in
     subst P (sym first) (subst Q (sym second) (all_zipped_more R (take i xs) (take i ys) x y all here))
+
+-- from the numbers below four to those from 1 to 4
+pub from_one : (P : ℕ → Type 0) → ((k : ℕ) → k < 4 → P (k + 1)) → (n : ℕ) → 1 ≤ n → n ≤ 4 → P n
+from_one P each zero low high = absurd (omega (arith, low))
+from_one P each (suc k) low high = let less : k < 4 = omega (arith, high) in let on : k + 1 ≡ suc k = omega arith in subst P on (each k less)
