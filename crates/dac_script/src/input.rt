@@ -43,7 +43,6 @@ pub(crate) fn first_line(text: &[u8]) -> (&[u8], Option<&[u8]>)
 /// Parts an input at its first line that is exactly `--`. The first part is what stands before it, up to and with the
 /// line feed that ends the line before. The second is what stands behind its own line feed. `None` where no line is
 /// the divider.
-#[tactic(auto, using(crate::proofs::Parting::front_none, crate::proofs::Parting::rest_within))]
 pub fn split_input(text: &[u8]) -> Option<(&[u8], &[u8])>
     ensures { MatchOption result (All (λ line. line ≢ divider) (lines_of text.now))
         (λ parts. IsParted text.now parts.0.now parts.1.now) }
@@ -89,7 +88,6 @@ fn read_on<R: Read>(
 ///
 /// Reading stops at one byte more than that, and where the source was read as often as it may be. A read that
 /// was only interrupted is tried again; any other failed read is answered.
-#[tactic(auto, using(crate::proofs::ReadOn::takes_more, crate::proofs::ReadOn::length_taken, crate::proofs::ReadOn::had_more, crate::proofs::ReadOn::read_whole))]
 pub(crate) fn read_within<R: Read>(
     alloc: Global,
     source: &mut Source<'_, R>,
