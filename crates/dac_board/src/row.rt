@@ -88,7 +88,7 @@ impl Row {
     {
         if change.pairs == 0 && change.is_still {
             if !change.is_claimed_alike && is_claimed_anew(change.old, change.new, app) {
-                self.stand(config, change.new, app);
+                self.set_standing(config, change.new, app);
             }
             return;
         }
@@ -99,7 +99,7 @@ impl Row {
     }
 
     /// Takes up how the application stands at its holder, and what its nodes make of that.
-    fn stand(&mut self, config: &Config, state: &State, app: AppId)
+    fn set_standing(&mut self, config: &Config, state: &State, app: AppId)
         requires { app.0 < app_count config.now }
         ensures spots { self.new.spots ≡ self.old.spots }
         ensures standing { self.new.standing ≡ standing_of config.now state.now app }

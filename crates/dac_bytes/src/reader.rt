@@ -40,7 +40,7 @@ impl<'a> ByteReader<'a> {
     }
 
     /// What is after the first so many bytes.
-    pub fn behind(bytes: &'a [u8], count: usize) -> Self
+    pub fn after(bytes: &'a [u8], count: usize) -> Self
         requires { count ≤ length bytes.now }
         ensures { result ≡ after count (whole bytes.now) }
     {

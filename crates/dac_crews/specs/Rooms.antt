@@ -3,7 +3,7 @@ use Rattle.std.specs.Prelude.{◌≡◌, All, List}
 use Rattle.crossbeam_channel.specs.Ends.{sends_on, ruled_capacity}
 use Rattle.dac_base.specs.declared.NodeId.{NodeId}
 use Rattle.dac_links.specs.declared.ends.LinkSender.{LinkSender}
-use Rattle.dac_crews.specs.declared.hiring.LinkEnds.{LinkEnds}
+use Rattle.dac_crews.specs.declared.setup.LinkEnds.{LinkEnds}
 
 -- the links from a node have room for 64 letters
 abbrev pub HasRoom : LinkEnds → Type 0

@@ -2,8 +2,8 @@
 
 ghost use Rattle.std.specs.Prelude.{◌≡◌};
 
+use crate::assignments::Shared;
 use crate::phases::{Outcome, Seen};
-use crate::posts::Shared;
 use crate::tasks::Task;
 use dac_base::NodeId;
 use dac_run::{Either, parted};

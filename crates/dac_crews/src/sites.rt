@@ -7,10 +7,10 @@
 ghost use Rattle.std.specs.Prelude.{◌≡◌};
 ghost use Rattle.dac_workers.specs.Sites.{IsBlankOf};
 
+use crate::assignments::{Assignment, Shared};
 use crate::endings::{Back, back_of, end_site};
-use crate::hiring::{CALLERS, LinkEnds, all_links, hire};
 use crate::phases::{Outcome, Phase};
-use crate::posts::{Post, Shared};
+use crate::setup::{CALLERS, LinkEnds, all_links, tasks_of};
 use crate::tasks::{Nobody, Task};
 use dac_base::NodeId;
 use dac_config::Config;
@@ -54,13 +54,13 @@ fn fault_of(stop: Stop<RunFault>) -> RunFault {
 /// The workers of the other sites, and behind them the tasks of this one.
 fn with_tasks<'a, L: SiteName, H: Watch, W: Drop>(
     shared: &Shared<'a, H>,
-    post: &'a Post<'a, L>,
+    assignment: &'a Assignment<'a, L>,
     seats: Vec<Seat<L>>,
     readers: &mut Vec<PageReader<L>>,
     ends: &mut Vec<LinkEnds>,
     rest: Vec<W>,
 ) -> Result<Vec<Either<W, Task<'a, L, H>>>, RunFault> {
-    let tasks = hire(shared, post, seats, readers, ends)?;
+    let tasks = tasks_of(shared, assignment, seats, readers, ends)?;
     let all = joined(shared.alloc, rest, tasks)?;
     Ok(all)
 }
@@ -98,8 +98,8 @@ fn run_at_first<
     mut ends: Vec<LinkEnds>,
     rest: Vec<W>,
 ) -> Result<Back<L, W>, RunFault> {
-    let post = Post::at(shared, NodeId(0), site);
-    let all = with_tasks(shared, &post, seats, readers, &mut ends, rest)?;
+    let assignment = Assignment::at(shared, NodeId(0), site);
+    let all = with_tasks(shared, &assignment, seats, readers, &mut ends, rest)?;
     let (all, outcome) = run_all(rt, shared, all)?;
     back_of(shared.alloc, NodeId(0), all, outcome)
 }
@@ -150,8 +150,8 @@ fn run_at_second<
     mut ends: Vec<LinkEnds>,
     rest: Vec<W>,
 ) -> Result<Back<L, W>, RunFault> {
-    let post = Post::at(shared, NodeId(1), site);
-    let all = with_tasks(shared, &post, seats, readers, &mut ends, rest)?;
+    let assignment = Assignment::at(shared, NodeId(1), site);
+    let all = with_tasks(shared, &assignment, seats, readers, &mut ends, rest)?;
     let (all, outcome) = at_first(rt, shared, ends, all)?;
     back_of(shared.alloc, NodeId(1), all, outcome)
 }
@@ -202,8 +202,8 @@ fn run_at_third<
     mut ends: Vec<LinkEnds>,
     rest: Vec<W>,
 ) -> Result<Back<L, W>, RunFault> {
-    let post = Post::at(shared, NodeId(2), site);
-    let all = with_tasks(shared, &post, seats, readers, &mut ends, rest)?;
+    let assignment = Assignment::at(shared, NodeId(2), site);
+    let all = with_tasks(shared, &assignment, seats, readers, &mut ends, rest)?;
     let (all, outcome) = at_second(rt, shared, ends, all)?;
     back_of(shared.alloc, NodeId(2), all, outcome)
 }
@@ -254,8 +254,8 @@ fn run_at_fourth<
     mut ends: Vec<LinkEnds>,
     rest: Vec<W>,
 ) -> Result<Back<L, W>, RunFault> {
-    let post = Post::at(shared, NodeId(3), site);
-    let all = with_tasks(shared, &post, seats, readers, &mut ends, rest)?;
+    let assignment = Assignment::at(shared, NodeId(3), site);
+    let all = with_tasks(shared, &assignment, seats, readers, &mut ends, rest)?;
     let (all, outcome) = at_third(rt, shared, ends, all)?;
     back_of(shared.alloc, NodeId(3), all, outcome)
 }

@@ -2,9 +2,9 @@
 
 ghost use Rattle.dac_crews.specs.Causes.{is_cause};
 
+use crate::assignments::Assignment;
 use crate::causes::is_cause;
 use crate::phases::{Ask, Line};
-use crate::posts::Post;
 use dac_base::NodeId;
 use dac_links::{LinkReceiver, LinkSender};
 use dac_messages::Event;
@@ -18,7 +18,7 @@ use std::sync::Wait;
 /// A caller of a site, with what it saw.
 #[derive(Drop)]
 pub(crate) struct Caller<'a, L: SiteName> {
-    pub(crate) post: &'a Post<'a, L>,
+    pub(crate) assignment: &'a Assignment<'a, L>,
     pub(crate) seat: Seat<L>,
     pub(crate) reader: PageReader<L>,
     /// The receipt that it was given last.
@@ -30,12 +30,12 @@ pub(crate) struct Caller<'a, L: SiteName> {
 impl<L: SiteName> Caller<'_, L> {
     /// Whether the line is one of its lines.
     fn is_own(&self, line: &Line) -> bool {
-        line.node == self.post.node && u16::from(line.caller) == self.seat.number()
+        line.node == self.assignment.node && u16::from(line.caller) == self.seat.number()
     }
 
     /// Whether it has lines in the phase.
     fn has_lines(&self, phase: usize) -> bool {
-        self.post
+        self.assignment
             .lines_in(phase)
             .iter()
             .any(|line| self.is_own(line))
@@ -43,14 +43,14 @@ impl<L: SiteName> Caller<'_, L> {
 
     /// Asks its node. A refusal of the node is an answer too.
     fn ask<R: Wait>(&mut self, rt: &R, event: Event) -> Result<(), RunFault> {
-        match self.post.site.call(rt, &mut self.seat, event) {
+        match self.assignment.site.call(rt, &mut self.seat, event) {
             Ok(receipt) => {
                 self.last = Some(receipt);
                 Ok(())
             }
             Err(LiveFault::Refused { place: _, why: _ }) => Ok(()),
             Err(why) => Err(RunFault::Site {
-                node: self.post.node,
+                node: self.assignment.node,
                 why,
             }),
         }
@@ -76,8 +76,8 @@ impl<L: SiteName> Caller<'_, L> {
 
     /// Its lines in a phase, in order.
     fn do_lines<R: Wait>(&mut self, rt: &R, phase: usize) -> Result<(), RunFault> {
-        let post = self.post;
-        for line in post.lines_in(phase) {
+        let assignment = self.assignment;
+        for line in assignment.lines_in(phase) {
             if self.is_own(line) {
                 self.do_line(rt, &line.what)?;
             }
@@ -89,7 +89,7 @@ impl<L: SiteName> Caller<'_, L> {
 /// A shipper of a site.
 #[derive(Drop)]
 pub(crate) struct Shipper<'a, L: SiteName> {
-    pub(crate) post: &'a Post<'a, L>,
+    pub(crate) assignment: &'a Assignment<'a, L>,
     pub(crate) to: NodeId,
     pub(crate) seat: Seat<L>,
     pub(crate) out: LinkSender,
@@ -98,14 +98,14 @@ pub(crate) struct Shipper<'a, L: SiteName> {
 impl<L: SiteName> Shipper<'_, L> {
     /// Its ships in a phase.
     fn ship<R: Wait>(&mut self, rt: &R) -> Result<(), RunFault> {
-        let post = self.post;
+        let assignment = self.assignment;
         ship_link(
             rt,
-            post.alloc,
-            post.config,
-            post.node,
+            assignment.alloc,
+            assignment.config,
+            assignment.node,
             self.to,
-            post.site,
+            assignment.site,
             &mut self.seat,
             &mut self.out,
         )
@@ -113,14 +113,14 @@ impl<L: SiteName> Shipper<'_, L> {
 
     /// In its turn behind a phase: it ships once more.
     fn ship_again<R: Wait>(&mut self, rt: &R) -> Result<(), RunFault> {
-        let post = self.post;
+        let assignment = self.assignment;
         ship_last(
             rt,
-            post.alloc,
-            post.config,
-            post.node,
+            assignment.alloc,
+            assignment.config,
+            assignment.node,
             self.to,
-            post.site,
+            assignment.site,
             &mut self.seat,
             &mut self.out,
         )
@@ -128,14 +128,14 @@ impl<L: SiteName> Shipper<'_, L> {
 
     /// Whether it has this turn.
     fn has(&self, turn: Turn) -> bool {
-        turn.side == Side::Ship && turn.from == self.post.node && turn.to == self.to
+        turn.side == Side::Ship && turn.from == self.assignment.node && turn.to == self.to
     }
 }
 
 /// A link worker of a site.
 #[derive(Drop)]
 pub(crate) struct Listener<'a, L: SiteName, H: Watch> {
-    pub(crate) post: &'a Post<'a, L>,
+    pub(crate) assignment: &'a Assignment<'a, L>,
     pub(crate) watch: &'a H,
     pub(crate) from: NodeId,
     pub(crate) seat: Seat<L>,
@@ -145,14 +145,14 @@ pub(crate) struct Listener<'a, L: SiteName, H: Watch> {
 impl<L: SiteName, H: Watch> Listener<'_, L, H> {
     /// Hears until the end letter.
     fn hear<R: Wait>(&mut self, rt: &R) -> Result<(), RunFault> {
-        let post = self.post;
+        let assignment = self.assignment;
         hear_by(
             rt,
-            post.alloc,
-            post.config,
+            assignment.alloc,
+            assignment.config,
             self.from,
-            post.node,
-            post.site,
+            assignment.node,
+            assignment.site,
             &mut self.seat,
             &mut self.link,
             self.watch,
@@ -161,7 +161,7 @@ impl<L: SiteName, H: Watch> Listener<'_, L, H> {
 
     /// Whether it has this turn.
     fn has(&self, turn: Turn) -> bool {
-        turn.side == Side::Hear && turn.from == self.from && turn.to == self.post.node
+        turn.side == Side::Hear && turn.from == self.from && turn.to == self.assignment.node
     }
 }
 

@@ -22,7 +22,7 @@ use Rattle.dac_peers.specs.declared.positions.Position.{Position}
 use Rattle.dac_peers.specs.Peers.{PeersValue, got_after, got_by}
 use Rattle.dac_model_node.specs.ModelNode.{ModelRunning, joined, running_shown}
 use Rattle.dac_model_node.specs.Shipping.{IsPosition, IsBody}
-use Rattle.dac_model_node.specs.Deeds.{message_of}
+use Rattle.dac_model_node.specs.Transitions.{message_of}
 use Rattle.dac_model_node.specs.laws.Options.{some_same}
 use Rattle.dac_model_node.specs.laws.Shipping.{message_is}
 use Rattle.dac_model_world.specs.laws.Carried.{none_some}

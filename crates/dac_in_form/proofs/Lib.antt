@@ -4,6 +4,6 @@ mod HeldForm
 mod Commands
 mod Claims
 mod Heads
-mod Deeds
+mod Transitions
 mod Runs
 mod ReadAgain

@@ -29,8 +29,8 @@ use Rattle.dac_commands.specs.laws.Written.{none_is}
 use Rattle.dac_model_node.specs.Effect.{issued_by}
 use Rattle.dac_model_node.specs.ModelNode.{ModelNode, ModelRunning, joined, running_shown, shown}
 use Rattle.dac_model_node.specs.EventRefusals.{refusal_off, refusal_on, refusal_by, refusal_of}
-use Rattle.dac_model_node.specs.Deeds.{Deed, moment_of, note_of}
-use Rattle.dac_model_node.specs.Step.{step_by, accepted, up, comes_up, goes_on, deed_on}
+use Rattle.dac_model_node.specs.Transitions.{Transition, moment_of, note_of}
+use Rattle.dac_model_node.specs.Step.{step_by, accepted, up, comes_up, goes_on, transition_on}
 use Rattle.dac_model_node.specs.laws.Numbers.{fits}
 use Rattle.dac_model_node.specs.laws.Options.{some_same}
 use Rattle.dac_model_node.specs.laws.Writing.{no_off}
@@ -47,7 +47,7 @@ use Rattle.dac_in_form.specs.Issued.{RunIsInForm}
 use Rattle.dac_in_form.proofs.MayIssue.{MayIssue, MeaningsMayIssue}
 use Rattle.dac_in_form.proofs.Claims.{one_more}
 use Rattle.dac_in_form.proofs.Heads.{IsHead, AreGot, heads_more, head_at}
-use Rattle.dac_in_form.proofs.Deeds.{none_issued, deed_is}
+use Rattle.dac_in_form.proofs.Transitions.{none_issued, transition_is}
 
 -- ---- the invariant
 
@@ -94,11 +94,11 @@ boot_at_most last (Ship to) none = no_off none
 boot_at_most last (Hear m) none = no_off none
 boot_at_most last (HearOp o) none = no_off none
 
--- what a deed leaves of a log and of peers
-goes_as : (r : ModelRunning) (note : Note) (deed : Deed) (q : ModelRunning) → goes_on r note deed ≡ Some q → (q.log ≡ r.log ++ deed.adds) × (q.peers ≡ deed.peers)
-goes_as r note deed q e = by_off deed.goes_off _ refl refl e
+-- what a transition leaves of a log and of peers
+goes_as : (r : ModelRunning) (note : Note) (transition : Transition) (q : ModelRunning) → goes_on r note transition ≡ Some q → (q.log ≡ r.log ++ transition.adds) × (q.peers ≡ transition.peers)
+goes_as r note transition q e = by_off transition.goes_off _ refl refl e
   where
-    by_off : (off : Bool) (after : ModelRunning) → after.log ≡ r.log ++ deed.adds → after.peers ≡ deed.peers → cond off None (Some after) ≡ Some q → (q.log ≡ r.log ++ deed.adds) × (q.peers ≡ deed.peers)
+    by_off : (off : Bool) (after : ModelRunning) → after.log ≡ r.log ++ transition.adds → after.peers ≡ transition.peers → cond off None (Some after) ≡ Some q → (q.log ≡ r.log ++ transition.adds) × (q.peers ≡ transition.peers)
     by_off true after log peers p = none_some p
     by_off false after log peers p =
         let same = sym (some_same after q p) in
@@ -165,23 +165,23 @@ module _ (means : MeaningsMayIssue) (t : Table) (w : ModelWorld) (s : SetWorld) 
         subst (λ (p : Origin × StateValue). MayIssue t p.0 p.1) (λ i. (sym held.mine i, sym held.state i))
         (means t os agree (λ o i. f.operations o (held.ok.within o i)) own was.origin (held.ok.own (up own) was.booted refl))
 
-    -- the node does a deed
-    deed_next : (e : Event) → refusal_on t (running_shown t r) e ≡ None → ((m : Message) → e ≡ Hear m → IsHead t m) →
-        let deed = deed_on t r e in
-        let d : ModelNode = record { last = (w.node n).last; running = goes_on r (note_of (joined r.log) e) deed } in
-        IsWorld t (record { count = w.count; node = with_node w.node n d; operations = w.operations ++ issued_by deed.reply; messages = w.messages ++ shipped_by deed.reply })
-    deed_next e none comes =
-        let deed = deed_on t r e in
+    -- the node does a transition
+    transition_next : (e : Event) → refusal_on t (running_shown t r) e ≡ None → ((m : Message) → e ≡ Hear m → IsHead t m) →
+        let transition = transition_on t r e in
+        let d : ModelNode = record { last = (w.node n).last; running = goes_on r (note_of (joined r.log) e) transition } in
+        IsWorld t (record { count = w.count; node = with_node w.node n d; operations = w.operations ++ issued_by transition.reply; messages = w.messages ++ shipped_by transition.reply })
+    transition_next e none comes =
+        let transition = transition_on t r e in
         let note = note_of (joined r.log) e in
-        let is = deed_is t r may_issue was.count was.got e none comes in
+        let is = transition_is t r may_issue was.count was.got e none comes in
         let room = fits t (running_shown t r) (waits_of t (note ∷ r.notes)) was.count e none in
-        world_next (record { last = (w.node n).last; running = goes_on r note deed }) (issued_by deed.reply) (shipped_by deed.reply)
+        world_next (record { last = (w.node n).last; running = goes_on r note transition }) (issued_by transition.reply) (shipped_by transition.reply)
         (λ q went.
-        let as_was = goes_as r note deed q went in
+        let as_was = goes_as r note transition q went in
         record {
           origin = was.origin;
-          booted = In-append_left (up (own_origin n (w.node n).last)) w.operations (issued_by deed.reply) was.booted;
-          count = few (length q.log) (length r.log) (length deed.adds) MAX_COUNTER (ap length as_was.0 ∙ length-append r.log deed.adds) room;
+          booted = In-append_left (up (own_origin n (w.node n).last)) w.operations (issued_by transition.reply) was.booted;
+          count = few (length q.log) (length r.log) (length transition.adds) MAX_COUNTER (ap length as_was.0 ∙ length-append r.log transition.adds) room;
           got = subst (AreGot t) (sym as_was.1) is.got;
         })
         is.issued
@@ -197,7 +197,7 @@ module _ (means : MeaningsMayIssue) (t : Table) (w : ModelWorld) (s : SetWorld) 
   world_ok what e None there is none on =
       boot_is (moment_of e) there (boot_at_most (w.node n).last e (ap (λ (l : Option ModelRunning). refusal_by t (w.node n).last (option_map (running_shown t) l) e) (sym on) ∙ none))
   world_ok what e (Some r) there is none on =
-      deed_next r on e (ap (λ (l : Option ModelRunning). refusal_by t (w.node n).last (option_map (running_shown t) l) e) (sym on) ∙ none)
+      transition_next r on e (ap (λ (l : Option ModelRunning). refusal_by t (w.node n).last (option_map (running_shown t) l) e) (sym on) ∙ none)
       (λ m heard. let comes = hears w.operations w.messages what m (is ∙ ap (λ (x : Event). Ok x) heard) in counted_head t w.messages comes.number m f.messages comes.there)
 
   world_by : (what : What) → n.0 < node_count t → IsWorld t (happens_by t w n (event_of w.operations w.messages what)).world

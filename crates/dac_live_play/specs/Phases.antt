@@ -1,8 +1,8 @@
 -- A script in phases, and what its callers are asked in each.
 use Rattle.std.specs.Prelude.{Bool, true, false, ◌≡◌, List, map, Option, Some, None}
 use Rattle.std.specs.List.{slice_split, filter_map}
-use Rattle.dac_script.specs.declared.line.Deed.{Deed}
-use Rattle.dac_script.specs.declared.line.Deed.TheVariants as deed
+use Rattle.dac_script.specs.declared.line.Request.{Request}
+use Rattle.dac_script.specs.declared.line.Request.TheVariants as request
 use Rattle.dac_script.specs.declared.live_line.LiveLine.{LiveLine}
 use Rattle.dac_script.specs.declared.live_line.LiveLine.TheVariants as says
 use Rattle.dac_messages.specs.declared.event.Event.{Event}
@@ -23,11 +23,11 @@ abbrev pub parts_of : List LiveLine → List (List LiveLine)
 parts_of script = slice_split ends_phase script
 
 -- what happens at a node of which this is asked
-abbrev pub event_of : Deed → Event
-event_of (deed.Boot now) = event.Boot now
-event_of deed.Crash = event.Crash
-event_of (deed.Command command) = event.Command command
-event_of (deed.Tick now) = event.Tick now
+abbrev pub event_of : Request → Event
+event_of (request.Boot now) = event.Boot now
+event_of request.Crash = event.Crash
+event_of (request.Command command) = event.Command command
+event_of (request.Tick now) = event.Tick now
 
 -- what a caller is asked to do, if it is a caller's line
 abbrev pub asked_by : LiveLine → Option Line

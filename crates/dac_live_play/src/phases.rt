@@ -6,7 +6,7 @@ ghost use Rattle.dac_live_play.specs.Phases.{ends_phase, parts_of, event_of, ask
 use dac_base::NoMemory;
 use dac_live::{Ask, Line, Phase};
 use dac_messages::Event;
-use dac_script::{Deed, LiveLine};
+use dac_script::{LiveLine, Request};
 use std::alloc::Global;
 
 /// Whether a phase ends.
@@ -28,14 +28,14 @@ pub fn parts_of(alloc: Global, script: &[LiveLine]) -> Result<Vec<&[LiveLine]>, 
 }
 
 /// What happens at a node of which this is asked.
-fn event_of(deed: Deed) -> Event
-    ensures { result ≡ event_of deed }
+fn event_of(request: Request) -> Event
+    ensures { result ≡ event_of request }
 {
-    match deed {
-        Deed::Boot { now } => Event::Boot { now },
-        Deed::Crash => Event::Crash,
-        Deed::Command(command) => Event::Command(command),
-        Deed::Tick { now } => Event::Tick { now },
+    match request {
+        Request::Boot { now } => Event::Boot { now },
+        Request::Crash => Event::Crash,
+        Request::Command(command) => Event::Command(command),
+        Request::Tick { now } => Event::Tick { now },
     }
 }
 
@@ -44,10 +44,14 @@ fn asked_by(line: &LiveLine) -> Option<Line>
     ensures { result ≡ asked_by line.now }
 {
     match line {
-        LiveLine::Do { node, caller, deed } => Some(Line {
+        LiveLine::Do {
+            node,
+            caller,
+            request,
+        } => Some(Line {
             node: *node,
             caller: *caller,
-            what: Ask::Do(event_of(*deed)),
+            what: Ask::Do(event_of(*request)),
         }),
         LiveLine::Read { node, caller } => Some(Line {
             node: *node,

@@ -14,7 +14,7 @@ use Rattle.dac_messages.specs.declared.reply.Reply.{Reply}
 use Rattle.dac_messages.specs.declared.reply.Reply.TheVariants.{Booted}
 use Rattle.dac_model_node.specs.NodeValue.{NodeValue, RunningValue}
 use Rattle.dac_model_node.specs.EventRefusals.{refusal_of}
-use Rattle.dac_model_node.specs.Deeds.{Deed, deed_of, moment_of, note_of}
+use Rattle.dac_model_node.specs.Transitions.{Transition, transition_of, moment_of, note_of}
 use Rattle.dac_model_node.specs.Step.{up}
 use Rattle.dac_deltas.specs.declared.buffer.TheConstants.{MAX_DELTAS}
 
@@ -30,32 +30,32 @@ booted t own now = record {
   peers = no_peers;
 }
 
--- what runs after a deed, where so much is noted by then
-abbrev pub running_by : RunningValue → List (Option Noted) → Deed → Option RunningValue
-running_by r noted deed = cond deed.goes_off None (Some (record {
+-- what runs after a transition, where so much is noted by then
+abbrev pub running_by : RunningValue → List (Option Noted) → Transition → Option RunningValue
+running_by r noted transition = cond transition.goes_off None (Some (record {
   origin = r.origin;
-  moments = record { booted = r.moments.booted; last = deed.last };
-  is_open = deed.is_open;
-  waits = cond deed.notes noted r.waits;
-  state = fold join r.state deed.adds;
-  kept = trimmed (fold pushed r.kept deed.adds) deed.trim;
-  peers = deed.peers;
+  moments = record { booted = r.moments.booted; last = transition.last };
+  is_open = transition.is_open;
+  waits = cond transition.notes noted r.waits;
+  state = fold join r.state transition.adds;
+  kept = trimmed (fold pushed r.kept transition.adds) transition.trim;
+  peers = transition.peers;
 }))
 
 -- the reply to an accepted event
 abbrev pub reply_by : Table → NodeId → ℕ → Option RunningValue → List (Option Noted) → Event → Reply
 reply_by t me last None noted e = Booted (up (record { node = me; inc = last + 1 }))
-reply_by t me last (Some r) noted e = (deed_of t r noted e).reply
+reply_by t me last (Some r) noted e = (transition_of t r noted e).reply
 
 -- what an accepted event leaves
 abbrev pub left_by : Table → NodeId → ℕ → Option RunningValue → List (Option Noted) → Event → NodeValue
 left_by t me last None noted e =
     record { last = last + 1; running = Some (booted t (record { node = me; inc = last + 1 }) (moment_of e)) }
-left_by t me last (Some r) noted e = record { last = last; running = running_by r noted (deed_of t r noted e) }
+left_by t me last (Some r) noted e = record { last = last; running = running_by r noted (transition_of t r noted e) }
 
 -- where the event notes which claims are lost, this is noted by then: the notes before and one more
 abbrev pub IsNoting : Table → RunningValue → List (Option Noted) → Event → Type 0
-IsNoting t r noted e = (deed_of t r noted e).notes ≡ true → (notes : List Note) → r.waits ≡ waits_of t notes
+IsNoting t r noted e = (transition_of t r noted e).notes ≡ true → (notes : List Note) → r.waits ≡ waits_of t notes
     → noted ≡ waits_of t (note_of r.state e ∷ notes)
 
 -- the same of a node that may be off; one that is off notes nothing

@@ -1,7 +1,7 @@
 pub mod NodeValue
 pub mod ModelNode
 pub mod EventRefusals
-pub mod Deeds
+pub mod Transitions
 pub mod Step
 pub mod Accepted
 pub mod Shipping

@@ -15,7 +15,7 @@ use Rattle.dac_messages.specs.declared.reply.Reply.TheVariants.{Booted}
 use Rattle.dac_events.specs.declared.refusal.Refusal.{Refusal}
 use Rattle.dac_model_node.specs.NodeValue.{NodeValue}
 use Rattle.dac_model_node.specs.ModelNode.{ModelNode, ModelRunning, joined, base_after, running_shown, shown}
-use Rattle.dac_model_node.specs.Deeds.{Deed, deed_of, moment_of, note_of}
+use Rattle.dac_model_node.specs.Transitions.{Transition, transition_of, moment_of, note_of}
 use Rattle.dac_model_node.specs.EventRefusals.{refusal_of}
 
 -- the operation that a boot issues
@@ -34,21 +34,21 @@ comes_up own now = record {
   peers = no_peers;
 }
 
--- what runs after a deed, with this note if it notes
-abbrev pub goes_on : ModelRunning → Note → Deed → Option ModelRunning
-goes_on r note deed = cond deed.goes_off None (Some (record {
+-- what runs after a transition, with this note if it notes
+abbrev pub goes_on : ModelRunning → Note → Transition → Option ModelRunning
+goes_on r note transition = cond transition.goes_off None (Some (record {
   origin = r.origin;
-  moments = record { booted = r.moments.booted; last = deed.last };
-  is_open = deed.is_open;
-  notes = cond deed.notes (note ∷ r.notes) r.notes;
-  log = r.log ++ deed.adds;
-  base = base_after r.base (length (r.log ++ deed.adds)) deed.trim;
-  peers = deed.peers;
+  moments = record { booted = r.moments.booted; last = transition.last };
+  is_open = transition.is_open;
+  notes = cond transition.notes (note ∷ r.notes) r.notes;
+  log = r.log ++ transition.adds;
+  base = base_after r.base (length (r.log ++ transition.adds)) transition.trim;
+  peers = transition.peers;
 }))
 
 -- what an accepted event does at a running model node
-abbrev pub deed_on : Table → ModelRunning → Event → Deed
-deed_on t r e = deed_of t (running_shown t r) (waits_of t (note_of (joined r.log) e ∷ r.notes)) e
+abbrev pub transition_on : Table → ModelRunning → Event → Transition
+transition_on t r e = transition_of t (running_shown t r) (waits_of t (note_of (joined r.log) e ∷ r.notes)) e
 
 -- what a step gives: the node after it, and the answer
 pub record Stepped : Type 0 where
@@ -61,8 +61,8 @@ accepted t me last None e =
     let own : Origin = record { node = me; inc = last + 1 } in
     record { node = record { last = last + 1; running = Some (comes_up own (moment_of e)) }; answer = Ok (Booted (up own)) }
 accepted t me last (Some r) e = record {
-  node = record { last = last; running = goes_on r (note_of (joined r.log) e) (deed_on t r e) };
-  answer = Ok (deed_on t r e).reply;
+  node = record { last = last; running = goes_on r (note_of (joined r.log) e) (transition_on t r e) };
+  answer = Ok (transition_on t r e).reply;
 }
 
 -- a step, where this refuses the event, if anything does

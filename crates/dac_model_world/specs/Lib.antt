@@ -18,7 +18,7 @@ pub mod Records
 pub mod Converges
 pub mod EveryList
 pub mod laws
-pub use Rattle.dac_model_node.specs.Deeds
+pub use Rattle.dac_model_node.specs.Transitions
 pub use Rattle.dac_model_node.specs.EventRefusals
 pub use Rattle.dac_model_node.specs.Keeping
 pub use Rattle.dac_model_node.specs.ModelNode

@@ -23,7 +23,7 @@ use Rattle.dac_events.specs.declared.refusal.Refusal.TheVariants.{DotsUsedUp}
 use Rattle.dac_model_node.specs.dac_commands.laws.Written.{none_is}
 use Rattle.dac_model_node.specs.NodeValue.{RunningValue}
 use Rattle.dac_model_node.specs.EventRefusals.{refusal_by, refusal_to_hear_op, overflows}
-use Rattle.dac_model_node.specs.Deeds.{Deed, brings, deed_of, hears_message, opening_at, ticks_by}
+use Rattle.dac_model_node.specs.Transitions.{Transition, brings, transition_of, hears_message, opening_at, ticks_by}
 use Rattle.dac_model_node.specs.Accepted.{AreNewest, running_by}
 use Rattle.dac_model_node.specs.laws.Numbers.{fits, room_to_hear}
 use Rattle.dac_node.specs.declared.change.After.{After}
@@ -33,19 +33,19 @@ use Rattle.dac_node.specs.After.{running_after, after_by, after_from_base, from_
 use Rattle.dac_node.specs.Changes.{ChangeValue, Effect, Fits, Prepared}
 
 -- an event that notes nothing
-pub quiet_effect : (t : Table) (number : ℕ) (r : RunningValue) (e : Event) (change : ChangeValue) → (deed_of t r [] e).notes ≡ false → change.last ≡ number →
-    change.after ≡ after_by r [] (deed_of t r [] e) → change.reply ≡ (deed_of t r [] e).reply → Effect t number r e change
+pub quiet_effect : (t : Table) (number : ℕ) (r : RunningValue) (e : Event) (change : ChangeValue) → (transition_of t r [] e).notes ≡ false → change.last ≡ number →
+    change.after ≡ after_by r [] (transition_of t r [] e) → change.reply ≡ (transition_of t r [] e).reply → Effect t number r e change
 quiet_effect t number r e change quiet last after reply = record { noted = []; noting = λ h. absurd (true≢false (sym h ∙ quiet)); last = last; after = ap (after_from_base r) after; reply = reply }
 
 -- an event that notes nothing and after which what ran goes on
-pub going_effect : (t : Table) (number : ℕ) (r : RunningValue) (e : Event) (next : AdvanceValue) (reply : Reply) (change : ChangeValue) → change ≡ record { last = number; after = GoesOn next; reply = reply } → (deed_of t r [] e).notes ≡ false
-    → GoesOn next ≡ after_by r [] (deed_of t r [] e) → reply ≡ (deed_of t r [] e).reply → Effect t number r e change
+pub going_effect : (t : Table) (number : ℕ) (r : RunningValue) (e : Event) (next : AdvanceValue) (reply : Reply) (change : ChangeValue) → change ≡ record { last = number; after = GoesOn next; reply = reply } → (transition_of t r [] e).notes ≡ false
+    → GoesOn next ≡ after_by r [] (transition_of t r [] e) → reply ≡ (transition_of t r [] e).reply → Effect t number r e change
 going_effect t number r e next reply change is quiet after same =
     quiet_effect t number r e change quiet (ap (λ (c : ChangeValue). c.last) is) (ap (λ (c : ChangeValue). c.after) is ∙ after) (ap (λ (c : ChangeValue). c.reply) is ∙ same)
 
--- the same, where what runs is what the deed asks for up to the base
-pub kept_effect : (t : Table) (number : ℕ) (r : RunningValue) (e : Event) (after : After) (reply : Reply) (change : ChangeValue) → change ≡ record { last = number; after = after; reply = reply } → (deed_of t r [] e).notes ≡ false
-    → after_from_base r after ≡ after_from_base r (after_by r [] (deed_of t r [] e)) → reply ≡ (deed_of t r [] e).reply → Effect t number r e change
+-- the same, where what runs is what the transition asks for up to the base
+pub kept_effect : (t : Table) (number : ℕ) (r : RunningValue) (e : Event) (after : After) (reply : Reply) (change : ChangeValue) → change ≡ record { last = number; after = after; reply = reply } → (transition_of t r [] e).notes ≡ false
+    → after_from_base r after ≡ after_from_base r (after_by r [] (transition_of t r [] e)) → reply ≡ (transition_of t r [] e).reply → Effect t number r e change
 kept_effect t number r e after reply change is quiet so same = record {
   noted = [];
   noting = λ h. absurd (true≢false (sym h ∙ quiet));
@@ -98,22 +98,22 @@ run_from_base r (GoesOn next) = ap (λ (kept : KeptDeltas StateValue). Some (run
 
 -- ---- at a node
 
--- what runs after what a deed asks for
-run_after_by : (r : RunningValue) (noted : List (Option Noted)) (deed : Deed) → running_after (after_by r noted deed) (Some r) ≡ running_by r noted deed
-run_after_by r noted deed = by deed.goes_off
+-- what runs after what a transition asks for
+run_after_by : (r : RunningValue) (noted : List (Option Noted)) (transition : Transition) → running_after (after_by r noted transition) (Some r) ≡ running_by r noted transition
+run_after_by r noted transition = by transition.goes_off
   where
-    by : (b : Bool) → running_after (cond b Off (GoesOn (next_by r noted deed))) (Some r) ≡ cond b None (Some (gone_on (next_by r noted deed) r))
+    by : (b : Bool) → running_after (cond b Off (GoesOn (next_by r noted transition))) (Some r) ≡ cond b None (Some (gone_on (next_by r noted transition) r))
     by true = refl
     by false = refl
 
 pub effect_prepared : (t : Table) (me : NodeId) (last : ℕ) (r : RunningValue) (e : Event) (change : ChangeValue) → refusal_by t last (Some r) e ≡ None → AreNewest r.kept → IsState r.state → Effect t last r e change → Prepared t me (record { last = last; running = Some r }) e change
 effect_prepared t me last r e change none newest is f =
-    let deed = deed_of t r f.noted e in
-    let running = sym (run_from_base r change.after) ∙ (ap (λ after. running_after after (Some r)) f.after ∙ (run_from_base r (after_by r f.noted deed) ∙ run_after_by r f.noted deed)) in
+    let transition = transition_of t r f.noted e in
+    let running = sym (run_from_base r change.after) ∙ (ap (λ after. running_after after (Some r)) f.after ∙ (run_from_base r (after_by r f.noted transition) ∙ run_after_by r f.noted transition)) in
     record { accepted = none; newest = newest; state = is; noted = f.noted; noting = f.noting; left = λ i. record { last = f.last i; running = running i }; reply = f.reply }
 
 -- only a ship ships, and what it ships is its own
-ships_own : (t : Table) (r : RunningValue) (noted : List (Option Noted)) (e : Event) → ShipsOwnIn (Some r) (deed_of t r noted e).reply
+ships_own : (t : Table) (r : RunningValue) (noted : List (Option Noted)) (e : Event) → ShipsOwnIn (Some r) (transition_of t r noted e).reply
 ships_own t r noted (Boot now) = tt
 ships_own t r noted Crash = tt
 ships_own t r noted (Commanded c) = tt
@@ -137,7 +137,7 @@ fits_from_base r (Keeps peers trim) h = tt
 -- numbers are left for what comes
 pub effect_fits : (t : Table) (last : ℕ) (r : RunningValue) (e : Event) (change : ChangeValue) → refusal_by t last (Some r) e ≡ None → r.kept.count ≤ MAX_COUNTER → Effect t last r e change → Fits (record { last = last; running = Some r }) change
 effect_fits t last r e change none countable f = record {
-  numbers = fits_from_base r change.after (subst (FitsIn (Some r)) (sym f.after) (to_fits (after_by r f.noted (deed_of t r f.noted e)) (by (deed_of t r f.noted e).goes_off)));
+  numbers = fits_from_base r change.after (subst (FitsIn (Some r)) (sym f.after) (to_fits (after_by r f.noted (transition_of t r f.noted e)) (by (transition_of t r f.noted e).goes_off)));
   ships = subst (ShipsOwnIn (Some r)) (sym f.reply) (ships_own t r f.noted e);
 }
   where
@@ -147,7 +147,7 @@ effect_fits t last r e change none countable f = record {
     to_fits (GoesOn next) h = h
     to_fits (Keeps peers trim) h = (omega (arith, countable), λ _. refl)
 
-    by : (b : Bool) → FitsIn (Some r) (cond b Off (GoesOn (next_by r f.noted (deed_of t r f.noted e))))
+    by : (b : Bool) → FitsIn (Some r) (cond b Off (GoesOn (next_by r f.noted (transition_of t r f.noted e))))
     by true = tt
     by false = (fits t r f.noted countable e none, λ nothing. ap (fold join r.state) nothing)
 

@@ -12,7 +12,7 @@ use Rattle.dac_messages.specs.declared.reply.Reply.TheVariants.{Ticked as HasTic
 use Rattle.dac_model_node.specs.dac_ticks.Ticks.{Turn, turn_of}
 use Rattle.dac_model_node.specs.dac_ticks.TurnSoFar.{IsMade}
 use Rattle.dac_model_node.specs.NodeValue.{RunningValue}
-use Rattle.dac_model_node.specs.Deeds.{ticks_by, opening_at, meanings}
+use Rattle.dac_model_node.specs.Transitions.{ticks_by, opening_at, meanings}
 use Rattle.dac_node.specs.declared.change.After.TheVariants.{GoesOn}
 use Rattle.dac_node.specs.Knowing.{ticking, knowledge_of}
 use Rattle.dac_node.specs.After.{after_by, after_from_base}

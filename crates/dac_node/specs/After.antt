@@ -8,7 +8,7 @@ use Rattle.dac_decide.specs.declared.waits.Noted.{Noted}
 use Rattle.dac_messages.specs.declared.reply.Reply.{Reply}
 use Rattle.dac_messages.specs.declared.reply.Reply.TheVariants.{Shipped}
 use Rattle.dac_model_node.specs.NodeValue.{RunningValue}
-use Rattle.dac_model_node.specs.Deeds.{Deed, message_of}
+use Rattle.dac_model_node.specs.Transitions.{Transition, message_of}
 use Rattle.dac_node.specs.declared.change.After.{After}
 use Rattle.dac_node.specs.declared.change.After.TheVariants.{Off, Boots, GoesOn, Keeps}
 use Rattle.dac_peers.specs.Peers.{PeersValue}
@@ -39,25 +39,25 @@ abbrev pub ShipsOwnIn : Option RunningValue → Reply → Type 0
 ShipsOwnIn (Some r) (Shipped m) = m ≡ message_of r m.to
 ShipsOwnIn old reply = Unit {0}
 
--- ---- what a deed asks for
+-- ---- what a transition asks for
 
--- what goes on by a deed, where so much is noted by then
-abbrev pub next_by : RunningValue → List (Option Noted) → Deed → AdvanceValue
-next_by r noted deed = record {
+-- what goes on by a transition, where so much is noted by then
+abbrev pub next_by : RunningValue → List (Option Noted) → Transition → AdvanceValue
+next_by r noted transition = record {
   knowledge = record {
     origin = r.origin;
-    moments = record { booted = r.moments.booted; last = deed.last };
-    is_open = deed.is_open;
-    waits = cond deed.notes noted r.waits;
-    state = fold join r.state deed.adds;
-    peers = deed.peers;
+    moments = record { booted = r.moments.booted; last = transition.last };
+    is_open = transition.is_open;
+    waits = cond transition.notes noted r.waits;
+    state = fold join r.state transition.adds;
+    peers = transition.peers;
   };
-  deltas = deed.adds;
-  trim = deed.trim;
+  deltas = transition.adds;
+  trim = transition.trim;
 }
 
-abbrev pub after_by : RunningValue → List (Option Noted) → Deed → After
-after_by r noted deed = cond deed.goes_off Off (GoesOn (next_by r noted deed))
+abbrev pub after_by : RunningValue → List (Option Noted) → Transition → After
+after_by r noted transition = cond transition.goes_off Off (GoesOn (next_by r noted transition))
 
 -- ---- up to the base
 

@@ -8,7 +8,7 @@ use Rattle.dac_messages.specs.declared.event.Event.{Event}
 use Rattle.dac_messages.specs.declared.reply.Reply.{Reply}
 use Rattle.dac_messages.specs.declared.reply.Reply.TheVariants.{Booted}
 use Rattle.dac_model_node.specs.NodeValue.{NodeValue, RunningValue}
-use Rattle.dac_model_node.specs.Deeds.{deed_of}
+use Rattle.dac_model_node.specs.Transitions.{transition_of}
 use Rattle.dac_model_node.specs.Step.{up}
 use Rattle.dac_model_node.specs.Accepted.{AcceptedAs, IsNoting, booted}
 use Rattle.dac_node.specs.declared.change.After.{After}
@@ -47,8 +47,8 @@ pub record Effect (t : Table) (number : ℕ) (r : RunningValue) (e : Event) (cha
   pub noted : List (Option Noted)
   pub noting : IsNoting t r noted e
   pub last : change.last ≡ number
-  pub after : after_from_base r change.after ≡ after_from_base r (after_by r noted (deed_of t r noted e))
-  pub reply : change.reply ≡ (deed_of t r noted e).reply
+  pub after : after_from_base r change.after ≡ after_from_base r (after_by r noted (transition_of t r noted e))
+  pub reply : change.reply ≡ (transition_of t r noted e).reply
 
 -- the event isn't refused, and this is what it does
 abbrev pub Prepared : Table → NodeId → NodeValue → Event → ChangeValue → Type 0

@@ -12,7 +12,7 @@ use Rattle.dac_decide.specs.declared.waits.Noted.{Noted}
 use Rattle.dac_decide.specs.FailoverWait.{coded_noted, waits_of}
 use Rattle.dac_decide.specs.declared.moments.Moments.{Moments}
 use Rattle.dac_model_node.specs.NodeValue.{RunningValue, coded_moments}
-use Rattle.dac_model_node.specs.Deeds.{brings}
+use Rattle.dac_model_node.specs.Transitions.{brings}
 use Rattle.dac_model_node.specs.Step.{up}
 
 -- all that a running node keeps but the newest deltas

@@ -4,7 +4,7 @@ ghost use Rattle.std.specs.Prelude.{◌≡◌, IfOk, IfErr, IfSome, MatchResult,
 ghost use Rattle.dac_config.specs.Table.{Table};
 ghost use Rattle.dac_messages.specs.Bodies.{content_of};
 ghost use Rattle.dac_model_node.specs.EventRefusals.{refusal_off as refused_off};
-ghost use Rattle.dac_model_node.specs.Deeds.{moment_of};
+ghost use Rattle.dac_model_node.specs.Transitions.{moment_of};
 
 use crate::change::{After, Change, Outcome};
 use crate::knowledge::covers_by_dot;

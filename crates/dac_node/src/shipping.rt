@@ -4,7 +4,7 @@ ghost use Rattle.std.specs.Prelude.{◌≡◌, ◌≤◌, ◌∷◌, [], not, If
 ghost use Rattle.dac_meaning.specs.Below.{is_below};
 ghost use Rattle.dac_meaning.specs.Meaning.{meaning_of};
 ghost use Rattle.dac_peers.specs.Peers.{is_up_to_date as needs_nothing, shipped_to};
-ghost use Rattle.dac_model_node.specs.Deeds.{body_from, message_of, hears_message};
+ghost use Rattle.dac_model_node.specs.Transitions.{body_from, message_of, hears_message};
 ghost use Rattle.dac_messages.specs.Bodies.{content_of};
 ghost use Rattle.dac_node.specs.ByDots.{IsBelowByDots};
 ghost use Rattle.dac_node.specs.Knowing.{hearing, knowledge_of};

@@ -10,7 +10,7 @@ ghost use Rattle.dac_model_node.specs.dac_ticks.Boards.{Shows};
 ghost use Rattle.dac_model_node.specs.dac_ticks.Ticks.{turn_of};
 ghost use Rattle.dac_model_node.specs.dac_ticks.TurnSoFar.{IsMade};
 ghost use Rattle.dac_model_node.specs.EventRefusals.{refusal_to_tick, too_few_left};
-ghost use Rattle.dac_model_node.specs.Deeds.{meanings, opening_at};
+ghost use Rattle.dac_model_node.specs.Transitions.{meanings, opening_at};
 ghost use Rattle.dac_node.specs.Knowing.{ticking};
 ghost use Rattle.dac_node.specs.Changes.{Effect};
 

@@ -27,7 +27,7 @@ use Rattle.dac_events.specs.declared.world_fault.WorldFault.TheVariants.{NoSuchN
 use Rattle.dac_peers.specs.Peers.{PeersValue, acked_by, begins, is_up_to_date, kept_from}
 use Rattle.dac_model_node.specs.ModelNode.{ModelNode, ModelRunning, joined, running_shown, shown}
 use Rattle.dac_model_node.specs.EventRefusals.{refusal_of, refusal_by}
-use Rattle.dac_model_node.specs.Deeds.{message_of}
+use Rattle.dac_model_node.specs.Transitions.{message_of}
 use Rattle.dac_model_node.specs.Step.{model_step, step_by}
 use Rattle.dac_model_world.specs.ModelWorld.{counted, ModelWorld, WorldStepped, happens, happens_by, answered_by, event_of, start}
 use Rattle.dac_model_world.specs.SetWorld.{SetWorld, NodeSet, Copy, copied_by, set_step, set_run, no_sets, united, brought_to}

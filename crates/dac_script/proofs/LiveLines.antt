@@ -18,8 +18,8 @@ use Rattle.dac_events.specs.declared.What.{What}
 use Rattle.dac_events.specs.declared.What.TheVariants as what
 use Rattle.dac_script.specs.declared.fault.ScriptFaultKind.{ScriptFaultKind}
 use Rattle.dac_script.specs.declared.fault.ScriptFaultKind.TheVariants.{BadWord, BadCount, BadName, BadNumber, UnknownActor, BadHex}
-use Rattle.dac_script.specs.declared.line.Deed.{Deed}
-use Rattle.dac_script.specs.declared.line.Deed.TheVariants as deed
+use Rattle.dac_script.specs.declared.line.Request.{Request}
+use Rattle.dac_script.specs.declared.line.Request.TheVariants as request
 use Rattle.dac_script.specs.declared.line.ScriptLine.{ScriptLine}
 use Rattle.dac_script.specs.declared.line.ScriptLine.TheVariants as says
 use Rattle.dac_script.specs.declared.live_line.LiveLine.{LiveLine}
@@ -108,48 +108,48 @@ abbrev HasAsked : List Slot → Type 0
 HasAsked (Word word ∷ slots) = (roles : List Role) × (asked_roles word ≡ Some roles) × (map kind_of slots ≡ map role_kind roles)
 HasAsked slots = ⊥
 
-asked_verb : (both : NodeId × Option Deed) → HasAsked (asked_form both)
+asked_verb : (both : NodeId × Option Request) → HasAsked (asked_form both)
 asked_verb (node, None) = (role.Actor ∷ [], refl, refl)
-asked_verb (node, Some (deed.Boot now)) = (role.Actor ∷ role.Number ∷ [], refl, refl)
-asked_verb (node, Some deed.Crash) = (role.Actor ∷ [], refl, refl)
-asked_verb (node, Some (deed.Tick now)) = (role.Actor ∷ role.Number ∷ [], refl, refl)
-asked_verb (node, Some (deed.Command (command.Down about))) = (role.Actor ∷ role.About ∷ [], refl, refl)
-asked_verb (node, Some (deed.Command (command.Permit app about value))) = (role.Actor ∷ role.Application ∷ role.About ∷ role.Flag ∷ [], refl, refl)
-asked_verb (node, Some (deed.Command (command.Start app about))) = (role.Actor ∷ role.Application ∷ role.About ∷ [], refl, refl)
-asked_verb (node, Some (deed.Command (command.Stop app about))) = (role.Actor ∷ role.Application ∷ role.About ∷ [], refl, refl)
-asked_verb (node, Some (deed.Command (command.Drain about value))) = (role.Actor ∷ role.About ∷ role.Flag ∷ [], refl, refl)
-asked_verb (node, Some (deed.Command (command.Takeover app))) = (role.Actor ∷ role.Application ∷ [], refl, refl)
+asked_verb (node, Some (request.Boot now)) = (role.Actor ∷ role.Number ∷ [], refl, refl)
+asked_verb (node, Some request.Crash) = (role.Actor ∷ [], refl, refl)
+asked_verb (node, Some (request.Tick now)) = (role.Actor ∷ role.Number ∷ [], refl, refl)
+asked_verb (node, Some (request.Command (command.Down about))) = (role.Actor ∷ role.About ∷ [], refl, refl)
+asked_verb (node, Some (request.Command (command.Permit app about value))) = (role.Actor ∷ role.Application ∷ role.About ∷ role.Flag ∷ [], refl, refl)
+asked_verb (node, Some (request.Command (command.Start app about))) = (role.Actor ∷ role.Application ∷ role.About ∷ [], refl, refl)
+asked_verb (node, Some (request.Command (command.Stop app about))) = (role.Actor ∷ role.Application ∷ role.About ∷ [], refl, refl)
+asked_verb (node, Some (request.Command (command.Drain about value))) = (role.Actor ∷ role.About ∷ role.Flag ∷ [], refl, refl)
+asked_verb (node, Some (request.Command (command.Takeover app))) = (role.Actor ∷ role.Application ∷ [], refl, refl)
 
 -- what is asked is known by its places
-abbrev deed_of : What → Option Deed
-deed_of (what.Boot now) = Some (deed.Boot now)
-deed_of what.Crash = Some deed.Crash
-deed_of (what.Command given) = Some (deed.Command given)
-deed_of (what.Tick now) = Some (deed.Tick now)
-deed_of happened = None
+abbrev request_of : What → Option Request
+request_of (what.Boot now) = Some (request.Boot now)
+request_of what.Crash = Some request.Crash
+request_of (what.Command given) = Some (request.Command given)
+request_of (what.Tick now) = Some (request.Tick now)
+request_of happened = None
 
-abbrev asked_by : Option ScriptLine → List Slot → Option (NodeId × Option Deed)
-asked_by (Some (says.Event event)) slots = option_map (λ asked. (event.node, Some asked)) (deed_of event.what)
+abbrev asked_by : Option ScriptLine → List Slot → Option (NodeId × Option Request)
+asked_by (Some (says.Event event)) slots = option_map (λ asked. (event.node, Some asked)) (request_of event.what)
 asked_by None (word ∷ Node node ∷ []) = Some (node, None)
 asked_by line slots = None
 
-abbrev asked_in : List Slot → Option (NodeId × Option Deed)
+abbrev asked_in : List Slot → Option (NodeId × Option Request)
 asked_in slots = asked_by (said_in slots) slots
 
-deed_known : (node : NodeId) (asked : Deed) (slots : List Slot) → asked_by (Some (says.Event (record { node = node; what = what_of asked }))) slots ≡ Some (node, Some asked)
-deed_known node (deed.Boot now) slots = refl
-deed_known node deed.Crash slots = refl
-deed_known node (deed.Command given) slots = refl
-deed_known node (deed.Tick now) slots = refl
+request_known : (node : NodeId) (asked : Request) (slots : List Slot) → asked_by (Some (says.Event (record { node = node; what = what_of asked }))) slots ≡ Some (node, Some asked)
+request_known node (request.Boot now) slots = refl
+request_known node request.Crash slots = refl
+request_known node (request.Command given) slots = refl
+request_known node (request.Tick now) slots = refl
 
-asked_said : (both : NodeId × Option Deed) → asked_in (asked_form both) ≡ Some both
+asked_said : (both : NodeId × Option Request) → asked_in (asked_form both) ≡ Some both
 asked_said (node, None) = refl
-asked_said (node, Some asked) = ap (λ o. asked_by o (asked_form (node, Some asked))) (event_said node (what_of asked)) ∙ deed_known node asked (asked_form (node, Some asked))
+asked_said (node, Some asked) = ap (λ o. asked_by o (asked_form (node, Some asked))) (event_said node (what_of asked)) ∙ request_known node asked (asked_form (node, Some asked))
 
 some_same : {X : Type 0} (x y : X) → Some x ≡ Some y → x ≡ y
 some_same x y e = cc
 
-abbrev line_by : ℕ → NodeId × Option Deed → LiveLine
+abbrev line_by : ℕ → NodeId × Option Request → LiveLine
 line_by caller (node, Some asked) = Do node caller asked
 line_by caller (node, None) = Read node caller
 
@@ -171,14 +171,14 @@ module _ (table : Table) where
   asked_same_by (Word word ∷ ss) ts (first ∷ words) well also has too = absurd also
   asked_same_by ss ts words well also has too = absurd well
 
-  asked_same : (a b : NodeId × Option Deed) (words : List (List ℕ)) → AllTell table (asked_form a) words → AllTell table (asked_form b) words → a ≡ b
+  asked_same : (a b : NodeId × Option Request) (words : List (List ℕ)) → AllTell table (asked_form a) words → AllTell table (asked_form b) words → a ≡ b
   asked_same a b words has also =
       some_same a b (sym (asked_said a) ∙ ap asked_in (asked_same_by (asked_form a) (asked_form b) words (asked_verb a) (asked_verb b) has also) ∙ asked_said b)
 
   -- ---- lines
 
   -- a caller's line
-  caller_fine : (caller : ℕ) (both : NodeId × Option Deed) (words : List (List ℕ)) → 0 < caller → caller ≤ 4 → AllTell table (Number caller ∷ asked_form both) words → IsFaultless (HasFault table words)
+  caller_fine : (caller : ℕ) (both : NodeId × Option Request) (words : List (List ℕ)) → 0 < caller → caller ≤ 4 → AllTell table (Number caller ∷ asked_form both) words → IsFaultless (HasFault table words)
   caller_fine caller both [] some few has kind wrong = absurd has
   caller_fine caller both (first ∷ rest) some few has kind wrong =
       let begun = begins_caller caller first has.0.0 some few in
@@ -201,7 +201,7 @@ module _ (table : Table) where
   live_fine (Feed bytes) words has = plain_fine (role.Hex ∷ []) (codes "feed") (Hex bytes ∷ []) words refl refl has.1
   live_fine Phase words has = plain_fine [] (codes "phase") [] words refl refl has.1
 
-  callers_same : (c d : ℕ) (a b : NodeId × Option Deed) (words : List (List ℕ)) → (0 < c) × (c ≤ 4) → (0 < d) × (d ≤ 4) → AllTell table (Number c ∷ asked_form a) words → AllTell table (Number d ∷ asked_form b) words → line_by d b ≡ line_by c a
+  callers_same : (c d : ℕ) (a b : NodeId × Option Request) (words : List (List ℕ)) → (0 < c) × (c ≤ 4) → (0 < d) × (d ≤ 4) → AllTell table (Number c ∷ asked_form a) words → AllTell table (Number d ∷ asked_form b) words → line_by d b ≡ line_by c a
   callers_same c d a b [] here there has also = absurd has
   callers_same c d a b (first ∷ rest) here there has also =
       let numbers : d ≡ c = some_same d c (sym (caller_read d first also.0.0 there.0 there.1) ∙ caller_read c first has.0.0 here.0 here.1) in
@@ -286,7 +286,7 @@ module _ (table : Table) where
   no_caller_word first rest is = record { has = inl (refl, λ digits. false≢true (sym is ∙ list_all-from_AllPass is_ascii_digit first digits)); least = λ kind h. first_kind kind }
 
   -- a line of a caller
-  pub caller_judged : (first : List ℕ) (rest : List (List ℕ)) (said : Result (NodeId × Option Deed) ScriptFaultKind) → plain_roles first ≡ None → is_caller_word first ≡ true
+  pub caller_judged : (first : List ℕ) (rest : List (List ℕ)) (said : Result (NodeId × Option Request) ScriptFaultKind) → plain_roles first ≡ None → is_caller_word first ≡ true
       → MatchResult said (λ both. AllTell table (asked_form both) rest) (IsLeast (IsAskedWrong table rest))
       → MatchResult (with_caller (caller_of first) said) (λ line. SpellsLive table line (first ∷ rest)) (IsLeast (HasFault table (first ∷ rest)))
   caller_judged first rest said plain digits is = by (caller_of first) said (caller_is first) is
@@ -330,7 +330,7 @@ module _ (table : Table) where
               each other (inl p) = omega (arith, ap script_number p.0)
               each other (inr p) = omega (arith, ltb-false (script_number kind) (script_number BadNumber) less, least.least other p)
 
-      by : (caller : Option ℕ) (said : Result (NodeId × Option Deed) ScriptFaultKind) → MatchOption caller (IsNoCaller first) (IsCaller first) → MatchResult said (λ both. AllTell table (asked_form both) rest) (IsLeast (IsAskedWrong table rest))
+      by : (caller : Option ℕ) (said : Result (NodeId × Option Request) ScriptFaultKind) → MatchOption caller (IsNoCaller first) (IsCaller first) → MatchResult said (λ both. AllTell table (asked_form both) rest) (IsLeast (IsAskedWrong table rest))
           → MatchResult (with_caller caller said) (λ line. SpellsLive table line (first ∷ rest)) (IsLeast (HasFault table (first ∷ rest)))
       by (Some caller) (Ok (node, Some asked)) here is = ((here.1, here.2), ((here.0, few_enough caller here.2), is))
       by (Some caller) (Ok (node, None)) here is = ((here.1, here.2), ((here.0, few_enough caller here.2), is))
@@ -339,11 +339,11 @@ module _ (table : Table) where
       by None (Err kind) none is = lift (least_of BadNumber kind) (number_too none kind is)
 
   -- a line that words spell is of nodes of the configuration, and of callers from 1 to 4
-  asked_below : (both : NodeId × Option Deed) (words : List (List ℕ)) → AllTell table (asked_form both) words → both.0.0 < node_count table
+  asked_below : (both : NodeId × Option Request) (words : List (List ℕ)) → AllTell table (asked_form both) words → both.0.0 < node_count table
   asked_below (node, Some asked) words has = event_below table node (what_of asked) words has
   asked_below (node, None) words has = first_node table (codes "read") node [] words has
 
-  caller_below : (caller : ℕ) (both : NodeId × Option Deed) (words : List (List ℕ)) → AllTell table (Number caller ∷ asked_form both) words → both.0.0 < node_count table
+  caller_below : (caller : ℕ) (both : NodeId × Option Request) (words : List (List ℕ)) → AllTell table (Number caller ∷ asked_form both) words → both.0.0 < node_count table
   caller_below caller both [] has = absurd has
   caller_below caller both (first ∷ rest) has = asked_below both rest has.1
 

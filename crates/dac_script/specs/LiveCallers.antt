@@ -6,7 +6,7 @@ use Rattle.std.specs.Char.{is_ascii_digit}
 use Rattle.dac_base.specs.declared.NodeId.{NodeId}
 use Rattle.dac_script.specs.declared.fault.ScriptFaultKind.{ScriptFaultKind}
 use Rattle.dac_script.specs.declared.fault.ScriptFaultKind.TheVariants.{BadNumber}
-use Rattle.dac_script.specs.declared.line.Deed.{Deed}
+use Rattle.dac_script.specs.declared.line.Request.{Request}
 use Rattle.dac_script.specs.declared.live_line.LiveLine.{LiveLine}
 use Rattle.dac_script.specs.declared.live_line.LiveLine.TheVariants.{Do, Read, Feed, Phase}
 use Rattle.dac_script.specs.Values.{least_of}
@@ -25,7 +25,7 @@ caller_of word =
     else None)))
 
 -- a line of a caller
-abbrev pub with_caller : Option ℕ → Result (NodeId × Option Deed) ScriptFaultKind → Result LiveLine ScriptFaultKind
+abbrev pub with_caller : Option ℕ → Result (NodeId × Option Request) ScriptFaultKind → Result LiveLine ScriptFaultKind
 with_caller (Some caller) (Ok (node, Some asked)) = Ok (Do node caller asked)
 with_caller (Some caller) (Ok (node, None)) = Ok (Read node caller)
 with_caller (Some caller) (Err kind) = Err kind

@@ -5,12 +5,12 @@ use Rattle.dac_config.specs.Table.{Table}
 use Rattle.dac_script.specs.Forms.{Slot, AllTell, event_form}
 use Rattle.dac_script.specs.Requests.{what_of}
 use Rattle.dac_script.specs.Forms.Slot.{Word, Node, Number, Hex}
-use Rattle.dac_script.specs.declared.line.Deed.{Deed}
+use Rattle.dac_script.specs.declared.line.Request.{Request}
 use Rattle.dac_script.specs.declared.live_line.LiveLine.{LiveLine}
 use Rattle.dac_script.specs.declared.live_line.LiveLine.TheVariants.{Do, Read, Feed, Phase}
 
 -- what a caller asks of a node, or a read of its page
-abbrev pub asked_form : NodeId × Option Deed → List Slot
+abbrev pub asked_form : NodeId × Option Request → List Slot
 asked_form (node, Some asked) = event_form node (what_of asked)
 asked_form (node, None) = Word (codes "read") ∷ Node node ∷ []
 

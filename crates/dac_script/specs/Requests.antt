@@ -1,12 +1,12 @@
 -- What a caller may ask of a node.
 use Rattle.dac_events.specs.declared.What.{What}
 use Rattle.dac_events.specs.declared.What.TheVariants as what
-use Rattle.dac_script.specs.declared.line.Deed.{Deed}
-use Rattle.dac_script.specs.declared.line.Deed.TheVariants as deed
+use Rattle.dac_script.specs.declared.line.Request.{Request}
+use Rattle.dac_script.specs.declared.line.Request.TheVariants as request
 
 -- what a caller asks for, as what happens at its node
-abbrev pub what_of : Deed → What
-what_of (deed.Boot now) = what.Boot now
-what_of deed.Crash = what.Crash
-what_of (deed.Command given) = what.Command given
-what_of (deed.Tick now) = what.Tick now
+abbrev pub what_of : Request → What
+what_of (request.Boot now) = what.Boot now
+what_of request.Crash = what.Crash
+what_of (request.Command given) = what.Command given
+what_of (request.Tick now) = what.Tick now

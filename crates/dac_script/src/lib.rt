@@ -29,7 +29,7 @@ pub use byte_list::ByteList;
 pub use failure::Failure;
 pub use fault::{InputFault, ScriptFault, ScriptFaultKind};
 pub use input::{MAX_INPUT, read_input, split_input};
-pub use line::{Deed, ScriptLine, line_of};
+pub use line::{Request, ScriptLine, line_of};
 pub use lines::{ReadsLine, is_said, read_lines};
 pub use live_line::{LiveLine, live_line_of};
 pub use live_preparing::prepare_live;

@@ -22,7 +22,7 @@ use std::alloc::Global;
 
 /// What a caller asks of a node.
 #[derive(Clone, Copy, Debug, PartialEq, Eq)]
-pub enum Deed {
+pub enum Request {
     /// The node comes up at this moment.
     Boot {
         /// The moment.
@@ -59,41 +59,41 @@ pub enum ScriptLine {
 }
 
 /// What a caller asks for by these words.
-pub(crate) fn deed_for(ask: Ask, values: &Values) -> Deed
+pub(crate) fn request_for(ask: Ask, values: &Values) -> Request
     ensures { event_form values.now.actor (what_of result)
         ≡ Word (ask_text ask) ∷ map (slot_of values.now) (ask_roles ask) }
 {
     let app = values.app;
     let node = values.about;
     match ask {
-        Ask::Boot => Deed::Boot { now: values.number },
-        Ask::Crash => Deed::Crash,
-        Ask::Tick => Deed::Tick { now: values.number },
-        Ask::Down => Deed::Command(Command::Down { node }),
-        Ask::Permit => Deed::Command(Command::Permit {
+        Ask::Boot => Request::Boot { now: values.number },
+        Ask::Crash => Request::Crash,
+        Ask::Tick => Request::Tick { now: values.number },
+        Ask::Down => Request::Command(Command::Down { node }),
+        Ask::Permit => Request::Command(Command::Permit {
             app,
             node,
             value: values.flag,
         }),
-        Ask::Start => Deed::Command(Command::Start { app, node }),
-        Ask::Stop => Deed::Command(Command::Stop { app, node }),
-        Ask::Drain => Deed::Command(Command::Drain {
+        Ask::Start => Request::Command(Command::Start { app, node }),
+        Ask::Stop => Request::Command(Command::Stop { app, node }),
+        Ask::Drain => Request::Command(Command::Drain {
             node,
             value: values.flag,
         }),
-        Ask::Takeover => Deed::Command(Command::Takeover { app }),
+        Ask::Takeover => Request::Command(Command::Takeover { app }),
     }
 }
 
 /// What happens at a node of which this is asked.
-fn what_of(deed: Deed) -> What
-    ensures { result ≡ what_of deed }
+fn what_of(request: Request) -> What
+    ensures { result ≡ what_of request }
 {
-    match deed {
-        Deed::Boot { now } => What::Boot { now },
-        Deed::Crash => What::Crash,
-        Deed::Command(command) => What::Command(command),
-        Deed::Tick { now } => What::Tick { now },
+    match request {
+        Request::Boot { now } => What::Boot { now },
+        Request::Crash => What::Crash,
+        Request::Command(command) => What::Command(command),
+        Request::Tick { now } => What::Tick { now },
     }
 }
 
@@ -110,7 +110,7 @@ fn line(verb: Verb, values: Values) -> ScriptLine
 {
     let node = values.actor;
     match verb {
-        Verb::Ask(ask) => event(node, what_of(deed_for(ask, &values))),
+        Verb::Ask(ask) => event(node, what_of(request_for(ask, &values))),
         Verb::Ship => event(node, What::Ship { to: values.about }),
         Verb::Hear => event(node, What::Deliver(values.number)),
         Verb::Hand => event(node, What::Hand(values.number)),

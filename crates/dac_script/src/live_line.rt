@@ -11,7 +11,7 @@ ghost use Rattle.dac_script.specs.Script.{IsReading};
 
 use crate::byte_list::ByteList;
 use crate::fault::ScriptFaultKind;
-use crate::line::{Deed, deed_for};
+use crate::line::{Request, request_for};
 use crate::values::{Values, least_of, values_of};
 use crate::verb::{Role, ask_of, ask_roles};
 use dac_base::{NoMemory, NodeId};
@@ -28,7 +28,7 @@ pub enum LiveLine {
         /// The caller's number, from 1 to 4.
         caller: u8,
         /// What it asks.
-        deed: Deed,
+        request: Request,
     },
     /// A caller reads the page of its node.
     Read {
@@ -69,7 +69,7 @@ fn asked(
     alloc: Global,
     config: &Config,
     words: &[&[u8]],
-) -> Result<Result<(NodeId, Option<Deed>), ScriptFaultKind>, NoMemory>
+) -> Result<Result<(NodeId, Option<Request>), ScriptFaultKind>, NoMemory>
     ensures { IfOk result
         (λ said. MatchResult said
         (λ both. AllTell config.now (asked_form both) (map (λ word. word.now) words.now))
@@ -88,7 +88,7 @@ fn asked(
         return Ok(Err(ScriptFaultKind::BadWord));
     };
     match values_of(alloc, config, ask_roles(ask), rest)? {
-        Ok(values) => Ok(Ok((values.actor, Some(deed_for(ask, &values))))),
+        Ok(values) => Ok(Ok((values.actor, Some(request_for(ask, &values))))),
         Err(kind) => Ok(Err(kind)),
     }
 }
@@ -96,12 +96,16 @@ fn asked(
 /// A line of this caller. A number that is no caller's is a fault like any of the other words: the least one is returned.
 fn with_caller(
     caller: Option<u8>,
-    said: Result<(NodeId, Option<Deed>), ScriptFaultKind>,
+    said: Result<(NodeId, Option<Request>), ScriptFaultKind>,
 ) -> Result<LiveLine, ScriptFaultKind>
     ensures { result ≡ with_caller caller said }
 {
     match (caller, said) {
-        (Some(caller), Ok((node, Some(deed)))) => Ok(LiveLine::Do { node, caller, deed }),
+        (Some(caller), Ok((node, Some(request)))) => Ok(LiveLine::Do {
+            node,
+            caller,
+            request,
+        }),
         (Some(caller), Ok((node, None))) => Ok(LiveLine::Read { node, caller }),
         (Some(_), Err(kind)) => Err(kind),
         (None, Ok(_)) => Err(ScriptFaultKind::BadNumber),

@@ -34,7 +34,7 @@ use Rattle.dac_commands.specs.Causes.{first, terms_used_up}
 use Rattle.dac_ticks.specs.Ticks.{Turn, turn_of, turn_from, claim_of, is_mine, is_mine_by}
 use Rattle.dac_model_world.specs.ModelNode.{ModelNode, ModelRunning, joined, shown, base_after}
 use Rattle.dac_model_world.specs.EventRefusals.{refusal_of}
-use Rattle.dac_model_world.specs.Deeds.{meanings}
+use Rattle.dac_model_world.specs.Transitions.{meanings}
 use Rattle.dac_model_world.specs.Step.{step_by}
 use Rattle.dac_model_world.specs.Histories.{off_after}
 use Rattle.dac_model_world.specs.ModelWorld.{ModelWorld, AnsweredAs, Run, happens, answered_by, world_after}

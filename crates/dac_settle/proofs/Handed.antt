@@ -20,7 +20,7 @@ use Rattle.dac_peers.specs.Peers.{no_peers}
 use Rattle.dac_events.specs.declared.world_fault.WorldFault.{WorldFault}
 use Rattle.dac_model_world.specs.ModelNode.{ModelNode, ModelRunning, joined, shown, base_after}
 use Rattle.dac_model_world.specs.EventRefusals.{refusal_of}
-use Rattle.dac_model_world.specs.Deeds.{brings}
+use Rattle.dac_model_world.specs.Transitions.{brings}
 use Rattle.dac_model_world.specs.ModelWorld.{ModelWorld, WorldStepped, Run, start, happens, answered_by}
 use Rattle.dac_model_world.specs.SetWorld.{NodeSet, SetWorld}
 use Rattle.dac_model_world.specs.laws.Runs.{Run-push}

@@ -50,7 +50,7 @@ use Rattle.dac_commands.specs.laws.Standing.{drains_at-has}
 use Rattle.dac_ticks.specs.Ticks.{Turn, turn_from, claim_of, claimed_by, is_mine, is_mine_by}
 use Rattle.dac_model_world.specs.ModelNode.{ModelNode, joined, shown, base_after}
 use Rattle.dac_model_world.specs.EventRefusals.{refusal_of, otherwise}
-use Rattle.dac_model_world.specs.Deeds.{meanings}
+use Rattle.dac_model_world.specs.Transitions.{meanings}
 use Rattle.dac_model_world.specs.Histories.{off_after}
 use Rattle.dac_model_world.specs.WorldValue.{WorldValue}
 use Rattle.dac_model_world.specs.ModelWorld.{ModelWorld, AnsweredAs, RanAs, Run, numbered, happens, answered_by, world_after}

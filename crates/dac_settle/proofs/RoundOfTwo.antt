@@ -42,7 +42,7 @@ use Rattle.dac_ticks.specs.laws.Turning.{turned_by}
 use Rattle.dac_events.specs.declared.world_fault.WorldFault.{WorldFault}
 use Rattle.dac_model_world.specs.ModelNode.{ModelNode, ModelRunning, joined, shown, running_shown, base_after}
 use Rattle.dac_model_world.specs.EventRefusals.{refusal_of}
-use Rattle.dac_model_world.specs.Deeds.{meanings, message_of, body_from}
+use Rattle.dac_model_world.specs.Transitions.{meanings, message_of, body_from}
 use Rattle.dac_model_world.specs.Step.{step_by}
 use Rattle.dac_meaning.specs.Below.{is_below}
 use Rattle.dac_events.specs.declared.world_fault.WorldFault.TheVariants.{NoSuchNode}

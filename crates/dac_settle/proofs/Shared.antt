@@ -25,7 +25,7 @@ use Rattle.dac_peers.specs.declared.positions.Position.{Position}
 use Rattle.dac_peers.specs.Peers.{no_peers, ack_for, has_all}
 use Rattle.dac_model_world.specs.ModelNode.{ModelNode, joined, shown, running_shown}
 use Rattle.dac_model_world.specs.EventRefusals.{refusal_of}
-use Rattle.dac_model_world.specs.Deeds.{message_of, body_from}
+use Rattle.dac_model_world.specs.Transitions.{message_of, body_from}
 use Rattle.dac_model_world.specs.Step.{step_by}
 use Rattle.dac_model_world.specs.ModelWorld.{ModelWorld, Run, answered_by}
 use Rattle.dac_model_world.specs.SetWorld.{NodeSet, SetWorld, no_sets, set_run}

@@ -68,8 +68,8 @@ symbol_at symbol s = do
   if is_symbol symbol t.0.word then Ok t.1 else fails BadShape t.0.at
 
 -- the token behind this symbol, which comes next
-abbrev pub behind_at : Symbol → State → Result (Located × State) ConfigFault
-behind_at symbol s = symbol_at symbol s >>= token
+abbrev pub after_at : Symbol → State → Result (Located × State) ConfigFault
+after_at symbol s = symbol_at symbol s >>= token
 
 -- whether a comma comes next, or else this symbol
 unfoldable pub more_at : Symbol → State → Result (Bool × State) ConfigFault

@@ -29,7 +29,7 @@ impl Parser<'_> {
             return Ok(0);
         };
         let timeout = milliseconds_of(self.token.at, negative, digits)?;
-        self.behind(Symbol::Comma)?;
+        self.after(Symbol::Comma)?;
         Ok(timeout)
     }
 }

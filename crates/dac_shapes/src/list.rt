@@ -56,7 +56,7 @@ impl<'a> Parser<'a> {
             (list_of E.read_at (parser_state self.old)) }
         ensures left { tokens_left self.new ≤ tokens_left self.old }
     {
-        self.behind(Symbol::OpenList)?;
+        self.after(Symbol::OpenList)?;
         if self.is(Symbol::CloseList) {
             return Ok(Vec::new(self.alloc));
         }

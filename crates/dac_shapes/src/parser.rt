@@ -3,7 +3,7 @@
 ghost use Rattle.std.specs.Prelude.{◌≡◌, ◌<◌, ◌≤◌, IfOk, true, false};
 ghost use Rattle.dac_tokens.specs.Gives.{Gives};
 ghost use Rattle.dac_tokens.specs.Words.{word_of, is_end};
-ghost use Rattle.dac_shapes.specs.Shape.{token, is_symbol, is_text, symbol_at, behind_at, more_at};
+ghost use Rattle.dac_shapes.specs.Shape.{token, is_symbol, is_text, symbol_at, after_at, more_at};
 ghost use Rattle.dac_shapes.specs.Views.{here, parser_state, tokens_left};
 
 use dac_tokens::{ConfigFault, FaultKind, Located, Symbol, Token, Tokens};
@@ -81,9 +81,9 @@ impl Parser<'_> {
 
     /// Reads the token behind this symbol, which comes next.
     #[tactic(auto)]
-    pub fn behind(&mut self, symbol: Symbol) -> Result<(), ConfigFault>
+    pub fn after(&mut self, symbol: Symbol) -> Result<(), ConfigFault>
         ensures read { Gives (λ _. here self.new) result
-            (behind_at symbol (parser_state self.old)) }
+            (after_at symbol (parser_state self.old)) }
         ensures left { tokens_left self.new ≤ tokens_left self.old }
     {
         self.symbol(symbol)?;

@@ -47,7 +47,7 @@ impl<'a> Parser<'a> {
         ensures { Gives (λ at. (at, parser_state self.new)) result
             (end_at (parser_state self.old)) }
     {
-        self.behind(Symbol::FullStop)?;
+        self.after(Symbol::FullStop)?;
         match self.token.token {
             Token::End => Ok(self.token.at),
             _ => Err(self.fault(FaultKind::BadShape)),

@@ -22,7 +22,7 @@ fn closing_of(symbol: Symbol) -> Option<Symbol>
 
 impl Parser<'_> {
     /// Reads the token behind strings in a row, of which the first is the token.
-    fn behind_texts(&mut self) -> Result<(), ConfigFault>
+    fn after_texts(&mut self) -> Result<(), ConfigFault>
         ensures read { (n : ℕ) → tokens_left self.old < n
             → Gives (λ _. here self.new) result (texts_at n (parser_state self.old)) }
         ensures left { tokens_left self.new ≤ tokens_left self.old }
@@ -39,7 +39,7 @@ impl Parser<'_> {
 
     /// Reads the token behind the closing symbol, up to which terms parted by commas, or nothing, stand.
     #[cycle(terms)]
-    fn behind_terms(&mut self, close: Symbol) -> Result<(), ConfigFault>
+    fn after_terms(&mut self, close: Symbol) -> Result<(), ConfigFault>
         ensures read { (n : ℕ) → tokens_left self.old < n
             → Gives (λ _. here self.new) result
             (terms_in (term_at n) close n (parser_state self.old)) }
@@ -52,7 +52,7 @@ impl Parser<'_> {
             return self.advance();
         }
         loop {
-            self.behind_term()?;
+            self.after_term()?;
             if self.is(close) {
                 return self.advance();
             }
@@ -65,7 +65,7 @@ impl Parser<'_> {
 
     /// Reads the token behind a term, which begins with the token.
     #[cycle(terms)]
-    fn behind_term(&mut self) -> Result<(), ConfigFault>
+    fn after_term(&mut self) -> Result<(), ConfigFault>
         ensures read { (n : ℕ) → IsEnough (located_of self.old.token) (parser_state self.old) n
             → Gives (λ _. here self.new) result (from_here (term_at n) self.old) }
         ensures left { tokens_left self.new ≤ tokens_left self.old }
@@ -74,9 +74,9 @@ impl Parser<'_> {
     {
         match self.token.token {
             Token::Atom(_) | Token::Number { .. } => self.advance(),
-            Token::Text => self.behind_texts(),
+            Token::Text => self.after_texts(),
             Token::Symbol(symbol) => match closing_of(symbol) {
-                Some(close) => self.behind_terms(close),
+                Some(close) => self.after_terms(close),
                 None => Err(self.fault(FaultKind::BadShape)),
             },
             Token::End => Err(self.fault(FaultKind::BadShape)),
@@ -91,7 +91,7 @@ impl Parser<'_> {
         ensures left { tokens_left self.new ≤ tokens_left self.old }
     {
         self.advance()?;
-        self.behind_term()?;
+        self.after_term()?;
         if !self.is(Symbol::CloseTuple) {
             return Err(self.fault(FaultKind::BadShape));
         }

@@ -9,4 +9,4 @@ pub record IsBlankOf (b : SiteBlank) (name parts seats : ℕ) (beginning : Begin
   pub named : b.blank.name ≡ name
   pub parted : b.blank.parts ≡ parts
   pub seated : seats ≡ parts
-  pub begins : b.desk.journal.beginning ≡ beginning
+  pub begins : b.paged.journal.beginning ≡ beginning

@@ -3,8 +3,8 @@
 ghost use Rattle.std.specs.Prelude.{◌≡◌, ◌<◌, [], length, vec_len, IfOk};
 ghost use Rattle.dac_journal.specs.Journals.{beginning_of};
 
-use crate::desk::Desk;
 use crate::faults::OpenFault;
+use crate::paged::PagedJournal;
 use dac_base::NodeId;
 use dac_config::Config;
 use dac_journal::Journal;
@@ -40,44 +40,44 @@ pub struct SiteBlank {
     /// What the ledger of its name is opened from, with a part for each seat.
     pub blank: Blank,
     /// The journal, with the node and its pages.
-    pub desk: Desk,
+    pub paged: PagedJournal,
     /// How many seats it is for.
     pub seats: u16,
     pub(crate) readers: Vec<RawReader>,
     pub(crate) alloc: Global,
     pub ghost parts: { blank.parts ≡ seats },
     pub ghost some: { 0 < seats },
-    ghost empty: { length desk.journal.records ≡ 0 },
+    ghost empty: { length paged.journal.records ≡ 0 },
 }
 
 impl SiteBlank {
     /// The journal with its pages alone, where no site is to be opened.
-    pub fn into_desk(self) -> Desk
-        ensures { result ≡ self.desk }
+    pub fn into_paged_journal(self) -> PagedJournal
+        ensures { result ≡ self.paged }
     {
         let SiteBlank {
             blank: _,
-            desk,
+            paged,
             seats: _,
             readers: _,
             alloc: _,
         } = self;
-        desk
+        paged
     }
 
     /// Ends it, where no site is to be opened.
     pub fn give_up<R: Wait>(self, rt: &R) {
-        self.into_desk().end(rt);
+        self.into_paged_journal().end(rt);
     }
 }
 
 /// Readers of these pages, as many.
-fn readers_of(alloc: Global, desk: &Desk, count: u16) -> Result<Vec<RawReader>, OpenFault>
+fn readers_of(alloc: Global, paged: &PagedJournal, count: u16) -> Result<Vec<RawReader>, OpenFault>
     ensures { IfOk result (λ all. vec_len all ≡ count) }
 {
     let mut all = Vec::new(alloc);
     for _number in 0..count {
-        let Some(reader) = desk.reader() else {
+        let Some(reader) = paged.reader() else {
             return Err(OpenFault::NoReader);
         };
         all.push(reader)?;
@@ -101,23 +101,23 @@ pub fn blank_site<R: Wait>(
 ) -> Result<SiteBlank, OpenFault>
     requires { 0 < seats }
     ensures ok { IfOk result (λ b. (b.seats ≡ seats)
-        × (b.desk.journal ≡ record { beginning = beginning_of config.now me last; records = [] })) }
+        × (b.paged.journal ≡ record { beginning = beginning_of config.now me last; records = [] })) }
     ensures readers { IfOk result (λ b. vec_len b.readers ≡ readers) }
 {
     let config = config.copy()?;
     // With no readers one place is made all the same.
     let places = usize::from(readers.max(1));
-    let desk = Desk::open(alloc, Journal::new(alloc, config, me, last), places)?;
-    match readers_of(alloc, &desk, readers) {
+    let paged = PagedJournal::open(alloc, Journal::new(alloc, config, me, last), places)?;
+    match readers_of(alloc, &paged, readers) {
         Ok(readers) => Ok(SiteBlank {
             blank: Blank::new(u64::from(seats)),
-            desk,
+            paged,
             seats,
             readers,
             alloc,
         }),
         Err(fault) => {
-            desk.end(rt);
+            paged.end(rt);
             Err(fault)
         }
     }

@@ -9,8 +9,8 @@ ghost use Rattle.dac_journal.specs.Journals.{AreHistory, call_of, calls_of, reco
 ghost use Rattle.dac_sites.specs.Added.{Added, AddedRefused, WhereRecorded, UnlessRecorded};
 ghost use Rattle.dac_sites.specs.Paged.{page_after};
 
-use crate::desk::{Desk, next_page};
 use crate::faults::LiveFault;
+use crate::paged::{PagedJournal, next_page};
 use crate::same::is_record;
 use dac_events::Refusal;
 use dac_journal::{Answer, Call, Record};
@@ -34,25 +34,25 @@ pub struct Recorded {
 /// the least state if the node is off.
 pub fn add_record<R: Wait>(
     rt: &R,
-    desk: &mut Desk,
+    paged: &mut PagedJournal,
     seat: u16,
     event: Event,
 ) -> Result<Recorded, LiveFault>
-    ensures beginning { desk.new.journal.beginning ≡ desk.old.journal.beginning }
-    ensures ok { IfOk result (λ r. Added desk.old.journal.records desk.new.journal.records seat
+    ensures beginning { paged.new.journal.beginning ≡ paged.old.journal.beginning }
+    ensures ok { IfOk result (λ r. Added paged.old.journal.records paged.new.journal.records seat
         event r.place (Ok r.reply)) }
-    ensures err { IfErr result (λ fault. AddedRefused fault desk.old.journal.records
-        desk.new.journal.records seat event) }
+    ensures err { IfErr result (λ fault. AddedRefused fault paged.old.journal.records
+        paged.new.journal.records seat event) }
     ensures history { IfOk result
-        (λ _. AreHistory desk.new.journal.beginning desk.new.journal.records) }
+        (λ _. AreHistory paged.new.journal.beginning paged.new.journal.records) }
     ensures refused { IfErr result (λ fault. WhereRecorded fault
-        (AreHistory desk.new.journal.beginning desk.new.journal.records)) }
-    ensures full { (length desk.old.journal.records ≡ MAX_RECORDS)
+        (AreHistory paged.new.journal.beginning paged.new.journal.records)) }
+    ensures full { (length paged.old.journal.records ≡ MAX_RECORDS)
         ↔ (result ≡ Err LiveFault.JournalFull) }
-    ensures page { desk.new.page ≡ page_after desk.new.journal.beginning desk.new.journal.records }
-    ensures unchanged { IfErr result (λ fault. UnlessRecorded fault (desk.new ≡ desk.old)) }
+    ensures page { paged.new.page ≡ page_after paged.new.journal.beginning paged.new.journal.records }
+    ensures unchanged { IfErr result (λ fault. UnlessRecorded fault (paged.new ≡ paged.old)) }
 {
-    let (call, answer) = record_call(rt, desk, seat, event)?;
+    let (call, answer) = record_call(rt, paged, seat, event)?;
     let place = call.place;
     match answer {
         Ok(reply) => Ok(Recorded { place, reply }),
@@ -63,33 +63,33 @@ pub fn add_record<R: Wait>(
 /// [`add_record`] for a site, whose seat keeps the call. A refusal of the node is no error here.
 pub(crate) fn record_call<R: Wait>(
     rt: &R,
-    desk: &mut Desk,
+    paged: &mut PagedJournal,
     seat: u16,
     event: Event,
 ) -> Result<(Call, Answer), LiveFault>
-    ensures beginning { desk.new.journal.beginning ≡ desk.old.journal.beginning }
-    ensures ok { IfOk result (λ r. desk.new.journal.records
-        ≡ desk.old.journal.records ++ record_of seat event r.1 ∷ []) }
+    ensures beginning { paged.new.journal.beginning ≡ paged.old.journal.beginning }
+    ensures ok { IfOk result (λ r. paged.new.journal.records
+        ≡ paged.old.journal.records ++ record_of seat event r.1 ∷ []) }
     ensures call { IfOk result
-        (λ r. r.0 ≡ call_of (length desk.old.journal.records + 1) event r.1) }
+        (λ r. r.0 ≡ call_of (length paged.old.journal.records + 1) event r.1) }
     ensures answered { IfOk result (λ r. IfErr r.1 (λ why. why ≢ Refusal.NoMemory)) }
     ensures history { IfOk result
-        (λ _. AreHistory desk.new.journal.beginning desk.new.journal.records) }
-    ensures full { (length desk.old.journal.records ≡ MAX_RECORDS)
+        (λ _. AreHistory paged.new.journal.beginning paged.new.journal.records) }
+    ensures full { (length paged.old.journal.records ≡ MAX_RECORDS)
         ↔ (result ≡ Err LiveFault.JournalFull) }
-    ensures page { desk.new.page ≡ page_after desk.new.journal.beginning desk.new.journal.records }
-    ensures unchanged { OnErr result (desk.new ≡ desk.old) }
+    ensures page { paged.new.page ≡ page_after paged.new.journal.beginning paged.new.journal.records }
+    ensures unchanged { OnErr result (paged.new ≡ paged.old) }
     ensures recorded { IfErr result
         (λ fault. (fault ≡ LiveFault.JournalFull) ⊎ (fault ≡ LiveFault.NoMemory)) }
 {
-    if desk.journal().is_full() {
+    if paged.journal().is_full() {
         return Err(LiveFault::JournalFull);
     }
-    let Desk {
+    let PagedJournal {
         alloc,
         journal,
         pages,
-    } = desk;
+    } = paged;
     let next = journal.prepare(seat, event)?;
     pages.prepare(next_page(*alloc, journal, pages.shown(), &next))?;
     let said = journal.commit(next)?;

@@ -32,8 +32,8 @@
 pub use blank::{SiteBlank, SiteName, blank_site};
 pub use dac_journal::{Answer, Call, Closed, Journal, MAX_RECORDS, Record};
 pub use dac_pages::Page;
-pub use desk::{Desk, page_of};
 pub use faults::{CloseFault, LiveFault, OpenFault};
+pub use paged::{PagedJournal, page_of};
 pub use reader::PageReader;
 pub use receipt::Receipt;
 pub use replaying::replay;
@@ -41,9 +41,9 @@ pub use seat::Seat;
 pub use site::{Site, open_site};
 
 mod blank;
-mod desk;
 mod faults;
 pub mod laws;
+mod paged;
 mod reader;
 mod receipt;
 mod replaying;

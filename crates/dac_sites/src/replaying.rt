@@ -5,7 +5,7 @@ ghost use Rattle.dac_journal.specs.Journals.{beginning_of};
 ghost use Rattle.dac_sites.specs.Paged.{page_after};
 ghost use Rattle.dac_sites.specs.Replayed.{GoesOn};
 
-use crate::desk::page_of;
+use crate::paged::page_of;
 use dac_base::{NoMemory, NodeId};
 use dac_config::Config;
 use dac_journal::{Node, Record, is_answered};

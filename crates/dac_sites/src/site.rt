@@ -11,9 +11,9 @@ ghost use Rattle.dac_sites.specs.Seats.{IsOneOf, new_seats};
 ghost use Rattle.dac_sites.specs.Sites.{IsBlankOf};
 
 use crate::blank::{SiteBlank, SiteName};
-use crate::desk::Desk;
 use crate::faults::{CloseFault, LiveFault};
 use crate::laws::{record_call, same_calls};
+use crate::paged::PagedJournal;
 use crate::reader::PageReader;
 use crate::receipt::Receipt;
 use crate::seat::Seat;
@@ -28,12 +28,12 @@ use std::sync::{Mutex, MutexGuard, Wait};
 
 /// What lies under the lock: the journal with its pages, and the sum of the seats' shares. It isn't `Drop`.
 pub struct Locked<L: SiteName> {
-    desk: Desk,
+    paged: PagedJournal,
     book: Book<L>,
     /// The journal has as many records as the seats have calls.
-    ghost counted: { length desk.journal.records ≡ book.total },
+    ghost counted: { length paged.journal.records ≡ book.total },
     /// It begins where the site's name says.
-    ghost begins: { desk.journal.beginning ≡ L.beginning },
+    ghost begins: { paged.journal.beginning ≡ L.beginning },
 }
 
 impl<L: SiteName> Locked<L> {
@@ -50,30 +50,30 @@ impl<L: SiteName> Locked<L> {
             (Ok r.reply) × (note_of r ≡ Some r.place)) }
         ensures err { IfErr result (λ e. CallRefused e seat.old.calls seat.new.calls event) }
         // The journal gets the same: what the seat keeps of the call is the record.
-        ensures added { IfOk result (λ r. Added self.old.desk.journal.records
-            self.new.desk.journal.records seat.old.number event r.place (Ok r.reply)) }
-        ensures refused { IfErr result (λ e. AddedRefused e self.old.desk.journal.records
-            self.new.desk.journal.records seat.old.number event) }
-        ensures full { (length self.old.desk.journal.records ≡ MAX_RECORDS)
+        ensures added { IfOk result (λ r. Added self.old.paged.journal.records
+            self.new.paged.journal.records seat.old.number event r.place (Ok r.reply)) }
+        ensures refused { IfErr result (λ e. AddedRefused e self.old.paged.journal.records
+            self.new.paged.journal.records seat.old.number event) }
+        ensures full { (length self.old.paged.journal.records ≡ MAX_RECORDS)
             ↔ (result ≡ Err LiveFault.JournalFull) }
-        ensures page { self.new.desk.page ≡ page_after L.beginning self.new.desk.journal.records }
+        ensures page { self.new.paged.page ≡ page_after L.beginning self.new.paged.journal.records }
         ensures taken { IfOk result
             (λ r. WentOn L.beginning seat.old.number event r.place (Ok r.reply)) }
         ensures not_taken { IfErr result (λ e. NotTaken e L.beginning seat.old.number event) }
     {
-        if self.desk.journal().is_full() {
+        if self.paged.journal().is_full() {
             return Err(LiveFault::JournalFull);
         }
         if seat.calls.reserve(1).is_err() {
             return Err(LiveFault::NoMemory);
         }
-        let Locked { desk, book } = self;
+        let Locked { paged, book } = self;
         let Seat {
             number,
             calls,
             share,
         } = seat;
-        let Ok((call, answer)) = record_call(rt, desk, *number, event) else {
+        let Ok((call, answer)) = record_call(rt, paged, *number, event) else {
             return Err(LiveFault::NoMemory);
         };
         let place = call.place;
@@ -145,7 +145,7 @@ pub fn open_site<L: SiteName, R: Wait>(
 {
     let SiteBlank {
         blank,
-        desk,
+        paged,
         seats,
         readers,
         alloc,
@@ -153,10 +153,10 @@ pub fn open_site<L: SiteName, R: Wait>(
     let dealt = deal::<L>(alloc, blank, seats);
     let readers = name_readers::<L>(alloc, readers);
     let (Ok((book, all)), Ok(readers)) = (dealt, readers) else {
-        desk.end(rt);
+        paged.end(rt);
         return Err(NoMemory);
     };
-    let locked = Mutex::new(Locked { desk, book });
+    let locked = Mutex::new(Locked { paged, book });
     let site = Site {
         locked,
         seats: usize::from(seats),
@@ -276,8 +276,8 @@ impl<L: SiteName> Site<L> {
             locked,
             seats: count,
         } = self;
-        let Locked { desk, mut book } = locked.into_inner();
-        let (journal, _page) = desk.end(rt);
+        let Locked { paged, mut book } = locked.into_inner();
+        let (journal, _page) = paged.end(rt);
         if seats.len() != count {
             return Err(CloseFault::SeatMissing);
         }

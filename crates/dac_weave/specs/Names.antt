@@ -1,4 +1,4 @@
--- Strands, and events by their numbers.
+-- Cursors, and events by their numbers.
 use Rattle.std.specs.Prelude.{◌≡◌, ℕ, ◌≤◌, ◌<◌, ◌⊎◌, List, [], MatchOption, Option, Result, Ok, Err}
 use Rattle.dac_config.specs.Table.{Table}
 use Rattle.dac_messages.specs.declared.event.Event.{Event}
@@ -8,13 +8,13 @@ use Rattle.dac_events.specs.declared.What.{What}
 use Rattle.dac_messages.specs.declared.message.Message.{Message}
 use Rattle.dac_operations.specs.Operations.{Operation}
 use Rattle.dac_journal.specs.ModelWorld.{event_of, issued_by, shipped_by}
-use Rattle.dac_weave.specs.declared.strand.Strand.{Strand}
+use Rattle.dac_weave.specs.declared.cursor.Cursor.{Cursor}
 use Rattle.dac_journal.specs.Journals.{JournalValue}
 use Rattle.dac_weave.specs.Woven.{At}
 use Rattle.dac_weave.specs.Replay.{IsLongest}
 
 -- nothing is placed yet
-pub record Begins (t : Table) (j : JournalValue) (s : Strand) : Type 0 where
+pub record Begins (t : Table) (j : JournalValue) (s : Cursor) : Type 0 where
   pub placed : s.placed ≡ 0
   pub longest : IsLongest t j s.good
 

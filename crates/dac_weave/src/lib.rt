@@ -11,11 +11,11 @@ pub use fault::WeaveFault;
 pub use weaving::weave;
 
 mod buckets;
+mod cursor;
 mod fault;
 mod filed;
 mod labels;
-mod loom;
+mod merge;
 mod replay;
-mod strand;
 mod unfit;
 mod weaving;

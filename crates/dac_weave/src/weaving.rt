@@ -7,7 +7,7 @@ ghost use Rattle.dac_weave.specs.Faults.{IsTrueFault, IsRefusal};
 ghost use Rattle.dac_weave.specs.Converging.{IsConverged};
 
 use crate::fault::WeaveFault;
-use crate::loom::Loom;
+use crate::merge::Merge;
 use crate::unfit::unfit;
 use dac_config::Config;
 use dac_events::WorldEvent;
@@ -42,10 +42,10 @@ pub fn weave(
             place: 0,
         });
     }
-    let mut loom = Loom::new(alloc, config, journals)?;
-    loom.weave(config, journals)?;
-    match loom.first_left(journals) {
-        None => Ok(loom.events),
+    let mut merge = Merge::new(alloc, config, journals)?;
+    merge.weave(config, journals)?;
+    match merge.first_left(journals) {
+        None => Ok(merge.events),
         Some((node, place)) => Err(WeaveFault::Unwoven { node, place }),
     }
 }

@@ -92,7 +92,7 @@ fn decode_fields(
     ensures { Gives result
         (in_packet (fields_at version config.now (after PREAMBLE (whole bytes.now)))) }
 {
-    match read_fields(ByteReader::behind(bytes, PREAMBLE), alloc, version, config) {
+    match read_fields(ByteReader::after(bytes, PREAMBLE), alloc, version, config) {
         Ok(packet) => Ok(packet),
         Err(fault) => Err(WireFault::of_field(fault)),
     }

@@ -13,10 +13,10 @@ use std::test::Fail;
 fn are_recorded<R: Wait>(rt: &R, alloc: Global) -> Option<bool> {
     let config = read_config(alloc, b"[{kernel,[{distributed,[{a,[b@h]}]}]}].").ok()?;
     let blank = blank_site(rt, alloc, &config, NodeId(0), 4, 2, 0).ok()?;
-    let mut desk = blank.into_desk();
-    let first = add_record(rt, &mut desk, 2, Event::Boot { now: 0 });
-    let second = add_record(rt, &mut desk, 1, Event::Boot { now: 1 });
-    let (journal, page) = desk.end(rt);
+    let mut paged = blank.into_paged_journal();
+    let first = add_record(rt, &mut paged, 2, Event::Boot { now: 0 });
+    let second = add_record(rt, &mut paged, 1, Event::Boot { now: 1 });
+    let (journal, page) = paged.end(rt);
     let boot = first.ok()?;
     let is_refused = matches!(
         second,

@@ -7,9 +7,9 @@ use dac_core::{Event, WorldEvent};
 use dac_live::laws::{Recorded, add_record, same_calls};
 use dac_live::links::{Gone, Letter, LinkReceiver, LinkSender, hear_link, link, ship_link};
 use dac_live::{
-    Ask, CloseFault, Closed, Desk, Gate, Line, LineAnswer, LiveFault, LiveReport, OpenFault, Page,
-    PageReader, Phase, Reading, Receipt, Record, RunFault, Seat, Site, SiteBlank, SiteName,
-    are_runnable, blank_site, fresh_page, open_site, run_live,
+    Ask, CloseFault, Closed, Gate, Line, LineAnswer, LiveFault, LiveReport, OpenFault, Page,
+    PageReader, PagedJournal, Phase, Reading, Receipt, Record, RunFault, Seat, Site, SiteBlank,
+    SiteName, are_runnable, blank_site, fresh_page, open_site, run_live,
 };
 use dac_weave::{WeaveFault, weave};
 use std::alloc::Global;
@@ -101,9 +101,9 @@ fn is_opened<R: Wait>(rt: &R, alloc: Global) -> Option<bool> {
 fn is_recorded<R: Wait>(rt: &R, alloc: Global) -> Option<bool> {
     let config = read_config(alloc, TWO).ok()?;
     let blank: Result<SiteBlank, OpenFault> = blank_site(rt, alloc, &config, NodeId(0), 0, 2, 0);
-    let mut desk: Desk = blank.ok()?.into_desk();
-    let added: Result<Recorded, LiveFault> = add_record(rt, &mut desk, 1, Event::Boot { now: 0 });
-    let (journal, _page) = desk.end(rt);
+    let mut paged: PagedJournal = blank.ok()?.into_paged_journal();
+    let added: Result<Recorded, LiveFault> = add_record(rt, &mut paged, 1, Event::Boot { now: 0 });
+    let (journal, _page) = paged.end(rt);
     Some(added.is_ok() && same_calls(journal.records(), 2, &[]).is_none())
 }
 

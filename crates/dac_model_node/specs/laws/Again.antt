@@ -33,7 +33,7 @@ use Rattle.dac_ticks.specs.laws.Again.{second_tick}
 use Rattle.dac_ticks.specs.Again.{IsAmong}
 use Rattle.dac_model_node.specs.ModelNode.{ModelNode, ModelRunning, base_after, joined, running_shown}
 use Rattle.dac_model_node.specs.EventRefusals.{causes_to_tick, refusal_to_tick, needed, too_few_left, too_many_deltas}
-use Rattle.dac_model_node.specs.Deeds.{meanings, opening_at, ticks_by}
+use Rattle.dac_model_node.specs.Transitions.{meanings, opening_at, ticks_by}
 use Rattle.dac_model_node.specs.Step.{goes_on, model_step, step_by}
 use Rattle.dac_model_node.specs.Again.{ClaimsNothing, HoldsState, SecondTickClaimsNothing}
 use Rattle.dac_model_node.specs.laws.Steps.{joined-append}

@@ -25,7 +25,7 @@ use Rattle.dac_commands.specs.Commands.{next_operation, next_term, act_of}
 use Rattle.dac_commands.specs.laws.Written.{none_is}
 use Rattle.dac_model_node.specs.NodeValue.{NodeValue, RunningValue}
 use Rattle.dac_model_node.specs.EventRefusals.{causes_to_tick, refusal_by, refusal_to_tick}
-use Rattle.dac_model_node.specs.Deeds.{opening_at, ticks_by}
+use Rattle.dac_model_node.specs.Transitions.{opening_at, ticks_by}
 use Rattle.dac_model_node.specs.Accepted.{left_by, reply_by, running_by}
 use Rattle.dac_model_node.specs.Effect.{HasEffect}
 use Rattle.dac_model_node.specs.laws.Numbers.{obeyed}

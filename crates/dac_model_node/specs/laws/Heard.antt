@@ -26,7 +26,7 @@ use Rattle.dac_events.specs.declared.refusal.Refusal.TheVariants.{AlreadyOn}
 use Rattle.dac_ticks.specs.Ticks.{turn_of}
 use Rattle.dac_model_node.specs.NodeValue.{RunningValue, state_of}
 use Rattle.dac_model_node.specs.EventRefusals.{refusal_by}
-use Rattle.dac_model_node.specs.Deeds.{deed_of, brings, meanings, opening_at, ticks_by}
+use Rattle.dac_model_node.specs.Transitions.{transition_of, brings, meanings, opening_at, ticks_by}
 use Rattle.dac_model_node.specs.Accepted.{left_by, reply_by, running_by}
 use Rattle.dac_model_node.specs.Hearing.{dots_brought, dots_issued, HearsExactly}
 use Rattle.dac_model_node.specs.laws.Options.{some_same}
@@ -78,7 +78,7 @@ body_heard s body false e = heard-join s body
 off_run : {P : Type 0} {r : RunningValue} → None ≡ Some r → P
 off_run e = cc
 
--- what runs after a deed has heard so much
+-- what runs after a transition has heard so much
 run_state : (r r' : RunningValue) (s : StateValue) (x : RunningValue) → x.state ≡ s → Some x ≡ Some r' → r'.state.heard ≡ s.heard
 run_state r r' s x is e = ap (λ (y : RunningValue). y.state.heard) (sym (some_same x r' e)) ∙ ap (λ (u : StateValue). u.heard) is
 
@@ -91,8 +91,8 @@ tick_heard Opened t r noted now r' is =
     run_state r r' (fold join r.state (meanings ops)) _ refl is ∙ heard_all r.state ops
 
 -- what a running node has heard after an event that it accepts and doesn't go off by
-run_heard : (t : Table) (last : ℕ) (r : RunningValue) (noted : List (Option Noted)) (e : Event) (r' : RunningValue) → refusal_by t last (Some r) e ≡ None → running_by r noted (deed_of t r noted e) ≡ Some r'
-    → r'.state.heard ≡ set.union r.state.heard (dots_brought e (deed_of t r noted e).reply)
+run_heard : (t : Table) (last : ℕ) (r : RunningValue) (noted : List (Option Noted)) (e : Event) (r' : RunningValue) → refusal_by t last (Some r) e ≡ None → running_by r noted (transition_of t r noted e) ≡ Some r'
+    → r'.state.heard ≡ set.union r.state.heard (dots_brought e (transition_of t r noted e).reply)
 run_heard t last r noted (Boot now) r' none is = absurd (no none)
   where
     no : Some AlreadyOn ≡ None → ⊥
@@ -127,9 +127,9 @@ hears_exactly t me last None noted e none = record {
     no s p = cc
 hears_exactly t me last (Some r) noted e none = record {
   each = λ s u was is.
-      let deed = deed_of t r noted e in
-      let next = state_there (running_by r noted deed) u is in
+      let transition = transition_of t r noted e in
+      let next = state_there (running_by r noted transition) u is in
       sym (ap (λ (x : StateValue). x.heard) next.1.1)
       ∙ (run_heard t last r noted e next.0 none next.1.0
-      ∙ ap (λ (x : StateValue). set.union x.heard (dots_brought e deed.reply)) (some_same r.state s was));
+      ∙ ap (λ (x : StateValue). set.union x.heard (dots_brought e transition.reply)) (some_same r.state s was));
 }

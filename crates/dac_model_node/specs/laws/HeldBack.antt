@@ -18,7 +18,7 @@ use Rattle.dac_commands.specs.Causes.{first as first_cause, declared_down}
 use Rattle.dac_commands.specs.laws.Written.{none_is}
 use Rattle.dac_model_node.specs.ModelNode.{ModelNode, ModelRunning, base_after, joined, running_shown}
 use Rattle.dac_model_node.specs.EventRefusals.{causes_to_tick, refusal_to_tick, needed, too_few_left, too_many_deltas}
-use Rattle.dac_model_node.specs.Deeds.{opening_at, note_of, ticks_by}
+use Rattle.dac_model_node.specs.Transitions.{opening_at, note_of, ticks_by}
 use Rattle.dac_model_node.specs.Step.{goes_on, model_step, step_by}
 use Rattle.dac_model_node.specs.HeldBack.{WaitsAsBefore, HeldTicksNoteNothing, HeldTicksCount}
 

@@ -17,7 +17,7 @@ use Rattle.dac_messages.specs.declared.event.Event.TheVariants.{Boot, Crash, Com
 use Rattle.dac_model_node.specs.NodeValue.{RunningValue}
 use Rattle.dac_model_node.specs.EventRefusals.{refusal_by}
 use Rattle.dac_model_node.specs.Refused.{tick_in}
-use Rattle.dac_model_node.specs.Deeds.{Deed, deed_of, opening_at, ticks_by}
+use Rattle.dac_model_node.specs.Transitions.{Transition, transition_of, opening_at, ticks_by}
 use Rattle.dac_model_node.specs.Accepted.{AreNewest, IsNotingBy, left_by, reply_by, running_by}
 use Rattle.dac_model_node.specs.Keeping.{AreWaitsAfter, Keeps, LeavesRunning, RunsOn, deltas_in, had_by_all, is_open_after, kept_after, peers_after}
 use Rattle.dac_model_node.specs.laws.Writing.{NotesSo, start_gate, no_off, no_on}
@@ -46,19 +46,19 @@ new_comes body false = refl
 
 -- ---- what runs on
 
-module _ (t : Table) (r : RunningValue) (newest : AreNewest r.kept) (noted : List (Option Noted)) (e : Event) (deed : Deed) where
+module _ (t : Table) (r : RunningValue) (newest : AreNewest r.kept) (noted : List (Option Noted)) (e : Event) (transition : Transition) where
   abbrev next : RunningValue
   next = record {
     origin = r.origin;
-    moments = record { booted = r.moments.booted; last = deed.last };
-    is_open = deed.is_open;
-    waits = cond deed.notes noted r.waits;
-    state = fold join r.state deed.adds;
-    kept = trimmed (fold pushed r.kept deed.adds) deed.trim;
-    peers = deed.peers;
+    moments = record { booted = r.moments.booted; last = transition.last };
+    is_open = transition.is_open;
+    waits = cond transition.notes noted r.waits;
+    state = fold join r.state transition.adds;
+    kept = trimmed (fold pushed r.kept transition.adds) transition.trim;
+    peers = transition.peers;
   }
 
-  runs_on : deed.last ≡ unwrap_or (tick_in e) r.moments.last → deed.is_open ≡ is_open_after r.is_open deed.reply → AreWaitsAfter t r e deed.reply (cond deed.notes noted r.waits) → deed.adds ≡ deltas_in e deed.reply → deed.peers ≡ peers_after r e → deed.trim ≡ had_by_all t e next → RunsOn t r e deed.reply next
+  runs_on : transition.last ≡ unwrap_or (tick_in e) r.moments.last → transition.is_open ≡ is_open_after r.is_open transition.reply → AreWaitsAfter t r e transition.reply (cond transition.notes noted r.waits) → transition.adds ≡ deltas_in e transition.reply → transition.peers ≡ peers_after r e → transition.trim ≡ had_by_all t e next → RunsOn t r e transition.reply next
   runs_on last gate_is waits adds peers trim = record {
     origin = refl;
     booted = refl;
@@ -67,7 +67,7 @@ module _ (t : Table) (r : RunningValue) (newest : AreNewest r.kept) (noted : Lis
     waits = waits;
     state = ap (fold join r.state) adds;
     peers = peers;
-    kept = kept_so r.kept newest deed.adds deed.trim ∙ (λ i. kept_after r.kept (adds i) (trim i));
+    kept = kept_so r.kept newest transition.adds transition.trim ∙ (λ i. kept_after r.kept (adds i) (trim i));
   }
 
 -- ---- all events
@@ -80,14 +80,14 @@ module _ (t : Table) (last : ℕ) (r : RunningValue) (newest : AreNewest r.kept)
   tick_leaves now GiveUp is so = refl
   tick_leaves now Opened is so = runs_on t r newest noted (Tick now) (ticks_by Opened t r noted now) refl refl (so refl) refl refl refl
 
-  leaves : (e : Event) → refusal_by t last (Some r) e ≡ None → IsNotingBy t (Some r) noted e → LeavesRunning t r e (deed_of t r noted e).reply (running_by r noted (deed_of t r noted e))
+  leaves : (e : Event) → refusal_by t last (Some r) e ≡ None → IsNotingBy t (Some r) noted e → LeavesRunning t r e (transition_of t r noted e).reply (running_by r noted (transition_of t r noted e))
   leaves (Boot now) none noting = no_on none
   leaves Crash none noting = refl
-  leaves (Commanded c) none noting = runs_on t r newest noted (Commanded c) (deed_of t r noted (Commanded c)) refl refl refl refl refl refl
+  leaves (Commanded c) none noting = runs_on t r newest noted (Commanded c) (transition_of t r noted (Commanded c)) refl refl refl refl refl refl
   leaves (Tick now) none noting = tick_leaves now (opening_at t r now) refl noting
-  leaves (Ship to) none noting = runs_on t r newest noted (Ship to) (deed_of t r noted (Ship to)) refl refl refl refl refl refl
-  leaves (Hear m) none noting = let body = content_of m.body in runs_on t r newest noted (Hear m) (deed_of t r noted (Hear m)) refl refl refl (new_comes body (is_below body r.state)) refl refl
-  leaves (HearOp o) none noting = let body = meaning_of (o ∷ []) in runs_on t r newest noted (HearOp o) (deed_of t r noted (HearOp o)) refl refl refl (new_comes body (is_below body r.state)) refl refl
+  leaves (Ship to) none noting = runs_on t r newest noted (Ship to) (transition_of t r noted (Ship to)) refl refl refl refl refl refl
+  leaves (Hear m) none noting = let body = content_of m.body in runs_on t r newest noted (Hear m) (transition_of t r noted (Hear m)) refl refl refl (new_comes body (is_below body r.state)) refl refl
+  leaves (HearOp o) none noting = let body = meaning_of (o ∷ []) in runs_on t r newest noted (HearOp o) (transition_of t r noted (HearOp o)) refl refl refl (new_comes body (is_below body r.state)) refl refl
 
 pub keeps : (t : Table) (me : NodeId) (last : ℕ) (running : Option RunningValue) (noted : List (Option Noted)) (e : Event) → refusal_by t last running e ≡ None → IfSome running (λ (r : RunningValue). AreNewest r.kept) → IsNotingBy t running noted e →
     Keeps t me (record { last = last; running = running }) e (reply_by t me last running noted e) (left_by t me last running noted e)

@@ -26,7 +26,7 @@ use Rattle.dac_commands.specs.Causes.{first, refusal_of_command}
 use Rattle.dac_commands.specs.laws.Written.{none_is}
 use Rattle.dac_model_node.specs.NodeValue.{RunningValue}
 use Rattle.dac_model_node.specs.EventRefusals.{needed, otherwise, overflows, refusal_on, causes_to_hear, refusal_to_hear, refusal_to_obey, too_many_deltas}
-use Rattle.dac_model_node.specs.Deeds.{brings, deed_of, meanings, opening_at, ticks_by}
+use Rattle.dac_model_node.specs.Transitions.{brings, transition_of, meanings, opening_at, ticks_by}
 use Rattle.dac_model_node.specs.laws.Counters.{leaves_numbers}
 
 -- neither of two causes holds
@@ -75,7 +75,7 @@ module _ (t : Table) (r : RunningValue) (noted : List (Option Noted)) (countable
   not_heard m none = (none_is (causes_to_hear r m) none).1.1.0
 
   -- what an accepted event adds has numbers left for it
-  pub fits : (e : Event) → refusal_on t r e ≡ None → r.kept.count + length (deed_of t r noted e).adds ≤ MAX_COUNTER
+  pub fits : (e : Event) → refusal_on t r e ≡ None → r.kept.count + length (transition_of t r noted e).adds ≤ MAX_COUNTER
   fits (Boot now) none = nothing_more
   fits Crash none = nothing_more
   fits (Commanded c) none = room_if r 1 (obeyed t r c none).1

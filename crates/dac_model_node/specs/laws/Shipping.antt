@@ -18,7 +18,7 @@ use Rattle.dac_events.specs.declared.refusal.Refusal.{Refusal}
 use Rattle.dac_model_node.specs.NodeValue.{NodeValue, RunningValue}
 use Rattle.dac_model_node.specs.ModelNode.{ModelRunning, joined, running_shown}
 use Rattle.dac_model_node.specs.EventRefusals.{refusal_to_ship}
-use Rattle.dac_model_node.specs.Deeds.{body_from, message_of}
+use Rattle.dac_model_node.specs.Transitions.{body_from, message_of}
 use Rattle.dac_model_node.specs.Accepted.{AcceptedAs}
 use Rattle.dac_model_node.specs.Step.{model_step, step_by}
 use Rattle.dac_model_node.specs.Shipping.{IsPosition, IsBody, IsAckShipped, IsShipped, ShipsBy, ShipsSo, ShipsInWords}

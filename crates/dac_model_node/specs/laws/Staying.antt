@@ -20,12 +20,12 @@ use Rattle.dac_events.specs.declared.refusal.Refusal.{Refusal}
 use Rattle.dac_model_node.specs.NodeValue.{NodeValue, RunningValue, origin_of, state_of}
 use Rattle.dac_model_node.specs.ModelNode.{ModelNode, ModelRunning, base_after, joined, running_shown, shown}
 use Rattle.dac_model_node.specs.EventRefusals.{refusal_by, refusal_of, refusal_on}
-use Rattle.dac_model_node.specs.Deeds.{Deed, deed_of, meanings, note_of, opening_at, ticks_by}
-use Rattle.dac_model_node.specs.Step.{accepted, deed_on, model_step, step_by}
+use Rattle.dac_model_node.specs.Transitions.{Transition, transition_of, meanings, note_of, opening_at, ticks_by}
+use Rattle.dac_model_node.specs.Step.{accepted, transition_on, model_step, step_by}
 use Rattle.dac_model_node.specs.Keeping.{leaves_state, says_it_stays}
 use Rattle.dac_model_node.specs.laws.Writing.{no_on}
 
--- ---- what a deed adds
+-- ---- what a transition adds
 
 -- what isn't new isn't added
 adds_no_more : (below : Bool) (body : StateValue) → not (not below) ≡ true → cond below [] (body ∷ []) ≡ []
@@ -38,8 +38,8 @@ no_meanings [] says = refl
 no_meanings (o ∷ os) says = absurd (omega (arith, eqb-true (length (o ∷ os)) 0 says))
 
 -- the node doesn't go off, and adds nothing
-abbrev AddsNothing : Deed → Type 0
-AddsNothing deed = (deed.goes_off ≡ false) × (deed.adds ≡ [])
+abbrev AddsNothing : Transition → Type 0
+AddsNothing transition = (transition.goes_off ≡ false) × (transition.adds ≡ [])
 
 module _ (t : Table) (r : RunningValue) (noted : List (Option Noted)) where
   tick_adds_nothing : (opening : Opening) (now : ℕ) → says_it_stays (ticks_by opening t r noted now).reply ≡ true → AddsNothing (ticks_by opening t r noted now)
@@ -47,7 +47,7 @@ module _ (t : Table) (r : RunningValue) (noted : List (Option Noted)) where
   tick_adds_nothing GiveUp now says = absurd (false≢true says)
   tick_adds_nothing Opened now says = (refl, no_meanings (turn_of t r.origin noted now r.state).ops says)
 
-  adds_nothing : (e : Event) → refusal_on t r e ≡ None → says_it_stays (deed_of t r noted e).reply ≡ true → AddsNothing (deed_of t r noted e)
+  adds_nothing : (e : Event) → refusal_on t r e ≡ None → says_it_stays (transition_of t r noted e).reply ≡ true → AddsNothing (transition_of t r noted e)
   adds_nothing (Boot now) none says = no_on none
   adds_nothing Crash none says = absurd (false≢true says)
   adds_nothing (Commanded c) none says = absurd (false≢true says)
@@ -62,28 +62,28 @@ module _ (t : Table) (r : RunningValue) (noted : List (Option Noted)) where
 abbrev AreShownAlike : NodeValue → NodeValue → Type 0
 AreShownAlike old new = (origin_of new ≡ origin_of old) × (state_of new ≡ state_of old)
 
--- what runs after a deed that adds nothing
+-- what runs after a transition that adds nothing
 module _ (t : Table) (last : ℕ) (r : ModelRunning) (e : Event) where
   abbrev after : Bool → List StateValue → NodeValue
   after off adds =
-      let deed = deed_on t r e in
+      let transition = transition_on t r e in
       shown t (record {
         last = last;
         running = cond off None (Some (record {
           origin = r.origin;
-          moments = record { booted = r.moments.booted; last = deed.last };
-          is_open = deed.is_open;
-          notes = cond deed.notes (note_of (joined r.log) e ∷ r.notes) r.notes;
+          moments = record { booted = r.moments.booted; last = transition.last };
+          is_open = transition.is_open;
+          notes = cond transition.notes (note_of (joined r.log) e ∷ r.notes) r.notes;
           log = r.log ++ adds;
-          base = base_after r.base (length (r.log ++ deed.adds)) deed.trim;
-          peers = deed.peers;
+          base = base_after r.base (length (r.log ++ transition.adds)) transition.trim;
+          peers = transition.peers;
         }));
       })
 
-  runs_alike : AddsNothing (deed_on t r e) → AreShownAlike (shown t (record { last = last; running = Some r })) (after (deed_on t r e).goes_off (deed_on t r e).adds)
+  runs_alike : AddsNothing (transition_on t r e) → AreShownAlike (shown t (record { last = last; running = Some r })) (after (transition_on t r e).goes_off (transition_on t r e).adds)
   runs_alike stays = (
-    ap (λ off. origin_of (after off (deed_on t r e).adds)) stays.0,
-    ap (λ (off : Bool). state_of (after off (deed_on t r e).adds)) stays.0 ∙ (ap (λ adds. state_of (after false adds)) stays.1 ∙ ap (λ log. Some (joined log)) (append-nil r.log)),
+    ap (λ off. origin_of (after off (transition_on t r e).adds)) stays.0,
+    ap (λ (off : Bool). state_of (after off (transition_on t r e).adds)) stays.0 ∙ (ap (λ adds. state_of (after false adds)) stays.1 ∙ ap (λ log. Some (joined log)) (append-nil r.log)),
   )
 
 module _ (t : Table) (me : NodeId) (e : Event) where

@@ -23,8 +23,8 @@ use Rattle.dac_events.specs.declared.refusal.Refusal.TheVariants.{NoMemory}
 use Rattle.dac_model_node.specs.NodeValue.{NodeValue, RunningValue, off}
 use Rattle.dac_model_node.specs.ModelNode.{ModelNode, ModelRunning, base_after, shown, running_shown, joined}
 use Rattle.dac_model_node.specs.EventRefusals.{refusal_of}
-use Rattle.dac_model_node.specs.Deeds.{Deed, deed_of, ticks_by, opening_at, note_of}
-use Rattle.dac_model_node.specs.Step.{model_step, step_by, accepted, deed_on, goes_on, Stepped, Steps, IsShown}
+use Rattle.dac_model_node.specs.Transitions.{Transition, transition_of, ticks_by, opening_at, note_of}
+use Rattle.dac_model_node.specs.Step.{model_step, step_by, accepted, transition_on, goes_on, Stepped, Steps, IsShown}
 use Rattle.dac_model_node.specs.Accepted.{AcceptedAs, AreNewest, IsNoting, IsNotingBy, running_by, left_by, reply_by}
 use Rattle.dac_deltas.specs.declared.buffer.TheConstants.{MAX_DELTAS}
 
@@ -32,45 +32,45 @@ use Rattle.dac_deltas.specs.declared.buffer.TheConstants.{MAX_DELTAS}
 pub joined-append : (log states : List StateValue) → joined (log ++ states) ≡ fold join (joined log) states
 joined-append log states = fold-append join bottom log states
 
--- ---- a deed that notes nothing looks at nothing that is noted
+-- ---- a transition that notes nothing looks at nothing that is noted
 quiet_tick : (opening : Opening) (t : Table) (r : RunningValue) (n m : List (Option Noted)) (now : ℕ) → (ticks_by opening t r n now).notes ≡ false → ticks_by opening t r n now ≡ ticks_by opening t r m now
 quiet_tick Shut t r n m now h = refl
 quiet_tick GiveUp t r n m now h = refl
 quiet_tick Opened t r n m now h = absurd (true≢false h)
 
-quiet_deed : (t : Table) (r : RunningValue) (n m : List (Option Noted)) (e : Event) → (deed_of t r n e).notes ≡ false → deed_of t r n e ≡ deed_of t r m e
-quiet_deed t r n m (Boot now) h = refl
-quiet_deed t r n m Crash h = refl
-quiet_deed t r n m (Commanded c) h = refl
-quiet_deed t r n m (Tick now) h = quiet_tick (opening_at t r now) t r n m now h
-quiet_deed t r n m (Ship to) h = refl
-quiet_deed t r n m (Hear msg) h = refl
-quiet_deed t r n m (HearOp o) h = refl
+quiet_transition : (t : Table) (r : RunningValue) (n m : List (Option Noted)) (e : Event) → (transition_of t r n e).notes ≡ false → transition_of t r n e ≡ transition_of t r m e
+quiet_transition t r n m (Boot now) h = refl
+quiet_transition t r n m Crash h = refl
+quiet_transition t r n m (Commanded c) h = refl
+quiet_transition t r n m (Tick now) h = quiet_tick (opening_at t r now) t r n m now h
+quiet_transition t r n m (Ship to) h = refl
+quiet_transition t r n m (Hear msg) h = refl
+quiet_transition t r n m (HearOp o) h = refl
 
-quiet_run : (r : RunningValue) (n m : List (Option Noted)) (deed : Deed) → deed.notes ≡ false → running_by r n deed ≡ running_by r m deed
-quiet_run r n m deed h =
+quiet_run : (r : RunningValue) (n m : List (Option Noted)) (transition : Transition) → transition.notes ≡ false → running_by r n transition ≡ running_by r m transition
+quiet_run r n m transition h =
     ap (λ (b : Bool). with b n) h ∙ sym (ap (λ (b : Bool). with b m) h)
   where
     with : Bool → List (Option Noted) → Option RunningValue
-    with b noted = cond deed.goes_off None (Some (record {
+    with b noted = cond transition.goes_off None (Some (record {
       origin = r.origin;
-      moments = record { booted = r.moments.booted; last = deed.last };
-      is_open = deed.is_open;
+      moments = record { booted = r.moments.booted; last = transition.last };
+      is_open = transition.is_open;
       waits = cond b noted r.waits;
-      state = fold join r.state deed.adds;
-      kept = trimmed (fold pushed r.kept deed.adds) deed.trim;
-      peers = deed.peers;
+      state = fold join r.state transition.adds;
+      kept = trimmed (fold pushed r.kept transition.adds) transition.trim;
+      peers = transition.peers;
     }))
 
 -- what is done and what is left depend on what is noted only where the event notes
-pub same_deed : (t : Table) (r : RunningValue) (n m : List (Option Noted)) (e : Event) → ((deed_of t r n e).notes ≡ true → n ≡ m) → (deed_of t r n e ≡ deed_of t r m e) × (running_by r n (deed_of t r n e) ≡ running_by r m (deed_of t r m e))
-same_deed t r n m e same =
-    elim (deed_of t r n e).notes as (λ b. (deed_of t r n e).notes ≡ b → (deed_of t r n e ≡ deed_of t r m e) × (running_by r n (deed_of t r n e) ≡ running_by r m (deed_of t r m e))) [
-      | true ↦ λ h. (ap (λ k. deed_of t r k e) (same h), ap (λ k. running_by r k (deed_of t r k e)) (same h))
-      | false ↦ λ h. (quiet_deed t r n m e h, quiet_run r n m (deed_of t r n e) h ∙ ap (running_by r m) (quiet_deed t r n m e h))
+pub same_transition : (t : Table) (r : RunningValue) (n m : List (Option Noted)) (e : Event) → ((transition_of t r n e).notes ≡ true → n ≡ m) → (transition_of t r n e ≡ transition_of t r m e) × (running_by r n (transition_of t r n e) ≡ running_by r m (transition_of t r m e))
+same_transition t r n m e same =
+    elim (transition_of t r n e).notes as (λ b. (transition_of t r n e).notes ≡ b → (transition_of t r n e ≡ transition_of t r m e) × (running_by r n (transition_of t r n e) ≡ running_by r m (transition_of t r m e))) [
+      | true ↦ λ h. (ap (λ k. transition_of t r k e) (same h), ap (λ k. running_by r k (transition_of t r k e)) (same h))
+      | false ↦ λ h. (quiet_transition t r n m e h, quiet_run r n m (transition_of t r n e) h ∙ ap (running_by r m) (quiet_transition t r n m e h))
     ] refl
 
--- ---- what the model node shows as after a deed
+-- ---- what the model node shows as after a transition
 
 -- the deltas that are kept after some more and a trim are those of the log
 kept-after : (base : ℕ) (log adds : List StateValue) (trim : ℕ) → AreNewest (kept_of base log) → kept_of (base_after base (length (log ++ adds)) trim) (log ++ adds) ≡ trimmed (fold pushed (kept_of base log) adds) trim
@@ -97,15 +97,15 @@ module _ (t : Table) (r : ModelRunning) (newest : AreNewest (kept_of r.base r.lo
   shown_run false true = ap (λ (x : RunningValue). Some x) (later_shown (note ∷ r.notes))
   shown_run false false = ap (λ (x : RunningValue). Some x) (later_shown r.notes)
 
--- the same deed is done, where the program notes as the definition does
-pub deed_same : (t : Table) (r : ModelRunning) (noted : List (Option Noted)) (e : Event) → AreNewest (kept_of r.base r.log) → IsNoting t (running_shown t r) noted e
-    → (deed_on t r e ≡ deed_of t (running_shown t r) noted e) × (option_map (running_shown t) (goes_on r (note_of (joined r.log) e) (deed_on t r e)) ≡ running_by (running_shown t r) noted (deed_of t (running_shown t r) noted e))
-deed_same t r noted e newest noting =
+-- the same transition is done, where the program notes as the definition does
+pub transition_same : (t : Table) (r : ModelRunning) (noted : List (Option Noted)) (e : Event) → AreNewest (kept_of r.base r.log) → IsNoting t (running_shown t r) noted e
+    → (transition_on t r e ≡ transition_of t (running_shown t r) noted e) × (option_map (running_shown t) (goes_on r (note_of (joined r.log) e) (transition_on t r e)) ≡ running_by (running_shown t r) noted (transition_of t (running_shown t r) noted e))
+transition_same t r noted e newest noting =
     let here = running_shown t r in
     let own = waits_of t (note_of (joined r.log) e ∷ r.notes) in
-    let same = same_deed t here noted own e (λ h. noting h r.notes refl) in
-    let deed = deed_on t r e in
-    (sym same.0, shown_run t r newest (note_of (joined r.log) e) deed.last deed.is_open deed.adds deed.peers deed.trim deed.goes_off deed.notes ∙ sym same.1)
+    let same = same_transition t here noted own e (λ h. noting h r.notes refl) in
+    let transition = transition_on t r e in
+    (sym same.0, shown_run t r newest (note_of (joined r.log) e) transition.last transition.is_open transition.adds transition.peers transition.trim transition.goes_off transition.notes ∙ sym same.1)
 
 -- the deltas that a running node keeps are the newest
 abbrev AreNewestBy : Option RunningValue → Type 0
@@ -115,13 +115,13 @@ AreNewestBy running = IfSome running (λ (r : RunningValue). AreNewest r.kept)
 pub shown_accepted : (t : Table) (me : NodeId) (last : ℕ) (running : Option ModelRunning) (noted : List (Option Noted)) (e : Event) → AreNewestBy (option_map (running_shown t) running) → IsNotingBy t (option_map (running_shown t) running) noted e
     → shown t (accepted t me last running e).node ≡ left_by t me last (option_map (running_shown t) running) noted e
 shown_accepted t me last None noted e newest noting = refl
-shown_accepted t me last (Some r) noted e newest noting = ap (λ running. record { last = last; running = running }) (deed_same t r noted e newest noting).1
+shown_accepted t me last (Some r) noted e newest noting = ap (λ running. record { last = last; running = running }) (transition_same t r noted e newest noting).1
 
 -- and answers their reply
 pub answer_accepted : (t : Table) (me : NodeId) (last : ℕ) (running : Option ModelRunning) (noted : List (Option Noted)) (e : Event) → AreNewestBy (option_map (running_shown t) running) → IsNotingBy t (option_map (running_shown t) running) noted e
     → (accepted t me last running e).answer ≡ Ok (reply_by t me last (option_map (running_shown t) running) noted e)
 answer_accepted t me last None noted e newest noting = refl
-answer_accepted t me last (Some r) noted e newest noting = ap (λ (deed : Deed). Ok deed.reply) (deed_same t r noted e newest noting).0
+answer_accepted t me last (Some r) noted e newest noting = ap (λ (transition : Transition). Ok transition.reply) (transition_same t r noted e newest noting).0
 
 -- the step where nothing refuses
 pub step_accepted : (t : Table) (me : NodeId) (d : ModelNode) (e : Event) → refusal_of t (shown t d) e ≡ None → model_step t me d e ≡ accepted t me d.last d.running e

@@ -25,7 +25,7 @@ use Rattle.dac_ticks.specs.InWords.{IsTurn}
 use Rattle.dac_ticks.specs.laws.Words.{turn_in_words}
 use Rattle.dac_model_node.specs.NodeValue.{RunningValue}
 use Rattle.dac_model_node.specs.EventRefusals.{refusal_by}
-use Rattle.dac_model_node.specs.Deeds.{message_of, opening_at, ticks_by}
+use Rattle.dac_model_node.specs.Transitions.{message_of, opening_at, ticks_by}
 use Rattle.dac_model_node.specs.Accepted.{IsNotingBy, reply_by}
 use Rattle.dac_model_node.specs.Writing.{IsAsked, TicksSo, Writes}
 use Rattle.dac_model_node.specs.laws.Counters.{leaves_room}

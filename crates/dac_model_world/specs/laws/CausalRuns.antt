@@ -29,7 +29,7 @@ use Rattle.dac_model_node.specs.Ticks.{turn_of}
 use Rattle.dac_model_node.specs.laws.Claims.{claims_are}
 use Rattle.dac_model_node.specs.ModelNode.{ModelNode, ModelRunning, joined, shown, running_shown}
 use Rattle.dac_model_node.specs.EventRefusals.{refusal_of, refusal_by, refusal_to_tick, otherwise}
-use Rattle.dac_model_node.specs.Deeds.{ticks_by, opening_at, note_of}
+use Rattle.dac_model_node.specs.Transitions.{ticks_by, opening_at, note_of}
 use Rattle.dac_model_node.specs.Step.{step_by, up, goes_on, accepted}
 use Rattle.dac_model_node.specs.laws.Counters.{leaves_room}
 use Rattle.dac_model_node.specs.laws.Options.{some_same}
@@ -83,7 +83,7 @@ copies_counted is cs k c h e =
     no : None ≡ Some c → ⊥
     no p = cc
 
--- ---- what the deeds do to sets
+-- ---- what transitions do to sets
 -- node n's set replaced
 nodes_with : (is : List Issue) (node : NodeId → Option NodeSet) (n : NodeId) (held : Option NodeSet) → ClosedSet is (held_by held) → ((m : NodeId) → ClosedSet is (held_by (node m))) → (m : NodeId) → ClosedSet is (held_by (with_set node n held m))
 nodes_with is node n held here others m = elim (nat_eq m.0 n.0) as (λ b. ClosedSet is (held_by (cond b held (node m)))) [ true ↦ here | false ↦ others m ]
@@ -143,7 +143,7 @@ module _ (s : SetWorld) (n : NodeId) (h : Causal s) where
     issues = h.issues;
   }
 
--- ---- what the deeds issue
+-- ---- what transitions issue
 -- where neither of two causes holds, the first doesn't
 pub first_free : (a b : Option Refusal) → otherwise a b ≡ None → a ≡ None
 first_free None b e = refl
@@ -176,9 +176,9 @@ module _ (t : Table) (w : ModelWorld) (s : SetWorld) (n : NodeId) (h : Sound w s
       causal_issue s n c more d (subst (λ (x : Option NodeSet). AreNext (held_by x) more) (sym held.is) next)
 
   causal_tick : (what : What) (r : ModelRunning) → (w.node n).running ≡ Some r → (note : Note) (noted : List (Option Noted)) (now : ℕ) (opening : Opening) → refusal_to_tick t (running_shown t r) now ≡ None →
-      let deed = ticks_by opening t (running_shown t r) noted now in
-      let d : ModelNode = record { last = (w.node n).last; running = goes_on r note deed } in
-      Sound (answered_by w n d (Ok deed.reply)).world (set_step s n what (Ok deed.reply)) → Causal (set_step s n what (Ok deed.reply))
+      let transition = ticks_by opening t (running_shown t r) noted now in
+      let d : ModelNode = record { last = (w.node n).last; running = goes_on r note transition } in
+      Sound (answered_by w n d (Ok transition.reply)).world (set_step s n what (Ok transition.reply)) → Causal (set_step s n what (Ok transition.reply))
   causal_tick what r on note noted now Shut none next = c
   causal_tick what r on note noted now GiveUp none next = causal_off s n c
   causal_tick what r on note noted now Opened none next =

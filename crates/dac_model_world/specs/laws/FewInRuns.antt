@@ -24,8 +24,8 @@ use Rattle.dac_model_node.specs.Ticks.{turn_of}
 use Rattle.dac_model_node.specs.NodeValue.{RunningValue}
 use Rattle.dac_model_node.specs.ModelNode.{ModelNode, ModelRunning, joined, shown, running_shown}
 use Rattle.dac_model_node.specs.EventRefusals.{refusal_of}
-use Rattle.dac_model_node.specs.Deeds.{Deed, brings, deed_of, ticks_by, opening_at, moment_of, note_of}
-use Rattle.dac_model_node.specs.Step.{step_by, up, comes_up, goes_on, deed_on, accepted}
+use Rattle.dac_model_node.specs.Transitions.{Transition, brings, transition_of, ticks_by, opening_at, moment_of, note_of}
+use Rattle.dac_model_node.specs.Step.{step_by, up, comes_up, goes_on, transition_on, accepted}
 use Rattle.dac_model_node.specs.laws.Options.{some_same}
 use Rattle.dac_events.specs.declared.world_fault.WorldFault.{WorldFault}
 use Rattle.dac_events.specs.declared.world_fault.WorldFault.TheVariants.{NoSuchNode, Refused}
@@ -38,9 +38,9 @@ use Rattle.dac_model_world.specs.laws.Carried.{none_some}
 abbrev pub IsFew : (NodeId → ℕ) → ModelWorld → Type 0
 IsFew deltas w = (n : NodeId) (r : ModelRunning) → (w.node n).running ≡ Some r → length r.log ≤ deltas n
 
--- ---- what a deed adds
-abbrev AddsFew : Deed → Type 0
-AddsFew deed = (before : ℕ) → before + length deed.adds ≤ deltas_after before (Ok deed.reply)
+-- ---- what a transition adds
+abbrev AddsFew : Transition → Type 0
+AddsFew transition = (before : ℕ) → before + length transition.adds ≤ deltas_after before (Ok transition.reply)
 
 brings_few : (s body : StateValue) (before : ℕ) → before + length (brings s body) ≤ deltas_after before (Ok (Heard (not (is_below body s))))
 brings_few s body before = elim (is_below body s) as (λ b. before + length (cond b [] (body ∷ [])) ≤ cond (not b) (before + 1) before) [ true ↦ omega arith | false ↦ omega arith ]
@@ -53,27 +53,27 @@ tick_adds Opened t r noted now before = let ops = (turn_of t r.origin noted now 
     together : (b m k : ℕ) → m ≡ k → b + m ≤ b + k
     together b m k e = omega arith
 
-deed_adds : (t : Table) (r : RunningValue) (noted : List (Option Noted)) (e : Event) → AddsFew (deed_of t r noted e)
-deed_adds t r noted (Boot now) before = omega arith
-deed_adds t r noted Crash before = omega arith
-deed_adds t r noted (Commanded c) before = omega arith
-deed_adds t r noted (Tick now) before = tick_adds (opening_at t r now) t r noted now before
-deed_adds t r noted (Ship to) before = omega arith
-deed_adds t r noted (Hear m) before = brings_few r.state (content_of m.body) before
-deed_adds t r noted (HearOp o) before = brings_few r.state (meaning_of (o ∷ [])) before
+transition_adds : (t : Table) (r : RunningValue) (noted : List (Option Noted)) (e : Event) → AddsFew (transition_of t r noted e)
+transition_adds t r noted (Boot now) before = omega arith
+transition_adds t r noted Crash before = omega arith
+transition_adds t r noted (Commanded c) before = omega arith
+transition_adds t r noted (Tick now) before = tick_adds (opening_at t r now) t r noted now before
+transition_adds t r noted (Ship to) before = omega arith
+transition_adds t r noted (Hear m) before = brings_few r.state (content_of m.body) before
+transition_adds t r noted (HearOp o) before = brings_few r.state (meaning_of (o ∷ [])) before
 
 at_most : (q l a m k : ℕ) → q ≡ l + a → l ≤ m → m + a ≤ k → q ≤ k
 at_most q l a m k e p f = omega arith
 
 -- what runs after it
-goes_few : (r : ModelRunning) (note : Note) (deed : Deed) (before : ℕ) → length r.log ≤ before → AddsFew deed → (q : ModelRunning) → goes_on r note deed ≡ Some q → length q.log ≤ deltas_after before (Ok deed.reply)
-goes_few r note deed before few adds q e = by_off deed.goes_off _ refl e
+goes_few : (r : ModelRunning) (note : Note) (transition : Transition) (before : ℕ) → length r.log ≤ before → AddsFew transition → (q : ModelRunning) → goes_on r note transition ≡ Some q → length q.log ≤ deltas_after before (Ok transition.reply)
+goes_few r note transition before few adds q e = by_off transition.goes_off _ refl e
   where
-    by_off : (off : Bool) (after : ModelRunning) → after.log ≡ r.log ++ deed.adds → cond off None (Some after) ≡ Some q → length q.log ≤ deltas_after before (Ok deed.reply)
+    by_off : (off : Bool) (after : ModelRunning) → after.log ≡ r.log ++ transition.adds → cond off None (Some after) ≡ Some q → length q.log ≤ deltas_after before (Ok transition.reply)
     by_off true after log p = none_some p
     by_off false after log p =
-        let is : length q.log ≡ length r.log + length deed.adds = ap (λ (x : ModelRunning). length x.log) (sym (some_same after q p)) ∙ (ap length log ∙ length-append r.log deed.adds) in
-        at_most (length q.log) (length r.log) (length deed.adds) before (deltas_after before (Ok deed.reply)) is few (adds before)
+        let is : length q.log ≡ length r.log + length transition.adds = ap (λ (x : ModelRunning). length x.log) (sym (some_same after q p)) ∙ (ap length log ∙ length-append r.log transition.adds) in
+        at_most (length q.log) (length r.log) (length transition.adds) before (deltas_after before (Ok transition.reply)) is few (adds before)
 
 -- ---- one event of the world
 module _ (t : Table) (w : ModelWorld) (deltas : NodeId → ℕ) (h : IsFew deltas w) where
@@ -93,7 +93,7 @@ module _ (t : Table) (w : ModelWorld) (deltas : NodeId → ℕ) (h : IsFew delta
   few_ok n e None on =
       let own = own_origin n ((w.node n).last + 1) in
       few_node n (runs_as ((w.node n).last + 1) (comes_up own (moment_of e))) (Booted (up own)) (λ r p. subst (λ (q : ModelRunning). length q.log ≤ 1) (some_same (comes_up own (moment_of e)) r p) (le_refl 1))
-  few_ok n e (Some r) on = let deed = deed_on t r e in few_node n (record { last = (w.node n).last; running = goes_on r (note_of (joined r.log) e) deed }) deed.reply (goes_few r (note_of (joined r.log) e) deed (deltas n) (h n r on) (deed_adds t (running_shown t r) (waits_of t (note_of (joined r.log) e ∷ r.notes)) e))
+  few_ok n e (Some r) on = let transition = transition_on t r e in few_node n (record { last = (w.node n).last; running = goes_on r (note_of (joined r.log) e) transition }) transition.reply (goes_few r (note_of (joined r.log) e) transition (deltas n) (h n r on) (transition_adds t (running_shown t r) (waits_of t (note_of (joined r.log) e ∷ r.notes)) e))
 
   few_by : (n : NodeId) (what : Result Event WorldFault) → IsFew (deltas_with deltas n (happens_by t w n what).answer) (happens_by t w n what).world
   few_by n (Err fault) = still_few n fault

@@ -24,7 +24,7 @@ use Rattle.dac_events.specs.declared.world_fault.WorldFault.TheVariants.{NoSuchN
 use Rattle.dac_model_node.specs.NodeValue.{NodeValue, RunningValue}
 use Rattle.dac_model_node.specs.ModelNode.{ModelNode, ModelRunning, joined, shown, running_shown}
 use Rattle.dac_model_node.specs.EventRefusals.{refusal_of, refusal_by}
-use Rattle.dac_model_node.specs.Deeds.{ticks_by, opening_at, note_of}
+use Rattle.dac_model_node.specs.Transitions.{ticks_by, opening_at, note_of}
 use Rattle.dac_model_node.specs.Step.{model_step, step_by, accepted, Stepped}
 use Rattle.dac_model_node.specs.Hearing.{HearsExactly}
 use Rattle.dac_model_node.specs.Accepted.{AcceptedAs, AreNewest, IsNotingBy, left_by, reply_by}

@@ -18,7 +18,7 @@ use Rattle.dac_meaning.specs.laws.Readers.{heard-meaning, known-meaning, starts-
 use Rattle.dac_meaning.specs.laws.Members.{In-append_left, In-append_right, In-append_cases}
 use Rattle.dac_meaning.specs.laws.Joins.{join-meaning, meaning-same}
 use Rattle.dac_model_node.specs.ModelNode.{joined}
-use Rattle.dac_model_node.specs.Deeds.{meanings}
+use Rattle.dac_model_node.specs.Transitions.{meanings}
 use Rattle.dac_model_world.specs.laws.Operations.{Agree-within}
 
 -- sets of operations, one after another

@@ -28,7 +28,7 @@ use Rattle.dac_events.specs.declared.world_fault.WorldFault.{WorldFault}
 use Rattle.dac_events.specs.declared.world_fault.WorldFault.TheVariants.{NoSuchNode}
 use Rattle.dac_model_node.specs.ModelNode.{ModelNode, ModelRunning, joined, shown, running_shown}
 use Rattle.dac_model_node.specs.EventRefusals.{refusal_of, refusal_by, overflows, too_many_deltas}
-use Rattle.dac_model_node.specs.Step.{Stepped, model_step, step_by, accepted, deed_on}
+use Rattle.dac_model_node.specs.Step.{Stepped, model_step, step_by, accepted, transition_on}
 use Rattle.dac_model_node.specs.laws.Steps.{step_accepted}
 use Rattle.dac_model_node.specs.laws.Options.{some_same}
 use Rattle.dac_model_world.specs.ModelWorld.{ModelWorld, happens, happens_by, answered_by, event_of, heard_by, handed_by, counted, Step, Run, start}
@@ -124,7 +124,7 @@ module _ (t : Table) (w : ModelWorld) (s : SetWorld) (h : Sound w s) (deltas : N
       by_run (Some r) on e = (r, on)
 
   -- what isn't refused and is answered as heard
-  heard_free : (e : Event) (r : ModelRunning) (fresh : Bool) → (w.node n).running ≡ Some r → refusal_of t (shown t (w.node n)) e ≡ None → (deed_on t r e).reply ≡ Heard fresh → IsHeard (happens_by t w n (Ok e)).answer
+  heard_free : (e : Event) (r : ModelRunning) (fresh : Bool) → (w.node n).running ≡ Some r → refusal_of t (shown t (w.node n)) e ≡ None → (transition_on t r e).reply ≡ Heard fresh → IsHeard (happens_by t w n (Ok e)).answer
   heard_free e r fresh on none is = (fresh, ap (λ (st : Stepped). (answered_by w n st.node st.answer).answer) (step_accepted t n (w.node n) e none ∙ ap (λ running. accepted t n (w.node n).last running e) on) ∙ ap (λ reply. Ok reply) is)
 
   -- a node that lacks a number has as many deltas as have numbers
@@ -135,7 +135,7 @@ module _ (t : Table) (w : ModelWorld) (s : SetWorld) (h : Sound w s) (deltas : N
       at_most m c k a b = omega arith
 
   -- what is refused only where a number is lacking
-  heard_or_full : (e : Event) (r : ModelRunning) (fresh : Bool) (full : Bool) → (w.node n).running ≡ Some r → (full ≡ true → too_many_deltas (running_shown t r) 1 ≡ true) → refusal_of t (shown t (w.node n)) e ≡ first ((full, DotsUsedUp) ∷ []) → (deed_on t r e).reply ≡ Heard fresh →
+  heard_or_full : (e : Event) (r : ModelRunning) (fresh : Bool) (full : Bool) → (w.node n).running ≡ Some r → (full ≡ true → too_many_deltas (running_shown t r) 1 ≡ true) → refusal_of t (shown t (w.node n)) e ≡ first ((full, DotsUsedUp) ∷ []) → (transition_on t r e).reply ≡ Heard fresh →
       Outcome (deltas n) (happens_by t w n (Ok e)).answer
   heard_or_full e r fresh true on lacks why is = inr (ap (λ x. let st = step_by x t n (w.node n) e in (answered_by w n st.node st.answer).answer) why, is_full r on (lacks refl))
   heard_or_full e r fresh false on lacks free is = inl (heard_free e r fresh on free is)

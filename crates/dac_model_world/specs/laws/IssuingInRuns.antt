@@ -25,7 +25,7 @@ use Rattle.dac_model_node.specs.Ticks.{turn_of}
 use Rattle.dac_model_node.specs.Issued.{AreIssued}
 use Rattle.dac_model_node.specs.ModelNode.{ModelNode, ModelRunning, joined, shown, running_shown}
 use Rattle.dac_model_node.specs.EventRefusals.{refusal_of, refusal_by, refusal_to_tick}
-use Rattle.dac_model_node.specs.Deeds.{ticks_by, opening_at, moment_of, note_of}
+use Rattle.dac_model_node.specs.Transitions.{ticks_by, opening_at, moment_of, note_of}
 use Rattle.dac_model_node.specs.Step.{step_by, accepted, up, comes_up, goes_on}
 use Rattle.dac_model_node.specs.laws.Claims.{claims_are, claims_issued}
 use Rattle.dac_model_node.specs.laws.Counters.{leaves_room}
@@ -148,8 +148,8 @@ module _ (t : Table) (w : ModelWorld) (s : SetWorld) (e : WorldEvent) (h : Sound
         after_claims t r.origin (joined r.log) os more held.state (Agree-within (os ++ more) all inside agree) (claims_are t r.origin noted now (joined r.log) (leaves_room t (running_shown t r) now none))
 
     ticks : (note : Note) (noted : List (Option Noted)) (now : ℕ) (opening : Opening) → refusal_to_tick t (running_shown t r) now ≡ None →
-        let deed = ticks_by opening t (running_shown t r) noted now in
-        let by = answered_by w n (record { last = (w.node n).last; running = goes_on r note deed }) (Ok deed.reply) in
+        let transition = ticks_by opening t (running_shown t r) noted now in
+        let by = answered_by w n (record { last = (w.node n).last; running = goes_on r note transition }) (Ok transition.reply) in
         Sound by.world (set_step s n e.what by.answer) → TellsIssued s e by.answer × Numbered by.world
     ticks note noted now Shut none next = (tt, stays _ [])
     ticks note noted now GiveUp none next = (tt, stays _ [])

@@ -34,7 +34,7 @@ use Rattle.dac_model_node.specs.Ticks.{turn_of}
 use Rattle.dac_model_node.specs.Issued.{AreIssued}
 use Rattle.dac_model_node.specs.NodeValue.{NodeValue, RunningValue, state_of}
 use Rattle.dac_model_node.specs.ModelNode.{shown}
-use Rattle.dac_model_node.specs.Deeds.{Deed, deed_of, ticks_by, opening_at, meanings, brings, body_from, message_of, keeps, goes_down, holds_back, looks_after, ships, hears as hears_state, hears_message, issues}
+use Rattle.dac_model_node.specs.Transitions.{Transition, transition_of, ticks_by, opening_at, meanings, brings, body_from, message_of, keeps, goes_down, holds_back, looks_after, ships, hears as hears_state, hears_message, issues}
 use Rattle.dac_model_node.specs.Step.{up}
 use Rattle.dac_model_node.specs.Accepted.{AcceptedAs, running_by, reply_by, left_by}
 use Rattle.dac_model_node.specs.laws.Claims.{claims_issued}
@@ -160,52 +160,52 @@ boot_made t ops n last noted e distinct old =
     }
 
 module _ (ops : List Operation) (n : NodeId) (last : ℕ) (r : RunningValue) (distinct : DistinctDots ops) (h : RunsMade ops n last r) (noted : List (Option Noted)) where
-  abbrev Left : Deed → Type 0
-  Left deed = StepMade ops n (record { last = last; running = running_by r noted deed }) deed.reply
+  abbrev Left : Transition → Type 0
+  Left transition = StepMade ops n (record { last = last; running = running_by r noted transition }) transition.reply
 
-  -- a deed adds these states, after which the state means this set
-  deed_made : (deed : Deed) (held : List Operation) → DistinctDots (ops ++ issued_by deed.reply) → ((o : Operation) → IsOperationOf o (issued_by deed.reply) → o.dot.origin.node ≡ n) → SetOk (ops ++ issued_by deed.reply) n last held →
-      fold join r.state deed.adds ≡ meaning_of held → All (Means (ops ++ issued_by deed.reply)) deed.adds → BodiesMean ops (shipped_by deed.reply) → Left deed
-  deed_made deed held apart mine set state adds shipped =
-      let qs = issued_by deed.reply in
+  -- a transition adds these states, after which the state means this set
+  transition_made : (transition : Transition) (held : List Operation) → DistinctDots (ops ++ issued_by transition.reply) → ((o : Operation) → IsOperationOf o (issued_by transition.reply) → o.dot.origin.node ≡ n) → SetOk (ops ++ issued_by transition.reply) n last held →
+      fold join r.state transition.adds ≡ meaning_of held → All (Means (ops ++ issued_by transition.reply)) transition.adds → BodiesMean ops (shipped_by transition.reply) → Left transition
+  transition_made transition held apart mine set state adds shipped =
+      let qs = issued_by transition.reply in
       record {
         distinct = apart;
         mine = mine;
-        node = runs_or_off (ops ++ qs) n last deed.goes_off _ set.old (record {
+        node = runs_or_off (ops ++ qs) n last transition.goes_off _ set.old (record {
           held = held;
           state = state;
           set = set;
           origin = h.origin;
-          kept = kept_after (Means (ops ++ qs)) r.kept deed.adds deed.trim (All-weaker (Means ops) (Means (ops ++ qs)) (means_more ops qs) r.kept.deltas h.kept) adds;
+          kept = kept_after (Means (ops ++ qs)) r.kept transition.adds transition.trim (All-weaker (Means ops) (Means (ops ++ qs)) (means_more ops qs) r.kept.deltas h.kept) adds;
         });
         shipped = shipped;
       }
 
   -- nothing is issued, and what is added means these operations
-  unissued : (deed : Deed) (delta : List Operation) → [] ≡ issued_by deed.reply → AreOperationsOf delta ops → fold join r.state deed.adds ≡ meaning_of (h.held ++ delta) → All (Means ops) deed.adds → BodiesMean ops (shipped_by deed.reply) → Left deed
-  unissued deed delta none within state adds shipped =
-      let same : ops ≡ ops ++ issued_by deed.reply = sym (append-nil ops) ∙ ap (λ qs. ops ++ qs) none in
-      deed_made deed (h.held ++ delta) (subst DistinctDots same distinct) (λ o i. absurd (subst (IsOperationOf o) (sym none) i))
+  unissued : (transition : Transition) (delta : List Operation) → [] ≡ issued_by transition.reply → AreOperationsOf delta ops → fold join r.state transition.adds ≡ meaning_of (h.held ++ delta) → All (Means ops) transition.adds → BodiesMean ops (shipped_by transition.reply) → Left transition
+  unissued transition delta none within state adds shipped =
+      let same : ops ≡ ops ++ issued_by transition.reply = sym (append-nil ops) ∙ ap (λ qs. ops ++ qs) none in
+      transition_made transition (h.held ++ delta) (subst DistinctDots same distinct) (λ o i. absurd (subst (IsOperationOf o) (sym none) i))
       (subst (λ qs. SetOk qs n last (h.held ++ delta)) same (hear_set ops h.held delta n last within h.set))
-      state (subst (λ qs. All (Means qs) deed.adds) same adds) shipped
+      state (subst (λ qs. All (Means qs) transition.adds) same adds) shipped
 
-  -- a deed with a reply of nothing issued that adds no state
-  still : (deed : Deed) → [] ≡ issued_by deed.reply → deed.adds ≡ [] → BodiesMean ops (shipped_by deed.reply) → Left deed
-  still deed none nothing shipped =
-      unissued deed [] none (λ o i. absurd i) (ap (fold join r.state) nothing ∙ (h.state ∙ ap meaning_of (sym (append-nil h.held)))) (subst (All (Means ops)) (sym nothing) (All-nil (Means ops))) shipped
+  -- a transition with a reply of nothing issued that adds no state
+  still : (transition : Transition) → [] ≡ issued_by transition.reply → transition.adds ≡ [] → BodiesMean ops (shipped_by transition.reply) → Left transition
+  still transition none nothing shipped =
+      unissued transition [] none (λ o i. absurd i) (ap (fold join r.state) nothing ∙ (h.state ∙ ap meaning_of (sym (append-nil h.held)))) (subst (All (Means ops)) (sym nothing) (All-nil (Means ops))) shipped
 
   no_bodies : BodiesMean ops []
   no_bodies = All-nil (λ (m : Message). Means ops (content_of m.body))
 
   -- operations are issued one after another
-  issued : (deed : Deed) (more : List Operation) → more ≡ issued_by deed.reply → deed.adds ≡ meanings more → AreIssued r.origin r.state more → BodiesMean ops (shipped_by deed.reply) → Left deed
-  issued deed more is adds next shipped =
+  issued : (transition : Transition) (more : List Operation) → more ≡ issued_by transition.reply → transition.adds ≡ meanings more → AreIssued r.origin r.state more → BodiesMean ops (shipped_by transition.reply) → Left transition
+  issued transition more is adds next shipped =
       let g : Grown ops n last r.state h.held more = grow n last r.origin h.origin ops r.state h.held more h.state distinct h.set next in
-      let same : ops ++ more ≡ ops ++ issued_by deed.reply = ap (λ qs. ops ++ qs) is in
-      deed_made deed (h.held ++ more) (subst DistinctDots same g.distinct) (λ o i. g.here o (subst (IsOperationOf o) (sym is) i))
+      let same : ops ++ more ≡ ops ++ issued_by transition.reply = ap (λ qs. ops ++ qs) is in
+      transition_made transition (h.held ++ more) (subst DistinctDots same g.distinct) (λ o i. g.here o (subst (IsOperationOf o) (sym is) i))
       (subst (λ qs. SetOk qs n last (h.held ++ more)) same g.set)
       (ap (fold join r.state) adds ∙ g.state)
-      (subst (λ qs. All (Means qs) deed.adds) same (subst (All (Means (ops ++ more))) (sym adds) (each_means more (ops ++ more) (λ o i. In-append_right o ops more i)))) shipped
+      (subst (λ qs. All (Means qs) transition.adds) same (subst (All (Means (ops ++ more))) (sym adds) (each_means more (ops ++ more) (λ o i. In-append_right o ops more i)))) shipped
     where
       each_means : (more qs : List Operation) → AreOperationsOf more qs → All (Means qs) (meanings more)
       each_means [] qs within = All-nil (Means qs)
@@ -223,10 +223,10 @@ module _ (ops : List Operation) (n : NodeId) (last : ℕ) (r : RunningValue) (di
   ]
 
   -- a state comes
-  heard : (deed : Deed) (body : StateValue) → [] ≡ issued_by deed.reply → [] ≡ shipped_by deed.reply → deed.adds ≡ brings r.state body → Means ops body → Left deed
-  heard deed body none ships adds m =
+  heard : (transition : Transition) (body : StateValue) → [] ≡ issued_by transition.reply → [] ≡ shipped_by transition.reply → transition.adds ≡ brings r.state body → Means ops body → Left transition
+  heard transition body none ships adds m =
       let b = brings_made ops r.state body h.held (DistinctDots-agree ops distinct) h.state h.set.within m in
-      unissued deed b.delta none b.within (ap (fold join r.state) adds ∙ b.state) (subst (All (Means ops)) (sym adds) b.adds) (subst (BodiesMean ops) ships no_bodies)
+      unissued transition b.delta none b.within (ap (fold join r.state) adds ∙ b.state) (subst (All (Means ops)) (sym adds) b.adds) (subst (BodiesMean ops) ships no_bodies)
 
   tick_made : (t : Table) (now : ℕ) (opening : Opening) → Left (ticks_by opening t r noted now)
   tick_made t now Shut = still (holds_back r now) refl refl no_bodies
@@ -244,7 +244,7 @@ Comes ops _ = Unit {0}
 one_means : (ops : List Operation) (o : Operation) → IsOperationOf o ops → Means ops (meaning_of (o ∷ []))
 one_means ops o i = record { some = o ∷ []; within = λ x j. subst (λ (y : Operation). IsOperationOf y ops) (sym (one_in x o j)) i; is = refl }
 
-running_made : (t : Table) (ops : List Operation) (n : NodeId) (last : ℕ) (r : RunningValue) (noted : List (Option Noted)) (e : Event) (distinct : DistinctDots ops) (h : RunsMade ops n last r) → Comes ops e → Left ops n last r distinct h noted (deed_of t r noted e)
+running_made : (t : Table) (ops : List Operation) (n : NodeId) (last : ℕ) (r : RunningValue) (noted : List (Option Noted)) (e : Event) (distinct : DistinctDots ops) (h : RunsMade ops n last r) → Comes ops e → Left ops n last r distinct h noted (transition_of t r noted e)
 running_made t ops n last r noted (Boot now) distinct h comes = still ops n last r distinct h noted (keeps r (Heard false) []) refl refl (no_bodies ops n last r distinct h noted)
 running_made t ops n last r noted Crash distinct h comes = still ops n last r distinct h noted (goes_down r Crashed) refl refl (no_bodies ops n last r distinct h noted)
 running_made t ops n last r noted (Commanded c) distinct h comes =

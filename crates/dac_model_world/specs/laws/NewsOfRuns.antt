@@ -29,7 +29,7 @@ use Rattle.dac_meaning.specs.laws.Below.{is_below-is}
 use Rattle.dac_model_node.specs.NodeValue.{RunningValue}
 use Rattle.dac_model_node.specs.ModelNode.{ModelRunning, joined, shown, running_shown}
 use Rattle.dac_model_node.specs.EventRefusals.{refusal_of, refusal_by}
-use Rattle.dac_model_node.specs.Deeds.{ticks_by, opening_at, note_of}
+use Rattle.dac_model_node.specs.Transitions.{ticks_by, opening_at, note_of}
 use Rattle.dac_model_node.specs.Step.{step_by, accepted}
 use Rattle.dac_model_world.specs.ModelWorld.{ModelWorld, happens, happens_by, answered_by, event_of, Step, Run}
 use Rattle.dac_model_world.specs.SetWorld.{SetWorld, NodeSet, held_by, brought_to, set_step}

@@ -22,7 +22,7 @@ use Rattle.dac_commands.specs.Commands.{next_operation, greatest_counter}
 use Rattle.dac_commands.specs.laws.Counters.{counter-greatest}
 use Rattle.dac_model_node.specs.Issued.{IsNextOf, AreIssued}
 use Rattle.dac_model_node.specs.ModelNode.{ModelNode, ModelRunning, joined}
-use Rattle.dac_model_node.specs.Deeds.{meanings}
+use Rattle.dac_model_node.specs.Transitions.{meanings}
 use Rattle.dac_model_node.specs.Step.{up}
 use Rattle.dac_model_node.specs.laws.Options.{some_same}
 use Rattle.dac_model_world.specs.SetWorld.{NodeSet}

@@ -40,7 +40,7 @@ use Rattle.dac_model_node.specs.Issued.{AreIssued}
 use Rattle.dac_model_node.specs.NodeValue.{RunningValue}
 use Rattle.dac_model_node.specs.ModelNode.{ModelNode, ModelRunning, joined, shown, running_shown}
 use Rattle.dac_model_node.specs.EventRefusals.{refusal_of, refusal_by, refusal_to_hear, overflows}
-use Rattle.dac_model_node.specs.Deeds.{meanings, brings, body_from, message_of, ticks_by, opening_at, moment_of, note_of}
+use Rattle.dac_model_node.specs.Transitions.{meanings, brings, body_from, message_of, ticks_by, opening_at, moment_of, note_of}
 use Rattle.dac_model_node.specs.Step.{step_by, up, comes_up, goes_on, accepted}
 use Rattle.dac_model_node.specs.laws.Options.{some_same}
 use Rattle.dac_events.specs.declared.world_fault.WorldFault.{WorldFault}
@@ -354,7 +354,7 @@ module _ (ops : List Operation) (v : NodeId → Seen) (n : NodeId) (r : ModelRun
         ack = subst (λ (q : Origin). Acknowledges v q (ack_for r.peers to)) (sym mine) (ack_ok v n (v n).last r.peers to ok);
       }
 
--- ---- what the deeds do
+-- ---- what transitions do
 above_it : (l : ℕ) → l ≡ l + 1 → ⊥
 above_it l e = omega arith
 
@@ -514,9 +514,9 @@ module _ (w : ModelWorld) (s : SetWorld) (n : NodeId) (h : Sound w s) where
 
   -- a running node ticks
   sound_tick : (t : Table) (what : What) (r : ModelRunning) → (w.node n).running ≡ Some r → (note : Note) (noted : List (Option Noted)) (now : ℕ) (opening : Opening) →
-      let deed = ticks_by opening t (running_shown t r) noted now in
-      let d : ModelNode = record { last = (w.node n).last; running = goes_on r note deed } in
-      Sound (answered_by w n d (Ok deed.reply)).world (set_step s n what (Ok deed.reply))
+      let transition = ticks_by opening t (running_shown t r) noted now in
+      let d : ModelNode = record { last = (w.node n).last; running = goes_on r note transition } in
+      Sound (answered_by w n d (Ok transition.reply)).world (set_step s n what (Ok transition.reply))
   sound_tick t what r on note noted now Shut = sound_keep r on _ [] s.copies (record { origin = refl; log = refl }) (λ v k. k) (λ v later. same_copies w s n h [] v later)
   sound_tick t what r on note noted now GiveUp = sound_off
   sound_tick t what r on note noted now Opened =

@@ -18,7 +18,7 @@ use Rattle.dac_events.specs.declared.world_fault.WorldFault.TheVariants.{NoSuchN
 use Rattle.dac_model_node.specs.NodeValue.{RunningValue}
 use Rattle.dac_model_node.specs.ModelNode.{ModelRunning, joined, shown, running_shown}
 use Rattle.dac_model_node.specs.EventRefusals.{refusal_of, refusal_by}
-use Rattle.dac_model_node.specs.Deeds.{message_of, ticks_by, opening_at, note_of}
+use Rattle.dac_model_node.specs.Transitions.{message_of, ticks_by, opening_at, note_of}
 use Rattle.dac_model_node.specs.Step.{step_by, accepted}
 use Rattle.dac_model_world.specs.ModelWorld.{ModelWorld, happens, happens_by, answered_by, event_of, counted, Step, Run}
 use Rattle.dac_model_world.specs.SetWorld.{SetWorld, NodeSet, with_set, united, copied_by, copied_to, brought_to, operations_of, alone, set_step}

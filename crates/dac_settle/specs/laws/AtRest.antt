@@ -21,7 +21,7 @@ use Rattle.dac_ticks.specs.laws.Turning.{numbered, turned_by, turn_reaches}
 use Rattle.dac_ticks.specs.laws.Words.{own_if}
 use Rattle.dac_model_world.specs.ModelNode.{ModelNode, ModelRunning, joined, shown, running_shown}
 use Rattle.dac_model_world.specs.EventRefusals.{refusal_of}
-use Rattle.dac_model_world.specs.Deeds.{opening_at, note_of, ticks_by}
+use Rattle.dac_model_world.specs.Transitions.{opening_at, note_of, ticks_by}
 use Rattle.dac_model_world.specs.Step.{model_step, step_by}
 use Rattle.dac_settle.specs.Settling.{IsSettled}
 use Rattle.dac_settle.specs.Rules.{judged}

@@ -25,7 +25,7 @@ use Rattle.dac_ticks.specs.Ticks.{Turn}
 use Rattle.dac_ticks.specs.Again.{tick_of}
 use Rattle.dac_model_world.specs.ModelNode.{ModelNode, ModelRunning, joined, shown, running_shown}
 use Rattle.dac_model_world.specs.EventRefusals.{refusal_of, refusal_by}
-use Rattle.dac_model_world.specs.Deeds.{message_of, hears, hears_message, ships, looks_after, ticks_by, opening_at, note_of}
+use Rattle.dac_model_world.specs.Transitions.{message_of, hears, hears_message, ships, looks_after, ticks_by, opening_at, note_of}
 use Rattle.dac_model_world.specs.Step.{step_by, goes_on, accepted}
 use Rattle.dac_events.specs.declared.world_fault.WorldFault.{WorldFault}
 use Rattle.dac_events.specs.declared.world_fault.WorldFault.TheVariants.{NoSuchNode, Refused}
@@ -199,8 +199,8 @@ module _ (t : Table) (b : ℕ) (w : ModelWorld) (s : SetWorld) where
 
     goes_opened : (what : What) (now : ℕ) (opening : Opening) → what ≡ Ticking now →
         let note = note_of (joined r.log) (Ticks now) in
-        let deed = ticks_by opening t (running_shown t r) (waits_of t (note ∷ r.notes)) now in
-        GoesBy n what (answered_by w n (record { last = (w.node n).last; running = goes_on r note deed }) (Ok deed.reply))
+        let transition = ticks_by opening t (running_shown t r) (waits_of t (note ∷ r.notes)) now in
+        GoesBy n what (answered_by w n (record { last = (w.node n).last; running = goes_on r note transition }) (Ok transition.reply))
     goes_opened what now Shut is fits u = absurd fits
     goes_opened what now GiveUp is fits u = absurd fits
     goes_opened what now Opened is fits u = goes_tick what now is fits.0 fits.1

@@ -10,7 +10,7 @@ use Rattle.dac_model_node.specs.dac_ticks.laws.Claims.{state_joined}
 use Rattle.dac_model_node.specs.dac_commands.laws.Written.{none_is}
 use Rattle.dac_model_node.specs.EventRefusals.{causes_to_tick, refusal_to_tick}
 use Rattle.dac_model_node.specs.NodeValue.{RunningValue}
-use Rattle.dac_model_node.specs.Deeds.{meanings, opening_at}
+use Rattle.dac_model_node.specs.Transitions.{meanings, opening_at}
 use Rattle.dac_node.specs.declared.change.After.TheVariants.{GoesOn}
 use Rattle.dac_node.specs.Knowing.{running_of, ticking}
 use Rattle.dac_node.specs.Changes.{Effect}

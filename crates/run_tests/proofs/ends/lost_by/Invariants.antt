@@ -4,4 +4,4 @@ abbrev pub ghosts-hear_and_close-L-Ledger : goal.ghosts-hear_and_close-L-Ledger
 ghosts-hear_and_close-L-Ledger g a = record { name = a.blank.blank.name; parts = a.blank.blank.parts }
 
 abbrev pub ghosts-hear_and_close-L-SiteName : goal.ghosts-hear_and_close-L-SiteName
-ghosts-hear_and_close-L-SiteName g a = record { seats = a.blank.blank.parts; beginning = a.blank.desk.journal.beginning }
+ghosts-hear_and_close-L-SiteName g a = record { seats = a.blank.blank.parts; beginning = a.blank.paged.journal.beginning }

@@ -18,7 +18,7 @@ returns-then-change-clause-shows c = λ grown shows.
     let spots = kept_spots table old new app kept in
     elim c.if-not-change.branch [
       | then-not-change+then-is_claimed_anew w ↦
-          w.self-is ∙ (λ i. record { spots = (w.stand.ensures.spots ∙ ap (λ (r : RowValue). r.spots) shows ∙ spots) i; standing = w.stand.ensures.standing i; group = w.stand.ensures.group i })
+          w.self-is ∙ (λ i. record { spots = (w.set_standing.ensures.spots ∙ ap (λ (r : RowValue). r.spots) shows ∙ spots) i; standing = w.set_standing.ensures.standing i; group = w.set_standing.ensures.group i })
       | else-not-change w ↦
           let claimed : map.get old.claims app ≡ map.get new.claims app = elim w.else-not-change.branch [
             | else-not-change-via-then-not-change+else-is_claimed_anew v ↦ v.is_claimed_anew.ensures v.if-is_claimed_anew.false

@@ -5,7 +5,7 @@ use Rattle.dac_config.specs.Table.{node_count}
 use Rattle.dac_messages.specs.Bodies.{content_of}
 use Rattle.dac_peers.specs.Peers.{acked_by_all, heard_from}
 use Rattle.dac_model_node.specs.NodeValue.{RunningValue}
-use Rattle.dac_model_node.specs.Deeds.{hears_message}
+use Rattle.dac_model_node.specs.Transitions.{hears_message}
 use Rattle.dac_node.specs.declared.change.After.TheVariants.{GoesOn}
 use Rattle.dac_node.specs.Knowing.{AdvanceValue, adding, running_of}
 use Rattle.dac_node.specs.After.{after_from_base, from_base, next_by}

@@ -1,0 +1,157 @@
+//! A journal with its pages.
+
+ghost use Rattle.std.specs.Prelude.{◌≡◌, ◌^◌, ◌<◌, ◌++◌, ◌∷◌, [], IfOk};
+ghost use Rattle.std.specs.Option.{option_copied};
+ghost use Rattle.dac_status.specs.Summaries.{summary_of};
+ghost use Rattle.dac_journal.specs.Keeping.{leaves_state};
+ghost use Rattle.dac_journal.specs.Going.{GoesOnBy, node_by};
+ghost use Rattle.dac_sites.specs.Paged.{page_after, page_of, known_in};
+
+use dac_base::NoMemory;
+use dac_config::Config;
+use dac_journal::{Answer, Change, Journal, Next, Node};
+use dac_lattice::Bottom;
+use dac_messages::Reply;
+use dac_pages::{Page, Pages, RawReader};
+use dac_state::State;
+use dac_status::Summary;
+use std::alloc::Global;
+use std::marker::Model;
+use std::sync::Wait;
+
+/// The page of a node that has so many records. It takes no memory.
+pub fn page_of(alloc: Global, config: &Config, place: u64, node: &Node) -> Page
+    ensures { result ≡ page_of config.now place node.now }
+{
+    Page {
+        place,
+        origin: node.origin(),
+        summary: summary_of(alloc, config, node.state()),
+    }
+}
+
+/// The page once a journal goes on to what was prepared of it, where this is the page before. Its summary is made anew only if
+/// the state may be another one. It takes no memory.
+pub(crate) fn next_page(alloc: Global, journal: &Journal, shown: &Page, next: &Next) -> Page
+    requires goes { GoesOnBy journal.now.beginning journal.now.records next.now.entry
+        next.now.change }
+    requires shown { shown.now ≡ page_after journal.now.beginning journal.now.records }
+    ensures { result
+        ≡ page_after journal.now.beginning (journal.now.records ++ next.now.entry ∷ []) }
+{
+    let node = journal.node();
+    let place = journal.records().len() as u64 + 1;
+    if leaves_state(next.answer()) {
+        return Page {
+            place,
+            origin: shown.origin,
+            summary: shown.summary,
+        };
+    }
+    page_by(alloc, journal.config(), place, node, next.change())
+}
+
+/// Whether an answer says that the state and the incarnation stay.
+fn leaves_state(answer: &Answer) -> bool
+    ensures { result ≡ leaves_state answer.now }
+{
+    match answer {
+        Ok(Reply::Ticked { ops, passed: _ }) => ops.as_slice().is_empty(),
+        Ok(Reply::Heard(fresh)) => !fresh,
+        Ok(Reply::Held | Reply::Shipped(_)) | Err(_) => true,
+        Ok(Reply::Booted(_) | Reply::Crashed | Reply::Issued(_) | Reply::GaveUp) => false,
+    }
+}
+
+/// The page of a node once so much happens to it, with so many records.
+fn page_by(alloc: Global, config: &Config, place: u64, node: &Node, change: Option<&Change>) -> Page
+    ensures { result ≡ page_of config.now place (node_by (option_copied change.entry) node.now) }
+{
+    match change {
+        None => page_of(alloc, config, place, node),
+        Some(change) => Page {
+            place,
+            origin: node.origin_after(change),
+            summary: summary_of(alloc, config, node.state_after(change)),
+        },
+    }
+}
+
+/// The summary of a state, or of the one that knows nothing where there is none.
+fn summary_of(alloc: Global, config: &Config, state: Option<&State>) -> Summary
+    ensures { result ≡ summary_of config.now (known_in (option_copied state.entry)) }
+{
+    match state {
+        Some(state) => Summary::of(config, state),
+        None => Summary::of(config, &State::bottom(alloc)),
+    }
+}
+
+/// A journal, and the pages that tell readers of it: they take the page after its last record. It is asked by
+/// [`add_record`](crate::laws::add_record). It isn't `Drop`: end it by [`PagedJournal::end`].
+pub struct PagedJournal {
+    pub(crate) alloc: Global,
+    pub(crate) journal: Journal,
+    pub(crate) pages: Pages,
+}
+
+impl Model for PagedJournal {
+    ghost use Rattle.std.specs.Prelude.{◌≡◌};
+    ghost use Rattle.dac_journal.specs.contracts.journal.Journal as journal_row;
+    ghost use Rattle.dac_pages.specs.contracts.page.Page as page_row;
+    ghost use Rattle.dac_sites.specs.Paged.{DeskValue, coded_desk, page_after};
+
+    ghost Value = { DeskValue };
+
+    ghost coded = { coded_desk journal_row.the_row.coded page_row.the_row.coded };
+
+    ghost view = { λ d. record { journal = d.journal; page = d.pages.shown } };
+
+    ghost invariant = { λ d. d.pages.shown ≡ page_after d.journal.beginning d.journal.records };
+}
+
+impl PagedJournal {
+    /// A journal with pages for so many readers.
+    pub fn open(alloc: Global, journal: Journal, readers: usize) -> Result<Self, NoMemory>
+        requires places { (0 < readers) × (readers < 2 ^ 32) }
+        requires empty { journal.records ≡ [] }
+        ensures { IfOk result (λ d. d.journal ≡ journal) }
+    {
+        let first = page_of(alloc, journal.config(), 0, journal.node());
+        let pages = Pages::open(alloc, first, readers)?;
+        Ok(PagedJournal {
+            alloc,
+            journal,
+            pages,
+        })
+    }
+
+    /// The journal. Readers take the page after its last record: so many records, the incarnation, and the summary of the
+    /// state.
+    pub fn journal(&self) -> &Journal
+        ensures value { result.now ≡ self.now.journal }
+        ensures page { self.now.page
+            ≡ page_after self.now.journal.beginning self.now.journal.records }
+    {
+        &self.journal
+    }
+
+    /// A reader of the pages. `None` where each place for one is in use.
+    pub fn reader(&self) -> Option<RawReader> {
+        self.pages.reader()
+    }
+
+    /// Ends the pages, and gives the journal and the page that was published last.
+    pub fn end<R: Wait>(self, rt: &R) -> (Journal, Page)
+        ensures journal { result.0 ≡ self.journal }
+        ensures page { result.1 ≡ page_after self.journal.beginning self.journal.records }
+    {
+        let PagedJournal {
+            alloc: _,
+            journal,
+            pages,
+        } = self;
+        let page = pages.end(rt);
+        (journal, page)
+    }
+}

@@ -1,0 +1,34 @@
+//! How far a journal is placed.
+
+ghost use Rattle.std.specs.Prelude.{IfOk};
+ghost use Rattle.std.specs.List.{AllZip};
+ghost use Rattle.dac_weave.specs.Names.{Begins};
+
+use crate::replay::true_records;
+use dac_base::NoMemory;
+use dac_config::Config;
+use dac_journal::Closed;
+use std::alloc::Global;
+
+/// How many records of a journal are placed, and how many have their node's answers.
+#[derive(Drop)]
+pub(crate) struct Cursor {
+    pub(crate) placed: usize,
+    pub(crate) good: usize,
+}
+
+/// A cursor for each journal, of which nothing is placed.
+pub(crate) fn cursors_of(
+    alloc: Global,
+    config: &Config,
+    journals: &[Closed],
+) -> Result<Vec<Cursor>, NoMemory>
+    ensures { IfOk result (λ cursors. AllZip (Begins config.now) journals.now cursors.items) }
+{
+    let mut cursors = Vec::new(alloc);
+    for journal in journals {
+        let good = true_records(alloc, config, journal)?;
+        cursors.push(Cursor { placed: 0, good })?;
+    }
+    Ok(cursors)
+}

@@ -1,0 +1,235 @@
+//! What is placed of each journal, and placing more.
+
+ghost use Rattle.std.specs.Prelude.{◌≡◌, ◌<◌, ◌≤◌, ◌++◌, IfOk, OnOk, MatchOption, length};
+ghost use Rattle.dac_weave.specs.Names.{Names, issued_in, shipped_in};
+
+use crate::cursor::{Cursor, cursors_of};
+use crate::filed::Filed;
+use crate::unfit::lesser;
+use dac_base::{NoMemory, NodeId};
+use dac_config::Config;
+use dac_events::{What, WorldEvent};
+use dac_journal::{Answer, Closed};
+use dac_messages::{Event, Message, OpList, Reply};
+use dac_operations::Op;
+use std::alloc::Global;
+
+/// The events so far, and what they issued and shipped.
+#[derive(Drop)]
+pub(crate) struct Merge<'a> {
+    pub(crate) cursors: Vec<Cursor>,
+    pub(crate) events: Vec<WorldEvent>,
+    pub(crate) operations: Filed<'a, Op>,
+    pub(crate) messages: Filed<'a, Message>,
+}
+
+/// The event of the world that is this event at its node, if there is one now.
+fn name_event(
+    operations: &Filed<'_, Op>,
+    messages: &Filed<'_, Message>,
+    event: &Event,
+) -> Option<What>
+    ensures { Names operations.now messages.now event.now result }
+{
+    match event {
+        Event::Boot { now } => Some(What::Boot { now: *now }),
+        Event::Crash => Some(What::Crash),
+        Event::Command(command) => Some(What::Command(*command)),
+        Event::Tick { now } => Some(What::Tick { now: *now }),
+        Event::Ship { to } => Some(What::Ship { to: *to }),
+        Event::Hear(message) => match messages.number(message) {
+            Some(number) => Some(What::Deliver(number)),
+            None => None,
+        },
+        Event::HearOp(operation) => match operations.number(operation) {
+            Some(number) => Some(What::Hand(number)),
+            None => None,
+        },
+    }
+}
+
+/// Notes operations that were issued.
+fn note_all<'a>(operations: &mut Filed<'a, Op>, issued: &'a OpList) -> Result<(), NoMemory>
+    ensures { OnOk result (operations.new ≡ operations.old ++ issued.now) }
+{
+    for operation in issued.as_slice() {
+        operations.put(operation)?;
+    }
+    Ok(())
+}
+
+/// Notes what an answer issues and ships.
+fn note<'a>(
+    operations: &mut Filed<'a, Op>,
+    messages: &mut Filed<'a, Message>,
+    answer: &'a Answer,
+) -> Result<(), NoMemory>
+    ensures operations { OnOk result (operations.new ≡ operations.old ++ issued_in answer.now) }
+    ensures messages { OnOk result (messages.new ≡ messages.old ++ shipped_in answer.now) }
+{
+    match answer {
+        Ok(Reply::Booted(operation) | Reply::Issued(operation)) => operations.put(operation),
+        Ok(Reply::Ticked { ops, passed: _ }) => note_all(operations, ops),
+        Ok(Reply::Shipped(message)) => messages.put(message),
+        Ok(Reply::Crashed | Reply::Held | Reply::GaveUp | Reply::Heard(_)) | Err(_) => Ok(()),
+    }
+}
+
+/// How many records the journals have together, up to the greatest number.
+fn count_all(journals: &[Closed]) -> usize {
+    let mut count = 0usize;
+    for journal in journals {
+        count = count.saturating_add(journal.records().len());
+    }
+    count
+}
+
+impl<'a> Merge<'a> {
+    ghost use Rattle.std.specs.Prelude.{◌<◌, ◌≤◌, IfOk, OnOk, MatchOption, length};
+    ghost use Rattle.dac_journal.specs.Journals.{JournalValue};
+    ghost use Rattle.dac_weave.specs.Woven.{AllFit, IsFirst};
+    ghost use Rattle.dac_weave.specs.Placing.{HaveCursors, Weaves, CanBePlaced, IsStill, AllStill, StillBetween, Places, IsLeft, IsLeftAt, AllWhole};
+
+    /// Nothing placed.
+    pub(crate) fn new(
+        alloc: Global,
+        config: &Config,
+        journals: &'a [Closed],
+    ) -> Result<Self, NoMemory>
+        ensures { IfOk result (Weaves config.now journals.now) }
+    {
+        let cursors = cursors_of(alloc, config, journals)?;
+        let room = count_all(journals);
+        let operations = Filed::new(alloc, room)?;
+        let messages = Filed::new(alloc, room)?;
+        Ok(Merge {
+            cursors,
+            events: Vec::new(alloc),
+            operations,
+            messages,
+        })
+    }
+
+    /// The event of the world that places the next record of a journal, if it can be placed.
+    fn ready(&self, journals: &[Closed], i: usize) -> Option<What>
+        requires fits { HaveCursors journals.now self.now.cursors.items }
+        requires within { i < length journals.now }
+        ensures { MatchOption result (IsStill journals.now self.now i)
+            (CanBePlaced journals.now self.now i) }
+    {
+        let cursor = &self.cursors[i];
+        let records = journals[i].records();
+        if cursor.placed < cursor.good {
+            name_event(
+                &self.operations,
+                &self.messages,
+                &records[cursor.placed].event,
+            )
+        } else {
+            None
+        }
+    }
+
+    /// A journal between two places whose next record can be placed, with the event of the world that places it.
+    fn find_between(&self, journals: &[Closed], low: usize, high: usize) -> Option<(usize, What)>
+        requires fits { HaveCursors journals.now self.now.cursors.items }
+        requires within { high ≤ length journals.now }
+        ensures { MatchOption result (StillBetween journals.now self.now low high)
+            (λ found. (found.0 < length journals.now)
+            × CanBePlaced journals.now self.now found.0 found.1) }
+    {
+        for i in low..high {
+            match self.ready(journals, i) {
+                Some(what) => return Some((i, what)),
+                None => {}
+            }
+        }
+        None
+    }
+
+    /// A journal whose next record can be placed, with the event of the world that places it. It is sought from this
+    /// one on, and then from the first one on.
+    fn find(&self, journals: &[Closed], from: usize) -> Option<(usize, What)>
+        requires fits { HaveCursors journals.now self.now.cursors.items }
+        requires within { from ≤ length journals.now }
+        ensures { MatchOption result (AllStill journals.now self.now)
+            (λ found. (found.0 < length journals.now)
+            × CanBePlaced journals.now self.now found.0 found.1) }
+    {
+        match self.find_between(journals, from, journals.len()) {
+            Some(found) => Some(found),
+            None => self.find_between(journals, 0, from),
+        }
+    }
+
+    /// Places the next record of a journal.
+    fn place(&mut self, journals: &'a [Closed], i: usize, what: What) -> Result<(), NoMemory>
+        requires fits { HaveCursors journals.now self.old.cursors.items }
+        requires within { i < length journals.now }
+        requires ready { CanBePlaced journals.now self.old i what }
+        ensures { OnOk result (Places journals.now self.old i what self.new) }
+    {
+        let journal = &journals[i];
+        let records = journal.records();
+        let placed = self.cursors[i].placed;
+        let record = &records[placed];
+        self.events.push(WorldEvent {
+            node: journal.node(),
+            what,
+        })?;
+        note(&mut self.operations, &mut self.messages, &record.answer)?;
+        self.cursors[i].placed = placed + 1;
+        Ok(())
+    }
+
+    /// Places all that can be placed. A journal is gone on with while its next record can be placed.
+    pub(crate) fn weave(&mut self, config: &Config, journals: &'a [Closed]) -> Result<(), NoMemory>
+        requires fit { AllFit journals.now }
+        requires weaves { Weaves config.now journals.now self.old }
+        ensures weaves { OnOk result (Weaves config.now journals.now self.new) }
+        ensures still { OnOk result (AllStill journals.now self.new) }
+    {
+        let mut from = 0;
+        while let Some((i, what)) = self.find(journals, from) {
+            self.place(journals, i, what)?;
+            from = i;
+        }
+        Ok(())
+    }
+
+    /// The least-named journal that isn't placed whole.
+    fn least_left(&self, journals: &[Closed]) -> Option<usize>
+        requires { length self.now.cursors.items ≡ length journals.now }
+        ensures { MatchOption result (AllWhole journals.now self.now.cursors.items)
+            (λ i. (j : JournalValue) × IsFirst journals.now (IsLeft self.now.cursors.items) i j) }
+    {
+        let mut least: Option<usize> = None;
+        for i in 0..journals.len() {
+            if self.cursors[i].placed < journals[i].records().len() {
+                least = Some(lesser(journals, least, i));
+            }
+        }
+        least
+    }
+
+    /// The node of the least-named journal that isn't placed whole, and the place of its first record that isn't.
+    pub(crate) fn first_left(&self, journals: &[Closed]) -> Option<(NodeId, u64)>
+        requires { HaveCursors journals.now self.now.cursors.items }
+        ensures { MatchOption result (AllWhole journals.now self.now.cursors.items)
+            (λ found. IsLeftAt journals.now self.now.cursors.items found.0 found.1) }
+    {
+        match self.least_left(journals) {
+            None => None,
+            Some(i) => {
+                let journal = &journals[i];
+                let records = journal.records();
+                let placed = self.cursors[i].placed;
+                if placed < records.len() {
+                    Some((journal.node(), placed as u64 + 1))
+                } else {
+                    None
+                }
+            }
+        }
+    }
+}
