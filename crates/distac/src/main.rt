@@ -7,6 +7,8 @@
 #![tactic(auto)]
 
 use dac_program::run;
+use std::alloc::{AllocError, Global};
+use std::env::Args;
 use std::io;
 use std::io::{ErrorKind, Write};
 use std::process::ExitCode;
@@ -47,6 +49,20 @@ impl<W: Write> Write for Noted<W> {
     }
 }
 
+/// The words of the command line. They fail only if there is no memory for them.
+fn collected(alloc: Global, words: io::Result<Args>) -> anyhow::Result<Vec<String>> {
+    Ok(words?.collect(alloc)?)
+}
+
+/// The same words as texts.
+fn texts_of(alloc: Global, words: &[String]) -> Result<Vec<&str>, AllocError> {
+    let mut texts = Vec::new(alloc);
+    for word in words {
+        texts.push(word.as_str())?;
+    }
+    Ok(texts)
+}
+
 fn main(rt: HostRuntime) -> anyhow::Result<ExitCode> {
     let alloc = rt.alloc();
     let words = match std::env::args(&rt) {
@@ -54,13 +70,16 @@ fn main(rt: HostRuntime) -> anyhow::Result<ExitCode> {
             eprintln!(rt; "{NOT_UTF_8}")?;
             return Ok(ExitCode::from(2));
         }
-        words => words?,
+        words => collected(alloc, words),
     };
-    let words: Vec<String> = words.collect(alloc)?;
-    let mut texts = Vec::new(alloc);
-    for word in &words {
-        texts.push(word.as_str())?;
-    }
+    let Ok(words) = words else {
+        println!(rt; "out of memory").ok();
+        return Ok(ExitCode::from(1));
+    };
+    let Ok(texts) = texts_of(alloc, &words) else {
+        println!(rt; "out of memory").ok();
+        return Ok(ExitCode::from(1));
+    };
     let mut output = Noted {
         writer: rt.stdout(),
         why: None,
