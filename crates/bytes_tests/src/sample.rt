@@ -8,12 +8,11 @@ use std::alloc::Global;
 pub const EXAMPLE: &[u8] =
     b"[{kernel,\n [{distributed, [{myapp, 5000, [cp1@cave, {cp2@cave, cp3@cave}]}]},\n {sync_nodes_mandatory, [cp2@cave, cp3@cave]},\n {sync_nodes_timeout, 5000}\n ]\n }\n].";
 
-/// A configuration, if it is accepted.
+/// A configuration, or `None` if it's refused.
 pub fn config(alloc: Global, text: &[u8]) -> Option<Config> {
     read_config(alloc, text).ok()
 }
 
-/// An incarnation of a node.
 pub fn origin(node: u8, inc: u64) -> Origin {
     Origin {
         node: NodeId(node),
@@ -21,7 +20,6 @@ pub fn origin(node: u8, inc: u64) -> Origin {
     }
 }
 
-/// A dot of an incarnation of a node.
 pub fn dot(node: u8, inc: u64, n: u64) -> Dot {
     Dot {
         origin: origin(node, inc),
