@@ -241,8 +241,7 @@ fn contexts_from_bytes(rt: HostRuntime) {
 /// The number of a node's incarnations, and of gaps in each, so that counts need two bytes.
 const WIDE: &[(u16, u16)] = &[(1, 300), (300, 1)];
 
-/// A context of so many incarnations of node 1, each with counters 1 and 2 and a cloud of so many counters with gaps
-/// between them.
+/// A context of `incarnations` incarnations of node 1, each with counters 1 and 2 and a cloud with `gaps` gaps.
 fn wide(alloc: Global, incarnations: u16, gaps: u16) -> Result<Context, NoMemory> {
     let mut further = Vec::new(alloc);
     for gap in 0..gaps {

@@ -13,6 +13,7 @@ pub fn config(alloc: Global, text: &[u8]) -> Option<Config> {
     read_config(alloc, text).ok()
 }
 
+/// An incarnation of a node.
 pub fn origin(node: u8, inc: u64) -> Origin {
     Origin {
         node: NodeId(node),
@@ -20,6 +21,7 @@ pub fn origin(node: u8, inc: u64) -> Origin {
     }
 }
 
+/// A dot of a node's incarnation.
 pub fn dot(node: u8, inc: u64, n: u64) -> Dot {
     Dot {
         origin: origin(node, inc),

@@ -146,7 +146,7 @@ fn come_up(events: &mut Vec<WorldEvent>, node: NodeId, apps: u16) -> Option<()> 
     Some(())
 }
 
-/// The events that boot two nodes and run so many rounds, in which both tick before they receive each other's claims.
+/// Events that boot two nodes and run `rounds` rounds, in which both tick before they receive each other's claims.
 fn rounds_of(alloc: Global, apps: u16, rounds: u8) -> Option<Vec<WorldEvent>> {
     let mut events = Vec::new(alloc);
     come_up(&mut events, C1, apps)?;
@@ -170,7 +170,7 @@ fn count_unsettled(config: &Config, node: &Node) -> Option<usize> {
     )
 }
 
-/// The number of unsettled applications at each of two nodes after so many rounds.
+/// The number of unsettled applications at each of two nodes after `rounds` rounds.
 fn left_after(alloc: Global, config: &Config, rounds: u8) -> Option<(usize, usize)> {
     let events = rounds_of(alloc, config.apps(), rounds)?;
     let (world, answers) = World::run(alloc, config, &events).ok()?;

@@ -8,7 +8,7 @@ use dac_origins::Origin;
 use dac_wire::{Packet, decode, encode};
 use std::alloc::Global;
 
-/// A message of the first node to the second without a state, which acknowledges so many deltas.
+/// A message of the first node to the second without a state, which acknowledges `number` deltas.
 fn acknowledgement(number: u64) -> Message {
     Message {
         from: dot(0, 1, 1).origin,
@@ -20,7 +20,7 @@ fn acknowledgement(number: u64) -> Message {
     }
 }
 
-/// The second node with two deltas, its own boot and the first node's, after the first acknowledged so many.
+/// The second node with two deltas, its own boot and the first node's, after the first acknowledged `number`.
 fn node_after_ack(alloc: Global, config: &Config, number: u64) -> Option<Node> {
     let mut node = boot_second(alloc, config)?;
     let _up = step(config, &mut node, Event::Hear(message(alloc)?)).ok()?;
@@ -79,7 +79,7 @@ fn an_acknowledgement_of_more_deltas_than_there_are_is_passed_over(rt: HostRunti
     assert!(rt; ships_whole(rt.alloc(), 3, 3) == Some(true));
 }
 
-/// The second node's acknowledgement after a message of the first with so many deltas.
+/// The second node's acknowledgement after a message of the first with `up_to` deltas.
 fn acknowledges(alloc: Global, up_to: u64) -> Option<Option<u64>> {
     let config = read_config(alloc, ONE).ok()?;
     let mut node = boot_second(alloc, &config)?;

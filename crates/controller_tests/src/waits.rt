@@ -146,7 +146,7 @@ const GATES: &[(&[u8], &[Step], u32, Opening)] = &[
     (FOREVER, FIRST, u32::MAX, Opening::Shut),
 ];
 
-/// The state of the start gate so many milliseconds after a boot at 1000.
+/// The state of the start gate `elapsed` milliseconds after a boot at 1000.
 fn opening(alloc: Global, text: &[u8], steps: &[Step], elapsed: u32) -> Option<Opening> {
     let config = read_config(alloc, text).ok()?;
     let state = state_after(alloc, steps, &[])?;

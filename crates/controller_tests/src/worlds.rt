@@ -188,7 +188,7 @@ fn are_answered(cases: &[Case], answers: &[Result<Reply, WorldFault>]) -> bool {
     answers.len() == cases.len()
 }
 
-/// True if a run has the cases' results, and so many operations and messages.
+/// True if a run has the cases' results, and leaves these numbers of operations and messages.
 fn runs(
     alloc: Global,
     config: &Config,

@@ -1,4 +1,4 @@
--- How `distac live` and `distac record` end, given what was read, run and printed.
+-- The endings of `distac live` and `distac record`, from the input, the run and the output.
 use Rattle.std.proofs.Common.{◌≡◌, ℕ, List, Option, Some, None, sym, subst}
 use Rattle.std.specs.Prelude.{IfSome}
 use Rattle.std.specs.Io.KnownBytes.{Appends}

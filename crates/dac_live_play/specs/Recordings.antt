@@ -120,7 +120,7 @@ record_text table strange printed events =
 abbrev pub run_lines : Table → List WorldEvent → List ScriptLine
 run_lines table events = map says.Event events ++ map says.Page (nodes_of table)
 
--- text expresses the run, with some name for what isn't configured
+-- text expresses the run, with some name for unconfigured nodes and applications
 pub record IsRecordText (table : Table) (printed : List ℕ) (events : List WorldEvent) (text : List ℕ) : Type 0 where
   pub strange : List ℕ
   pub text_is : text ≡ record_text table strange printed events

@@ -20,8 +20,8 @@ IsRefusal failure ending.Done old new = ⊥
 IsRefusal failure (ending.Refused why) old new = (why ≡ failure) × Appends old new (failure_text failure)
 IsRefusal failure ending.Stopped old new = Unit {0}
 
--- A command succeeded, as `Well` says, or was refused for a failure of its input, as `Fails` says, whose line was
--- printed. After `Stopped`, by a failed allocation or write, nothing is guaranteed.
+-- A command succeeded (`Well`), or was refused for a failure of its input (`Fails`) whose line was printed. After
+-- `Stopped`, by a failed allocation or write, nothing is guaranteed.
 abbrev pub Ends : (Option (List ℕ) → Option (List ℕ) → Type 0) → (Failure → Type 0) → Ending → Option (List ℕ)
     → Option (List ℕ) → Type 0
 Ends Well Fails ending.Done old new = Well old new

@@ -70,7 +70,7 @@ pub record IsRunOf (t : Table) (lines : List ScriptLine) (v : WorldValue) : Type
   pub converges : Converges t (events_in t lines) (answers_in t lines) v
   pub enough : IsEnough (answers_in t lines)
 
--- no event is refused because dots are used up
+-- no event is refused as `DotsUsedUp`
 abbrev pub HaveNumbers : List (Result Reply WorldFault) → Type 0
 HaveNumbers answers =
     AllByRecursion (λ (answer : Result Reply WorldFault). ¬ (answer ≡ Err (Refused DotsUsedUp))) answers

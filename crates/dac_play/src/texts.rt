@@ -190,7 +190,7 @@ fn write_digits(line: &mut [u8], bytes: &[u8])
         let place = 2 * bytes[at] as usize;
         let high = DIGITS[place];
         let low = DIGITS[place + 1];
-        // (The later index first, so that one bounds check covers both.)
+        // (The later index first, so that one bound covers both.)
         line[2 * at + 1] = low;
         line[2 * at] = high;
     }

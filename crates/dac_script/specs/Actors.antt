@@ -3,7 +3,7 @@ use Rattle.std.specs.Prelude.{ℕ, ◌<◌}
 use Rattle.dac_script.specs.declared.line.ScriptLine.{ScriptLine}
 use Rattle.dac_script.specs.declared.line.ScriptLine.TheVariants as says
 
--- every node that must be configured is below this number
+-- the nodes at which the line acts are below this number, which means that they are configured
 abbrev pub HasActors : ℕ → ScriptLine → Type 0
 HasActors nodes (says.Event event) = event.node.0 < nodes
 HasActors nodes says.Share = Unit {0}

@@ -32,7 +32,7 @@ with_caller (Some caller) (Err kind) = Err kind
 with_caller None (Ok both) = Err BadNumber
 with_caller None (Err kind) = Err (least_of BadNumber kind)
 
--- every node is below this number, and every caller is 1 to 4
+-- the caller's node is below this number, and the caller is 1 to 4
 abbrev pub HasActors : ℕ → LiveLine → Type 0
 HasActors nodes (Do node caller asked) = (node.0 < nodes) × (0 < caller) × (caller ≤ 4)
 HasActors nodes (Read node caller) = (node.0 < nodes) × (0 < caller) × (caller ≤ 4)

@@ -26,8 +26,8 @@ IsOpen source = (source.progress ≡ Open) × (source.reads < MAX_READS)
 abbrev pub IsGivenUp : Sourced → Type 0
 IsGivenUp source = (source.progress ≡ Failed) ⊎ ((source.progress ≡ Open) × (source.reads ≡ MAX_READS))
 
--- The reader after a failure. `Read` occurs only if the reader was given up. A too long input isn't read to its end,
--- and its contents are checked only after its end. A failed allocation never hides a failed read.
+-- The reader after a failure. `Read` occurs only if the reader was given up. An input that is too long isn't read to
+-- its end, and its contents are checked only after its end. A failed allocation never hides a failed read.
 abbrev pub IsLeftBy : Failure → Sourced → Type 0
 IsLeftBy (failure.Input TooLong) source = source.progress ≡ Open
 IsLeftBy (failure.Input NoScript) source = source.progress ≡ Ended

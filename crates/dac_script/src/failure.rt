@@ -17,7 +17,7 @@ pub enum Failure {
     Config(ConfigFault),
     /// The script is faulty.
     Script(ScriptFault),
-    /// An allocation failed. The input may be faulty or not.
+    /// An allocation failed, whether the input is faulty or not.
     NoMemory,
 }
 

@@ -1,7 +1,7 @@
 //! Reads the inputs of `distac sim` and `distac live`: a configuration, a line `--`, and a script.
 //!
-//! [`prepare`] and [`prepare_live`] read a whole input, or return its first fault: the least fault of the first faulty
-//! line. Nothing is run or printed here.
+//! [`prepare`] and [`prepare_live`] read a whole input, or return its first fault: of its size, of its configuration,
+//! or the least fault of the first faulty line. Nothing is run or printed here.
 //!
 //! The first word of a line determines the roles of the other words. One reader reads words by their roles, for both
 //! kinds of scripts, and [`laws`] states which lines are accepted. A kind of lines implements [`ReadsLine`], so that

@@ -23,7 +23,7 @@ pub trait ReadsLine: Drop {
     /// The kinds of fault that words have.
     ghost has_fault: { Table → List (List ℕ) → FaultKind → Type 0 };
 
-    /// Every node that the line names is below this number.
+    /// The nodes at which the line acts are below this number.
     ghost has_actors: { ℕ → Self → Type 0 };
 
     /// Parses the words of a line, or returns their least fault.

@@ -93,7 +93,7 @@ fn asked(
     }
 }
 
-/// Combines a caller's number with its request. The less of their faults is returned.
+/// Combines a caller's number with its request. The lesser of their faults is returned.
 fn with_caller(
     caller: Option<u8>,
     said: Result<(NodeId, Option<Request>), ScriptFaultKind>,

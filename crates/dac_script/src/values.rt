@@ -58,7 +58,7 @@ fn node_in(config: &Config, word: &[u8]) -> Result<NodeId, ScriptFaultKind>
     }
 }
 
-/// Parses the name of a node. An unknown one is the number past all nodes, because a request may name any node.
+/// Parses the name of a node. An unknown one is the number past all nodes, because a request can concern any node.
 #[tactic(auto, using(crate::proofs::Told::no_name))]
 fn about_in(config: &Config, word: &[u8]) -> Result<NodeId, ScriptFaultKind>
     ensures { MatchResult result (λ node. Tells config.now (AboutNode node) word.now)

@@ -1,4 +1,4 @@
--- What the run of the woven events guarantees.
+-- Guarantees of the run of the woven events.
 use Rattle.std.specs.Prelude.{ℕ, List, map}
 use Rattle.dac_config.specs.Table.{Table}
 use Rattle.dac_events.specs.declared.WorldEvent.{WorldEvent}

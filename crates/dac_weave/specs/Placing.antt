@@ -34,7 +34,7 @@ pub record Weaves (t : Table) (js : List JournalValue) (l : Merge) : Type 0 wher
   pub operations : l.operations ≡ (run_from t (start t) l.events.items).operations
   pub messages : l.messages ≡ (run_from t (start t) l.events.items).messages
 
--- the world event what places the next record of the i-th journal
+-- the world event `what` can place the next record of the i-th journal
 pub record CanBePlaced (js : List JournalValue) (l : Merge) (i : ℕ) (what : What) : Type 0 where
   pub journal : JournalValue
   pub cursor : Cursor
@@ -65,7 +65,7 @@ StillBetween js l low high = (i : ℕ) → low ≤ i → i < high → IsStill js
 abbrev pub longer : Cursor → Cursor
 longer s = record { placed = s.placed + 1; good = s.good }
 
--- record r of the i-th journal is placed as the world event what
+-- record r of the i-th journal is placed as the world event `what`
 pub record PlacesRecord (old : Merge) (i : ℕ) (what : What) (new : Merge) (j : JournalValue) (s : Cursor)
     (r : Record) : Type 0 where
   pub cursors : new.cursors.items ≡ set old.cursors.items i (longer s)
@@ -73,7 +73,7 @@ pub record PlacesRecord (old : Merge) (i : ℕ) (what : What) (new : Merge) (j :
   pub operations : new.operations ≡ old.operations ++ issued_in r.answer
   pub messages : new.messages ≡ old.messages ++ shipped_in r.answer
 
--- the next record of the i-th journal is placed as the world event what
+-- the next record of the i-th journal is placed as the world event `what`
 pub record Places (js : List JournalValue) (old : Merge) (i : ℕ) (what : What) (new : Merge) : Type 0 where
   pub each : (j : JournalValue) (s : Cursor) (r : Record) → At js i j → At old.cursors.items i s
       → At j.records s.placed r → PlacesRecord old i what new j s r

@@ -27,7 +27,7 @@ abbrev pub node_step_by : Table → NodeId → ModelNode → Result Event WorldF
 node_step_by t n d (Err fault) = record { node = d; answer = Err fault }
 node_step_by t n d (Ok e) = moved d (model_step t n d e).node (model_step t n d e).answer
 
--- the step of a world event at its node alone
+-- the step of a world event at its node, without the rest of the world
 abbrev pub node_step : Table → NodeId → ModelNode → Result Event WorldFault → NodeStepped
 node_step t n d e =
     cond (nat_lt n.0 (node_count t)) (node_step_by t n d e) (record { node = d; answer = Err NoSuchNode })

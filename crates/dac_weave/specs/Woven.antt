@@ -1,4 +1,4 @@
--- What a run of world events contributes at each node, and when it reproduces a list of journals.
+-- A run of world events as each node sees it, and when it reproduces a list of journals.
 use Rattle.std.specs.Prelude.{◌⊎◌, ◌≡◌, ◌≢◌, ℕ, ◌+◌, ◌<◌, ◌≤◌, cond, nat_eq, List, [], ◌∷◌, ◌++◌, length, map as list_map, Some, Result, Ok, Err}
 use Rattle.std.specs.List.{slice_get}
 use Rattle.dac_base.specs.declared.NodeId.{NodeId}
@@ -104,7 +104,8 @@ pub record IsStuckAt (t : Table) (js : List JournalValue) (i : ℕ) (j : Journal
   pub reached : (es : List WorldEvent) × ReachesPlace t js j place es
   pub never : (es : List WorldEvent) → GivesFronts t js es → length (seen_in t es j.beginning.node) < place
 
--- the fault for journals that no run reproduces: the least unfit journal with place 0, or a place where every run is stuck
+-- the fault for journals that no run reproduces: the least unfit journal with place 0, or a place where every run is
+-- stuck
 pub record IsUnwoven (t : Table) (js : List JournalValue) (node : NodeId) (place : ℕ) : Type 0 where
   pub journal : JournalValue
   pub index : ℕ

@@ -1,9 +1,9 @@
 //! Merges the journals of sites into one run of the world.
 //!
 //! A journal records the events of one node. [`weave`] puts the records of all journals into one order, in which each
-//! message follows its ship and each operation its issue, and returns that order as a list of world events. The run of
-//! this list has at each node exactly the records of its journal, so the guarantees of every run hold for the journals.
-//! If no such list exists, a [`WeaveFault`] names the node and the record at which every run stops.
+//! message is delivered after it was shipped, and each operation after it was issued. It returns that order as a list
+//! of world events, whose run has at each node exactly the records of its journal, so the guarantees of every run hold
+//! for the journals. If no such list exists, a [`WeaveFault`] names the node and the record at which every run stops.
 #![tactic(auto)]
 
 pub use fault::WeaveFault;

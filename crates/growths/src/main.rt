@@ -3,7 +3,6 @@
 //! Standard input selects what is tried:
 //!
 //! - `call NAME`, such as `call Config::copy`: one call of the table;
-//!
 //! - `state` and the bytes of a state, which every call must accept.
 //!
 //! Without input all calls are made, and a line for each prints the outcome. `checks/growths` runs this program while

@@ -38,7 +38,7 @@ fn permit_of(alloc: Global, dot: Dot, value: bool) -> Result<Permissions, NoMemo
     delta_of(alloc, dot, &PermitAct::Permit { key, value, over })
 }
 
-/// True if exactly these starts stand, and so many dots are known.
+/// True if exactly these starts stand, and `known` dots are known.
 fn has(wishes: &Wishes, dots: &[Dot], known: u128) -> bool {
     wishes.dots(KEY) == dots
         && wishes.wished(KEY) != dots.is_empty()

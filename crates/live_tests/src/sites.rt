@@ -302,7 +302,7 @@ fn an_owner_sets_no_place_for_a_reader(rt: HostRuntime) -> Result<(), Fail> {
     Ok(())
 }
 
-/// True if a site can have so many readers.
+/// True if a site can have this number of readers.
 fn has_places<R: Wait>(rt: &R, alloc: Global, readers: u16) -> bool {
     match two_seats(rt, alloc, readers) {
         Ok(blank) => {

@@ -219,22 +219,22 @@ fn fault_of_list(
     Ok(fault_of(alloc, &text))
 }
 
-/// The fault of a text with so many applications.
+/// The fault of a text with `count` applications.
 fn fault_of_apps(alloc: Global, count: u8) -> Result<Option<ConfigFault>, AllocError> {
     fault_of_list(alloc, b"", &names(alloc, count, b"{", b",[n]}")?, b"")
 }
 
-/// The fault of a text with so many nodes in a list.
+/// The fault of a text with `count` nodes in a list.
 fn fault_of_nodes(alloc: Global, count: u8) -> Result<Option<ConfigFault>, AllocError> {
     fault_of_list(alloc, b"{a,[", &names(alloc, count, b"", b"")?, b"]}")
 }
 
-/// The fault of a text with a name of so many bytes.
+/// The fault of a text with a name of `length` bytes.
 fn fault_of_name(alloc: Global, length: usize) -> Result<Option<ConfigFault>, AllocError> {
     fault_of_list(alloc, b"{", &vec![in alloc; b'a'; length]?, b",[b]}")
 }
 
-/// The fault of so many spaces.
+/// The fault of `count` spaces.
 fn fault_of_spaces(alloc: Global, count: usize) -> Result<Option<ConfigFault>, AllocError> {
     Ok(fault_of(alloc, &vec![in alloc; b' '; count]?))
 }

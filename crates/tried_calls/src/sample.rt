@@ -128,7 +128,7 @@ pub fn meaning(alloc: Global, node: NodeId, does: Does) -> Option<State> {
     State::delta_of(alloc, &operation(alloc, node, does)?).ok()
 }
 
-/// A message of the other node with this body, which acknowledges so many deltas.
+/// A message of the other node with this body, which acknowledges `acks` deltas.
 pub fn message(body: Body, acks: u64) -> Message {
     let only = match &body {
         Body::Whole(_) => None,

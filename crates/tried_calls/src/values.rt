@@ -322,7 +322,7 @@ fn full_acks(alloc: Global) -> Option<Acks> {
     Some(acks)
 }
 
-/// A log of so many deltas.
+/// A log of `count` deltas.
 fn deltas(alloc: Global, count: u64) -> Option<Buffer<Delta>> {
     let mut buffer = Buffer::new(alloc);
     for number in 0..count {
@@ -331,8 +331,8 @@ fn deltas(alloc: Global, count: u64) -> Option<Buffer<Delta>> {
     Some(buffer)
 }
 
-/// The log of a call, with its blocks joined unless the call is to join them. A push meets a full capacity. Of several
-/// pushes, only the second does.
+/// The log of a call, with its blocks joined unless the call itself joins them. A push meets a full capacity. Of
+/// several pushes, only the second does.
 fn deltas_for(alloc: Global, asked: OfBuffer) -> Option<Buffer<Delta>> {
     let count: u64 = if asked == OfBuffer::Push { 32 } else { 31 };
     let mut buffer = deltas(alloc, count)?;

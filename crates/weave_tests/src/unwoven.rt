@@ -34,7 +34,7 @@ fn strange_message() -> Message {
     }
 }
 
-/// The fault if a node hears a message that no node shipped.
+/// The fault if a node receives a message that no node shipped.
 fn by_hand(alloc: Global) -> Option<WeaveFault> {
     let p = journal(alloc, 0, 0)?;
     let mut q = journal(alloc, 1, 0)?;
@@ -44,7 +44,7 @@ fn by_hand(alloc: Global) -> Option<WeaveFault> {
     fault_of(alloc, journals.as_slice())
 }
 
-/// The fault of empty journals of these nodes after so many incarnations.
+/// The fault of empty journals of these nodes after these incarnations.
 fn of_empty(alloc: Global, nodes: &[(u8, u64)]) -> Option<WeaveFault> {
     let mut journals = Vec::new(alloc);
     for (node, last) in nodes {

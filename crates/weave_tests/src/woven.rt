@@ -98,8 +98,8 @@ fn count_three(alloc: Global) -> Option<(usize, usize)> {
     Some((records, events.len()))
 }
 
-/// The events of two nodes, the receiver's journal first. It hears the other's message, and the operation of its boot
-/// by hand.
+/// The events of two nodes, the receiver's journal first. It receives the other's message, and the operation of its
+/// boot on its own.
 fn two_nodes(alloc: Global) -> Option<Vec<WorldEvent>> {
     let config = example(alloc)?;
     let mut p = journal(alloc, 0, 0)?;
