@@ -30,7 +30,7 @@ fn trim_to(alloc: Global, to: u64) -> Result<Buffer<Max<u64>>, NoMemory> {
     buffer.copy()
 }
 
-/// The join, that is the maximum, of the deltas after `from`.
+/// The join of all but the first `from` deltas, which is their maximum.
 fn greatest(buffer: &Buffer<Max<u64>>, from: u64) -> Result<Option<u64>, NoMemory> {
     buffer.tells_invariant();
     if from > buffer.count() {
@@ -42,7 +42,7 @@ fn greatest(buffer: &Buffer<Max<u64>>, from: u64) -> Result<Option<u64>, NoMemor
     }
 }
 
-/// True if the trimmed log begins at `base` and has this maximum after `from`.
+/// True if the trimmed log begins at `base` and has this maximum after the first `from` deltas.
 fn is_trimmed(
     alloc: Global,
     to: u64,
@@ -88,7 +88,8 @@ fn with_three(alloc: Global) -> Result<Buffer<Max<u64>>, NoMemory> {
     Ok(buffer)
 }
 
-/// True if the three are counted, the first two numbers are dropped, and the maximum after `from` is `wanted`.
+/// True if the three are counted, the first two numbers are dropped, and the maximum after the first `from` is
+/// `wanted`.
 fn has_three(alloc: Global, from: u64, wanted: u64) -> Result<bool, NoMemory> {
     let buffer = with_three(alloc)?;
     Ok(buffer.base() == 2 && buffer.count() == 258 && greatest(&buffer, from)? == Some(wanted))
@@ -100,8 +101,8 @@ fn several_are_pushed(rt: HostRuntime) {
     assert!(rt; has_three(rt.alloc(), 257, 8) == Ok(true));
 }
 
-/// The maximum of the numbers 1 to 9 after `asked`, while the interval after `from` is remembered, and then with 100
-/// appended.
+/// The maximum of the numbers 1 to 9 after the first `asked`, while the interval after the first `from` is remembered,
+/// and then with 100 appended.
 fn interval_beside(
     alloc: Global,
     from: u64,
@@ -141,7 +142,7 @@ fn with_tokens(mut buffer: Buffer<Token>, count: u64) -> Result<Buffer<Token>, N
     Ok(buffer)
 }
 
-/// The number of joins that the interval after `from` takes.
+/// The number of joins that the interval after the first `from` deltas takes.
 fn joins(buffer: &Buffer<Token>, from: u64) -> Result<Option<u64>, NoMemory> {
     buffer.tells_invariant();
     if from > buffer.count() {
@@ -163,7 +164,7 @@ fn joins_and_next(
     Ok((before, joins(&buffer, from)?))
 }
 
-/// Nine tokens in a lazy log that remembers its interval after 3.
+/// Nine tokens in a lazy log that remembers its interval after the first 3.
 fn remembering(alloc: Global) -> Result<Buffer<Token>, NoMemory> {
     let mut buffer = with_tokens(Buffer::lazy(alloc), 9)?;
     if 3 <= buffer.count() {
@@ -174,7 +175,7 @@ fn remembering(alloc: Global) -> Result<Buffer<Token>, NoMemory> {
     Ok(buffer)
 }
 
-/// The number of joins of an interval while that after 3 is remembered, and after one more delta.
+/// The number of joins of an interval while that after the first 3 is remembered, and after one more delta.
 fn beside_remembered(alloc: Global, from: u64) -> Result<(Option<u64>, Option<u64>), NoMemory> {
     joins_and_next(remembering(alloc)?, from)
 }
@@ -239,8 +240,8 @@ fn pushes_make_joins_once_a_lazy_buffer_is_warm(rt: HostRuntime) {
     }
 }
 
-/// The maximum after `from` of eleven numbers in a trimmed lazy log. The log is warmed after the ninth, or only after
-/// the last and the trim.
+/// The maximum of all but the first `from` of eleven numbers in a lazy log that is trimmed. The log is warmed after the
+/// ninth, or only after the trim.
 fn greatest_warmed(alloc: Global, to: u64, from: u64, late: bool) -> Result<Option<u64>, NoMemory> {
     let mut buffer = Buffer::lazy(alloc);
     for number in [5u64, 9, 2, 7, 1, 8, 3, 6, 4] {
@@ -276,7 +277,7 @@ fn joins_of_blocks_stay_as_deltas_come_and_go(rt: HostRuntime) {
     }
 }
 
-/// The blocks that make up the interval after `from`.
+/// The blocks that make up the interval after the first `from` deltas.
 fn blocks(buffer: &Buffer<Max<u64>>, from: u64) -> Result<Option<Vec<(u64, u64)>>, NoMemory> {
     if from > buffer.count() {
         return Ok(None);
@@ -291,7 +292,7 @@ fn are_blocks(alloc: Global, from: u64, wanted: Option<&[(u64, u64)]>) -> Result
     Ok(buffer.base() == 44 && found.as_deref() == wanted)
 }
 
-/// The blocks after the oldest delta in the log.
+/// The blocks of the whole log.
 const FROM_THE_OLDEST: &[(u64, u64)] = &[
     (44, 48),
     (48, 64),
