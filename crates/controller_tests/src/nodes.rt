@@ -336,7 +336,7 @@ fn next(alloc: Global, config: &Config, last: u64) -> Result<Option<u64>, Refusa
     }
 }
 
-/// True if incarnations increase by one, and end.
+/// True if incarnations increase by one, and end at 2^62.
 fn go_on_and_end(alloc: Global) -> Option<bool> {
     let config = read_config(alloc, ONE).ok()?;
     let ended = next(alloc, &config, 1 << 62) == Err(Refusal::IncarnationsUsedUp);

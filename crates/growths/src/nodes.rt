@@ -9,7 +9,7 @@ use std::alloc::Global;
 use tried_calls::sample::{APP, Does, ME, OTHER, config, meaning, message, operation, origin};
 use tried_calls::trial::{Bench, Said};
 
-/// A third node, with a small part.
+/// A third node, which exchanges few messages.
 pub const THIRD: NodeId = NodeId(2);
 
 /// An event at the node.

@@ -126,7 +126,7 @@ pub fn site_call<R: Print + Wait>(rt: &R, alloc: Global, happens: Happens) -> Ca
     }
 }
 
-/// The opening of a site, with or without its second half.
+/// The opening of a site, or only its first half, `blank_site`.
 #[derive(Drop)]
 pub struct OpenBench<'a, R: Wait> {
     rt: &'a R,
@@ -166,7 +166,7 @@ impl<R: Wait> Bench for OpenBench<'_, R> {
                 blank.give_up(self.rt);
                 Said::Well(0)
             }
-            // The page structure refuses a reader only if an allocation fails.
+            // The page structure's refusal of a reader counts as a failed allocation, too.
             Err(OpenFault::NoReader) | Err(OpenFault::NoMemory) => Said::NoMemory,
         }
     }
