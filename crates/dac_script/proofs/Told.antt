@@ -243,7 +243,7 @@ module _ (table : Table) where
   abbrev pub WordsRead : Values → List Role → List (List ℕ) → Option ScriptFaultKind → Type 0
   WordsRead values roles words fault = MatchOption fault (AllTell table (map (slot_of values) roles) words) (IsLeast (IsAnyWrong table roles words))
 
-  -- parsing later words doesn't affect an earlier word's role
+  -- the result of parsing a word depends only on the field of its role
   pub word_kept : (values later : Values) (r : Role) (word : List ℕ) (fault : Option ScriptFaultKind) → slot_of later r ≡ slot_of values r → WordRead values r word fault → WordRead later r word fault
   word_kept values later r word None kept read = subst (λ slot. Tells table slot word) (sym kept) read
   word_kept values later r word (Some kind) kept read = read

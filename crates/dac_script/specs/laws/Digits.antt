@@ -13,7 +13,7 @@ use Rattle.hex.proofs.HexLemmas.{decode_of-digits, decode_of-encode_lower, decod
 use Rattle.dac_script.specs.Words.{is_small_digit, bytes_in}
 use Rattle.dac_script.specs.LineFaults.{IsNoHex}
 
--- a lower-case digit is a digit
+-- a lower-case hexadecimal digit is a hexadecimal digit
 is_digit : (digit : ℕ) → is_small_digit digit ≡ true → is_hex_digit digit ≡ true
 is_digit digit small = grind (arith)
 

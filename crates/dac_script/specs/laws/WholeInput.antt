@@ -56,7 +56,7 @@ module _ {Line : Type 0} (Spells : Table → Line → List (List ℕ) → Type 0
   parts_fail text (failure.Script fault) taken fails = (taken, fails)
   parts_fail text failure.NoMemory taken fails = tt
 
-  -- a failure of the parts comes after the end of the source
+  -- a source that was read to its end is left as a failure of the parts requires
   pub left_by_parts : (text : List ℕ) (source : Sourced) (why : Failure) → source.progress ≡ Ended → IsPartsFailure Spells HasFault text why → IsLeftBy why source
   left_by_parts text source (failure.Input TooLong) ended fails = absurd fails
   left_by_parts text source (failure.Input NoScript) ended fails = ended
