@@ -1,4 +1,4 @@
-//! A run of the world as a script of `distac sim`.
+//! Expresses a run of the world as a script of `distac sim`.
 
 ghost use Rattle.std.specs.Prelude.{◌≡◌, ◌++◌, ◌==◌, map, IfOk, IfErr, OnOk};
 ghost use Rattle.std.specs.List.{flat_map};
@@ -16,7 +16,8 @@ use dac_events::{Command, What, WorldEvent};
 use dac_script::MAX_INPUT;
 use std::alloc::Global;
 
-/// A name that neither a node nor an application has, unless more have such names than there may be of both.
+/// A name for unconfigured nodes and applications, which the configuration doesn't use. The tries suffice, because a
+/// configuration has fewer names.
 fn strange_name(alloc: Global, config: &Config) -> Result<Vec<u8>, NoMemory> {
     let mut name = Vec::from_slice(alloc, b"unknown")?;
     for _time in 0..MOST_TRIES {
@@ -28,10 +29,10 @@ fn strange_name(alloc: Global, config: &Config) -> Result<Vec<u8>, NoMemory> {
     Ok(name)
 }
 
-/// More names than a configuration has.
+/// More tries than a configuration has names.
 const MOST_TRIES: u32 = 200;
 
-/// Puts behind a text the word for a node. One that the configuration hasn't is called by the strange name.
+/// Appends a node's name, or `strange` if it isn't configured.
 fn put_node_word(
     text: &mut Vec<u8>,
     config: &Config,
@@ -48,7 +49,7 @@ fn put_node_word(
     Ok(())
 }
 
-/// The same of an application.
+/// Appends an application's name, or `strange` if it isn't configured.
 fn put_app_word(
     text: &mut Vec<u8>,
     config: &Config,
@@ -65,7 +66,7 @@ fn put_app_word(
     Ok(())
 }
 
-/// Puts a verb behind a text, and the node where it happens.
+/// Appends a verb and the acting node.
 fn put_at(
     text: &mut Vec<u8>,
     config: &Config,
@@ -81,7 +82,7 @@ fn put_at(
     put_node_word(text, config, strange, node)
 }
 
-/// And the node that it is about.
+/// Appends a verb, the acting node, and the node concerned.
 fn put_about(
     text: &mut Vec<u8>,
     config: &Config,
@@ -98,7 +99,7 @@ fn put_about(
     put_node_word(text, config, strange, about)
 }
 
-/// A verb, the node where it happens, and a number.
+/// Appends a verb, the acting node, and a number.
 fn put_numbered(
     alloc: Global,
     text: &mut Vec<u8>,
@@ -117,7 +118,7 @@ fn put_numbered(
     Ok(())
 }
 
-/// A verb, the node where it happens, the application, and the node that it is about.
+/// Appends a verb, the acting node, and the application and node concerned.
 fn put_app_about(
     text: &mut Vec<u8>,
     config: &Config,
@@ -137,14 +138,14 @@ fn put_app_about(
     put_node_word(text, config, strange, about)
 }
 
-/// What stands behind a line that says yes or no.
+/// The last word of a line with a flag.
 fn flag_text(value: bool) -> &'static str
     ensures { result.now ≡ flag_text value }
 {
     if value { " true" } else { " false" }
 }
 
-/// Puts behind a text the line for a command, without the line feed.
+/// Appends a command, without the line feed.
 fn put_given(
     text: &mut Vec<u8>,
     config: &Config,
@@ -185,7 +186,7 @@ fn put_given(
     }
 }
 
-/// Puts behind a text the line for an event, without the line feed.
+/// Appends an event, without the line feed.
 fn put_line(
     alloc: Global,
     text: &mut Vec<u8>,
@@ -212,7 +213,7 @@ fn put_line(
     }
 }
 
-/// Puts behind a text the lines for these events.
+/// Appends the lines of all events.
 fn put_events(
     alloc: Global,
     text: &mut Vec<u8>,
@@ -230,7 +231,7 @@ fn put_events(
     Ok(())
 }
 
-/// And a line for the page of each node.
+/// Appends a `page` line for each node.
 fn put_page_lines(text: &mut Vec<u8>, config: &Config, strange: &[u8]) -> Result<(), NoMemory>
     ensures { OnOk result
         (text.new.items ≡ text.old.items ++ page_lines config.now strange.now) }
@@ -242,14 +243,13 @@ fn put_page_lines(text: &mut Vec<u8>, config: &Config, strange: &[u8]) -> Result
     Ok(())
 }
 
-/// Whether the byte ends a line.
 fn is_feed(byte: &u8) -> bool
     ensures { result ≡ (byte.now == 10) }
 {
     *byte == b'\n'
 }
 
-/// The lines of a text.
+/// The lines of a text, without their line feeds.
 fn lines_of(alloc: Global, text: &[u8]) -> Result<Vec<&[u8]>, NoMemory>
     ensures { IfOk result (λ lines. map (λ line. line.now) lines.items ≡ lines_of text.now) }
 {
@@ -257,7 +257,7 @@ fn lines_of(alloc: Global, text: &[u8]) -> Result<Vec<&[u8]>, NoMemory>
     Ok(lines)
 }
 
-/// Puts behind a text a line as a comment. An empty one is left out.
+/// Appends a line as a comment, unless it's empty.
 fn put_remark(text: &mut Vec<u8>, line: &[u8]) -> Result<(), NoMemory>
     ensures { OnOk result (text.new.items ≡ text.old.items ++ remark line.now) }
 {
@@ -272,7 +272,7 @@ fn put_remark(text: &mut Vec<u8>, line: &[u8]) -> Result<(), NoMemory>
     }
 }
 
-/// Puts behind a text these lines as comments.
+/// Appends lines as comments.
 fn put_remarks(text: &mut Vec<u8>, lines: &[&[u8]]) -> Result<(), NoMemory>
     ensures { OnOk result (text.new.items
         ≡ text.old.items ++ flat_map remark (map (λ line. line.now) lines.now)) }
@@ -283,7 +283,7 @@ fn put_remarks(text: &mut Vec<u8>, lines: &[&[u8]]) -> Result<(), NoMemory>
     Ok(())
 }
 
-/// The script behind the canonical text of the configuration.
+/// The whole input, unchecked: the canonical configuration, the divider, and the script.
 fn spelled(
     alloc: Global,
     config: &Config,
@@ -304,11 +304,11 @@ fn spelled(
     Ok(text)
 }
 
-/// A run as an input of `distac sim`: the configuration, what was printed of the run as comments, its events, and the page of each
-/// node. What it gives is read again first, and says just that.
+/// Expresses a run as an input of `distac sim`: the configuration, the printed output as comments, the events, and each
+/// node's page. The text is parsed again, so that it's known to express exactly that.
 ///
-/// [`PlayFault::TooLong`] comes where the input has more bytes than one may have, and [`PlayFault::Unspelled`] where it doesn't say
-/// the run: no line of a script has a name with a space.
+/// Fails with [`PlayFault::TooLong`] if the text exceeds the size of an input, and with [`PlayFault::Unspelled`] if it
+/// doesn't parse as the run, because a script line can't contain a name with a space.
 pub fn record_lines(
     alloc: Global,
     config: &Config,

@@ -25,7 +25,7 @@ inside : (t : Table) (n : NodeId) (d : ModelNode) (r : Record) → worldly r.ans
 inside t n d r is = true_from_ne_false (nat_lt n.0 (node_count t)) (λ out.
     worldly-there r.answer (is ∙ ap (λ b. (cond b (node_step_by t n d (Ok r.event)) (record { node = d; answer = Err NoSuchNode })).answer) out))
 
--- records with the step's answers are a history
+-- records with the step's results are a history
 history-of : (t : Table) (n : NodeId) (d : ModelNode) (rs : List Record) → AreAnswered t n d (map as_seen rs) → IsHistory t n d (map entry_of rs) (replayed t n d (map as_seen rs))
 history-of t n d [] h = refl
 history-of t n d (r ∷ rs) h =

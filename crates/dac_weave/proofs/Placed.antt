@@ -1,4 +1,4 @@
--- What the merge keeps.
+-- The merge keeps its invariant.
 use Rattle.std.proofs.Common.{◌≡◌, ◌≢◌, ℕ, zero, suc, ◌+◌, ◌-◌, ◌<◌, ◌≤◌, cond, inl, inr, ◌⊎◌, List, [], ◌∷◌, ◌++◌, Option, Some, None, Result, Ok, Err, length, take, drop, get_or, nat_eq, refl, sym, ap, subst, ◌∙◌, append-nil, arith, below_more}
 use Rattle.std.specs.Prelude.{MatchOption}
 use Rattle.std.specs.List.{slice_get, AllZip}
@@ -99,7 +99,7 @@ pub fits-weaves : (t : Table) (js : List JournalValue) (l : Merge) → Weaves t 
 fits-weaves t js l w = record { count = w.count; within = λ i j s at sat. (w.cursors i j s at sat).longest.within }
 
 -- ---- placing one
--- an answer of a history is the step's after what comes before it
+-- a result within the replayed prefix is the step's after the records before it
 history-at : (t : Table) (n : NodeId) (d : ModelNode) (xs : List Seen) (g k : ℕ) (x : Seen) → AreAnswered t n d (take g xs) → k < g → At xs k x → x.answer ≡ (node_step t n (replayed t n d (take k xs)) x.event).answer
 history-at t n d [] g k x h lt at = cc
 history-at t n d (y ∷ xs) zero k x h lt at = absurd (omega arith)
@@ -163,7 +163,7 @@ module _ (t : Table) (js : List JournalValue) (old : Merge) (i : ℕ) (what : Wh
     abbrev does : PlacesRecord old i what new ready.journal ready.cursor ready.next
     does = placed.each ready.journal ready.cursor ready.next ready.at ready.cursor_at ready.next_at
 
-    -- another journal is another node's
+    -- another journal belongs to another node
     apart : (k : ℕ) (b : JournalValue) → At js k b → k ≢ i → ready.journal.beginning.node ≢ b.beginning.node
     apart k b at ne same = fit k b at (inr (i, (ready.journal, (ready.at, ((λ e. ne (sym e)), same)))))
 
@@ -210,7 +210,7 @@ pub still-found : (js : List JournalValue) (l : Merge) (from high : ℕ) → hig
 still-found js l from high long above Q None h = still-all js l from high long above h
 still-found js l from high long above Q (Some x) h = h
 
--- ---- the cursors, one after another
+-- ---- the list of cursors
 both_push : {A B : Type 0} (R : A → B → Type 0) (xs : List A) (ys : List B) (x : A) (y : B) → AllZip R xs ys → R x y → AllZip R (xs ++ x ∷ []) (ys ++ y ∷ [])
 both_push R [] [] x y h r = (r, tt)
 both_push R [] (v ∷ ys) x y h r = elim h [ ]
@@ -223,7 +223,7 @@ begun_more t js i j ss more s lt read zip begins is =
     (subst (λ (xs : List JournalValue). AllZip (Begins t) xs (ss ++ s ∷ [])) (sym (take_more js i j lt ∙ ap (λ x. take i js ++ x ∷ []) (sym read)))
     (both_push (Begins t) (take i js) ss j s zip begins))
 
--- ---- what is left to place
+-- ---- the number of unplaced records, which decreases
 pub unplaced : List JournalValue → List Cursor → ℕ
 unplaced [] ss = 0
 unplaced (j ∷ js) [] = 0
@@ -253,7 +253,7 @@ unplaced-place t js old i what new w ready placed =
     within : ready.cursor.placed < length ready.journal.records
     within = let a = ready.left in let b = (w.cursors i ready.journal ready.cursor ready.at ready.cursor_at).longest.within in omega arith
 
--- ---- where nothing can be placed
+-- ---- no record can be placed
 at_end : (xs : List Seen) (x : Seen) (rest : List Seen) → slice_get ((xs ++ x ∷ []) ++ rest) (length xs) ≡ Some x
 at_end [] x rest = refl
 at_end (y ∷ xs) x rest = at_end xs x rest
@@ -304,7 +304,7 @@ cursor_there (k ∷ js) (r ∷ ss) (suc i) j e at = cursor_there js ss i j (less
     less e = omega arith
 
 module _ (t : Table) (js : List JournalValue) (l : Merge) (w : Weaves t js l) (fit : AllFit js) where
-  -- a journal of which nothing is left is given whole
+  -- a journal placed whole is reproduced whole
   given_whole : (i : ℕ) (j : JournalValue) → At js i j → (IsLeft l.cursors.items i j → ⊥) → seen_in t l.events.items j.beginning.node ≡ journal_seen j
   given_whole i j at not =
       let s = cursor_there js l.cursors.items i j w.count at in
@@ -348,8 +348,8 @@ module _ (t : Table) (js : List JournalValue) (l : Merge) (w : Weaves t js l) (f
       below : {a b c : ℕ} → a ≤ b → b ≡ c → a < c + 1
       below h k = omega arith
 
--- ---- what the fault says
--- of journals that a fault names no run gives all
+-- ---- the fault
+-- no run reproduces journals that a fault names
 pub gives_fronts-of : (t : Table) (js : List JournalValue) (es : List WorldEvent) → Gives t js es → GivesFronts t js es
 gives_fronts-of t js es g = record {
   each = λ i j at. ([], sym (g.each i j at) ∙ sym (append-nil (seen_in t es j.beginning.node)));
@@ -365,11 +365,11 @@ none_gives t js node place u es g = elim u.cause [
     short : {a b c : ℕ} → a < b → a ≡ c → b ≤ c → ⊥
     short h k m = omega arith
 
--- nor does any record all
+-- no run records them
 pub none_recorded : (t : Table) (js : List JournalValue) (node : NodeId) (place : ℕ) → IsUnwoven t js node place → (es : List WorldEvent) → IsRecorded t js es → ⊥
 none_recorded t js node place u es recorded = none_gives t js node place u (kept t (start t) es) (recorded-gives t js es recorded)
 
--- ---- as the code comes to an end
+-- ---- the code's final test
 module _ (t : Table) (js : List JournalValue) (l : Merge) (w : Weaves t js l) (fit : AllFit js) (still : AllStill js l) (node : NodeId) (place : ℕ) (left : IsLeftAt js l.cursors.items node place) where
   pub unwoven : IsUnwoven t js node place
   unwoven = record {

@@ -42,7 +42,7 @@ moved-answer : (d m : ModelNode) (a : Result Reply Refusal) → (moved d m a).an
 moved-answer d m (Ok x) = refl
 moved-answer d m (Err x) = refl
 
--- a refused event leaves the node as it was
+-- a refused event doesn't change the node
 moved-node : (t : Table) (n : NodeId) (d : ModelNode) (e : Event) → (moved d (model_step t n d e).node (model_step t n d e).answer).node ≡ (model_step t n d e).node
 moved-node t n d e = elim (model_step t n d e).answer as (λ r. (model_step t n d e).answer ≡ r → (moved d (model_step t n d e).node r).node ≡ (model_step t n d e).node) [
   | Ok reply ↦ λ is. refl
@@ -59,7 +59,7 @@ module _ (t : Table) (n : NodeId) (inside : nat_lt n.0 (node_count t) ≡ true) 
   pub node_step-node : (node_step t n d (Ok e)).node ≡ (model_step t n d e).node
   node_step-node = ap (λ (s : NodeStepped). s.node) node_step-is ∙ moved-node t n d e
 
--- ---- as far as the replay has come
+-- ---- the replayed prefix
 abbrev pub so_far : Table → JournalValue → ℕ → ModelNode
 so_far t j i = replayed t j.beginning.node (off_after 0) (take i (journal_seen j))
 
@@ -115,7 +115,7 @@ replay_end t j i node e p = record {
     past : (x : Seen) → Some x ≡ None → ⊥
     past x e = cc
 
--- what a journal's node saw is of a record
+-- an event seen at a journal's node is a record
 recorded : (rs : List Record) (i : ℕ) (x : Seen) → slice_get (map as_seen rs) i ≡ Some x → (r : Record) × (x ≡ as_seen r)
 recorded [] i x h = cc
 recorded (r ∷ rs) zero x h = (r, cc)
@@ -125,7 +125,7 @@ pub worldly-there : (a : Result Reply Refusal) → worldly a ≡ Err NoSuchNode 
 worldly-there (Ok x) e = cc
 worldly-there (Err x) e = cc
 
--- no record of a node that isn't there
+-- a node outside the configuration has no valid record
 pub replay_nowhere : (t : Table) (j : JournalValue) → nat_lt j.beginning.node.0 (node_count t) ≡ false → IsLongest t j 0
 replay_nowhere t j outside = record {
   within = omega arith;
@@ -138,7 +138,7 @@ replay_nowhere t j outside = record {
 pub outside : (n c : ℕ) → c ≤ n → nat_lt n c ≡ false
 outside n c h = grind (arith, nat_tests)
 
--- ---- as the code reads them
+-- ---- the code's reads
 module _ (t : Table) (j : JournalValue) (i : ℕ) (old new : NodeValue) (rs : List Record) (r : Record) (read : r ≡ get_or rs i r) (n : NodeId) (n_is : n ≡ j.beginning.node) (rs_is : rs ≡ j.records) (same : Bool) where
   read_at : i < length rs → At j.records i r
   read_at lt = subst (λ xs. slice_get xs i ≡ Some r) rs_is (slice_get_read rs (length rs) i r refl lt read)
@@ -152,7 +152,7 @@ module _ (t : Table) (j : JournalValue) (i : ℕ) (old new : NodeValue) (rs : Li
   pub read_stop : i < length rs → same ≡ false → Replaying t j i old → Repeats t n old r new same → IsLongest t j i
   read_stop lt e p rep = replay_stop t j i old new r p (read_at lt) (own_node rep false e)
 
--- the step, joined with a test of its answer
+-- the step with the test of its result
 pub repeated : (t : Table) (me : NodeId) (old new : NodeValue) (r : Record) (test : Bool) (a : Result Reply Refusal) → Steps t me old r.event new a → (IsTrue test ↔ (r.answer ≡ a)) → Repeats t me old r new test
 repeated t me old new r test a steps tests = record {
   by = λ d shows. let s = steps.by d shows in (s.0, (λ h. s.1 ∙ sym (tests.0 h), λ h. tests.1 (sym h ∙ s.1)));

@@ -1,4 +1,4 @@
--- Numbers filed under labels.
+-- A hash table of numbers.
 use Rattle.std.specs.Prelude.{◌≡◌, ◌⊎◌, ℕ, ◌%◌, List, [], length, Option, Some, None}
 use Rattle.std.specs.Global.{Vec}
 use Rattle.std.specs.List.{slice_get}
@@ -11,21 +11,21 @@ numbers_of (Some numbers) = numbers.items
 abbrev pub bucket_of : List (Vec ℕ) → ℕ → List ℕ
 bucket_of lists label = numbers_of (slice_get lists (label % length lists))
 
--- k is one of them
+-- k is in the label's bucket
 abbrev pub IsFiledIn : List (Vec ℕ) → ℕ → ℕ → Type 0
 IsFiledIn lists label k = (i : ℕ) × (slice_get (bucket_of lists label) i ≡ Some k)
 
--- each bucket has the same numbers
+-- no bucket changes
 abbrev pub IsKept : List (Vec ℕ) → List (Vec ℕ) → Type 0
 IsKept old new = (label : ℕ) → bucket_of new label ≡ bucket_of old label
 
--- one more number is filed under this label
+-- number is filed under label, every other entry stays, and no entry is added besides
 pub record Files (old : List (Vec ℕ)) (label : ℕ) (number : ℕ) (new : List (Vec ℕ)) : Type 0 where
   pub here : IsFiledIn new label number
   pub kept : (q k : ℕ) → IsFiledIn old q k → IsFiledIn new q k
   pub only : (q k : ℕ) → IsFiledIn new q k → IsFiledIn old q k ⊎ (k ≡ number)
 
--- Of these items each place filed under a label is one, and each item has an equal one filed under its label.
+-- The table indexes xs: it holds only positions of xs, and finds an equal of each item under its label.
 pub record Finds {X : Type 0} (label_of : X → ℕ) (xs : List X) (lists : List (Vec ℕ)) : Type 0 where
   pub within : (q k : ℕ) → IsFiledIn lists q k → (x : X) × (slice_get xs k ≡ Some x)
   pub found : (i : ℕ) (x : X) → slice_get xs i ≡ Some x

@@ -1,4 +1,4 @@
-//! How far a journal is placed.
+//! Cursors: how far into each journal the merge is.
 
 ghost use Rattle.std.specs.Prelude.{IfOk};
 ghost use Rattle.std.specs.List.{AllZip};
@@ -10,14 +10,14 @@ use dac_config::Config;
 use dac_journal::Closed;
 use std::alloc::Global;
 
-/// How many records of a journal are placed, and how many have their node's answers.
+/// How many records of a journal are placed, and how many agree with a replay of its node.
 #[derive(Drop)]
 pub(crate) struct Cursor {
     pub(crate) placed: usize,
     pub(crate) good: usize,
 }
 
-/// A cursor for each journal, of which nothing is placed.
+/// A cursor at the start of each journal.
 pub(crate) fn cursors_of(
     alloc: Global,
     config: &Config,

@@ -1,4 +1,4 @@
-//! Items in order, each of which is found again by its number.
+//! A list with a hash index.
 
 ghost use Rattle.std.specs.Prelude.{◌≡◌, ℕ, ◌++◌, ◌∷◌, [], Some, IfOk, OnOk, MatchOption};
 ghost use Rattle.dac_journal.specs.ModelWorld.{counted};
@@ -9,13 +9,13 @@ use dac_base::NoMemory;
 use std::alloc::Global;
 use std::marker::Model;
 
-/// Items in the order in which they came, filed under their labels. Contracts see them as the list.
+/// Items in the order of insertion, indexed by label. Contracts see the list.
 pub(crate) struct Filed<'a, T: Labelled> {
     items: Vec<&'a T>,
     buckets: Buckets,
 }
 
-/// Written out: a drop is one call for a proof, wherever it stands.
+/// Written out so that proofs see each drop as one call.
 impl<T: Labelled> Drop for Filed<'_, T> {
     fn drop(self) {
         let Filed {
@@ -38,7 +38,7 @@ impl<'a, T: Labelled> Model for Filed<'a, T> {
 }
 
 impl<'a, T: Labelled> Filed<'a, T> {
-    /// None, with room for so many.
+    /// An empty list with `room` buckets.
     pub(crate) fn new(alloc: Global, room: usize) -> Result<Self, NoMemory>
         ensures { IfOk result (λ made. made ≡ []) }
     {
@@ -49,7 +49,7 @@ impl<'a, T: Labelled> Filed<'a, T> {
         })
     }
 
-    /// The number of an equal item, from 1, if there is one.
+    /// The number of an equal item, counted from 1.
     pub(crate) fn number(&self, item: &T) -> Option<u64>
         ensures { MatchOption result ((k : ℕ) → counted self.now k ≡ Some item.now → ⊥)
             (λ k. counted self.now k ≡ Some item.now) }
@@ -64,7 +64,7 @@ impl<'a, T: Labelled> Filed<'a, T> {
         None
     }
 
-    /// One more item.
+    /// Appends an item. Of equal items only the first is indexed.
     pub(crate) fn put(&mut self, item: &'a T) -> Result<(), NoMemory>
         ensures { OnOk result (self.new ≡ self.old ++ item.now ∷ []) }
     {
@@ -77,7 +77,7 @@ impl<'a, T: Labelled> Filed<'a, T> {
         }
     }
 
-    // One more item, which is filed under its label.
+    // Appends an item and indexes it.
     fn put_new(&mut self, item: &'a T) -> Result<(), NoMemory>
         ensures { OnOk result (self.new ≡ self.old ++ item.now ∷ []) }
     {

@@ -1,4 +1,4 @@
-//! What is placed of each journal, and placing more.
+//! The merge: the records placed so far, and the search for the next.
 
 ghost use Rattle.std.specs.Prelude.{◌≡◌, ◌<◌, ◌≤◌, ◌++◌, IfOk, OnOk, MatchOption, length};
 ghost use Rattle.dac_weave.specs.Names.{Names, issued_in, shipped_in};
@@ -14,7 +14,7 @@ use dac_messages::{Event, Message, OpList, Reply};
 use dac_operations::Op;
 use std::alloc::Global;
 
-/// The events so far, and what they issued and shipped.
+/// The cursors, the events placed so far, and the operations and messages that they issued.
 #[derive(Drop)]
 pub(crate) struct Merge<'a> {
     pub(crate) cursors: Vec<Cursor>,
@@ -23,7 +23,7 @@ pub(crate) struct Merge<'a> {
     pub(crate) messages: Filed<'a, Message>,
 }
 
-/// The event of the world that is this event at its node, if there is one now.
+/// Returns the world event that is `event` at its node. A delivered message or operation has none until it was sent.
 fn name_event(
     operations: &Filed<'_, Op>,
     messages: &Filed<'_, Message>,
@@ -48,7 +48,7 @@ fn name_event(
     }
 }
 
-/// Notes operations that were issued.
+/// Appends the issued operations.
 fn note_all<'a>(operations: &mut Filed<'a, Op>, issued: &'a OpList) -> Result<(), NoMemory>
     ensures { OnOk result (operations.new ≡ operations.old ++ issued.now) }
 {
@@ -58,7 +58,7 @@ fn note_all<'a>(operations: &mut Filed<'a, Op>, issued: &'a OpList) -> Result<()
     Ok(())
 }
 
-/// Notes what an answer issues and ships.
+/// Appends the operations and messages of a record's result.
 fn note<'a>(
     operations: &mut Filed<'a, Op>,
     messages: &mut Filed<'a, Message>,
@@ -75,7 +75,7 @@ fn note<'a>(
     }
 }
 
-/// How many records the journals have together, up to the greatest number.
+/// The total number of records, or the greatest `usize` if there are more.
 fn count_all(journals: &[Closed]) -> usize {
     let mut count = 0usize;
     for journal in journals {
@@ -90,7 +90,7 @@ impl<'a> Merge<'a> {
     ghost use Rattle.dac_weave.specs.Woven.{AllFit, IsFirst};
     ghost use Rattle.dac_weave.specs.Placing.{HaveCursors, Weaves, CanBePlaced, IsStill, AllStill, StillBetween, Places, IsLeft, IsLeftAt, AllWhole};
 
-    /// Nothing placed.
+    /// A merge with no record placed.
     pub(crate) fn new(
         alloc: Global,
         config: &Config,
@@ -110,7 +110,7 @@ impl<'a> Merge<'a> {
         })
     }
 
-    /// The event of the world that places the next record of a journal, if it can be placed.
+    /// Returns the world event that places the next record of a journal, if it can be placed.
     fn ready(&self, journals: &[Closed], i: usize) -> Option<What>
         requires fits { HaveCursors journals.now self.now.cursors.items }
         requires within { i < length journals.now }
@@ -130,7 +130,7 @@ impl<'a> Merge<'a> {
         }
     }
 
-    /// A journal between two places whose next record can be placed, with the event of the world that places it.
+    /// Returns a journal in `low..high` whose next record can be placed, with its world event.
     fn find_between(&self, journals: &[Closed], low: usize, high: usize) -> Option<(usize, What)>
         requires fits { HaveCursors journals.now self.now.cursors.items }
         requires within { high ≤ length journals.now }
@@ -147,8 +147,8 @@ impl<'a> Merge<'a> {
         None
     }
 
-    /// A journal whose next record can be placed, with the event of the world that places it. It is sought from this
-    /// one on, and then from the first one on.
+    /// Returns a journal whose next record can be placed, with its world event. The search starts at `from` and wraps
+    /// around.
     fn find(&self, journals: &[Closed], from: usize) -> Option<(usize, What)>
         requires fits { HaveCursors journals.now self.now.cursors.items }
         requires within { from ≤ length journals.now }
@@ -182,7 +182,7 @@ impl<'a> Merge<'a> {
         Ok(())
     }
 
-    /// Places all that can be placed. A journal is gone on with while its next record can be placed.
+    /// Places every record that can be placed. It stays with one journal as long as possible.
     pub(crate) fn weave(&mut self, config: &Config, journals: &'a [Closed]) -> Result<(), NoMemory>
         requires fit { AllFit journals.now }
         requires weaves { Weaves config.now journals.now self.old }
@@ -197,7 +197,7 @@ impl<'a> Merge<'a> {
         Ok(())
     }
 
-    /// The least-named journal that isn't placed whole.
+    /// The journal of the least node that isn't placed whole.
     fn least_left(&self, journals: &[Closed]) -> Option<usize>
         requires { length self.now.cursors.items ≡ length journals.now }
         ensures { MatchOption result (AllWhole journals.now self.now.cursors.items)
@@ -212,7 +212,7 @@ impl<'a> Merge<'a> {
         least
     }
 
-    /// The node of the least-named journal that isn't placed whole, and the place of its first record that isn't.
+    /// The node of [`Merge::least_left`], and the position of its first unplaced record, counted from 1.
     pub(crate) fn first_left(&self, journals: &[Closed]) -> Option<(NodeId, u64)>
         requires { HaveCursors journals.now self.now.cursors.items }
         ensures { MatchOption result (AllWhole journals.now self.now.cursors.items)

@@ -1,4 +1,4 @@
-//! Calls of a site, from its opening to its closing.
+//! Calls of a site, from opening to closing.
 ghost use Rattle.dac_sites.specs.Sites.{IsBlankOf};
 
 use crate::nodes::{Happens, all_before, number_of, twice};
@@ -15,7 +15,7 @@ use std::sync::Wait;
 use tried_calls::sample::{ME, config};
 use tried_calls::trial::{Bench, Came, Said, try_call};
 
-/// What a call of a site says.
+/// The outcome of a site's call.
 fn said<L: SiteName>(answer: &Result<Receipt<L>, LiveFault>) -> Said {
     match answer {
         Ok(receipt) => {
@@ -27,7 +27,7 @@ fn said<L: SiteName>(answer: &Result<Receipt<L>, LiveFault>) -> Said {
     }
 }
 
-/// A site with its seat and its reader, and how many calls and records there are.
+/// A site with its seat and reader, and its number of calls.
 #[derive(Drop)]
 struct SiteBench<'a, L: SiteName, R: Wait> {
     rt: &'a R,
@@ -63,7 +63,7 @@ impl<L: SiteName, R: Wait> Bench for SiteBench<'_, L, R> {
     }
 }
 
-/// Calls the site so that it is as before what happens, and then tries the call.
+/// Brings the site to the state before the event, and then tries the call.
 fn call_after<L: SiteName, R: Print + Wait>(
     rt: &R,
     alloc: Global,
@@ -88,7 +88,7 @@ fn call_after<L: SiteName, R: Print + Wait>(
     Some(try_call(rt, Some(bench)))
 }
 
-/// Opens a site, tries the call, and closes it. The journal then has a record for each call of the seat.
+/// Opens a site, tries the call, and closes it. The journal must have a record for each call of the seat.
 fn open_and_call<L: SiteName, R: Print + Wait>(
     rt: &R,
     alloc: Global,
@@ -126,7 +126,7 @@ pub fn site_call<R: Print + Wait>(rt: &R, alloc: Global, happens: Happens) -> Ca
     }
 }
 
-/// The opening of a site, of which its blank is a part.
+/// The opening of a site, or only its first half, `blank_site`.
 #[derive(Drop)]
 pub struct OpenBench<'a, R: Wait> {
     rt: &'a R,
@@ -135,7 +135,7 @@ pub struct OpenBench<'a, R: Wait> {
     opens: bool,
 }
 
-/// The bench of an opening, or of the blank alone.
+/// The bench of opening a site, or of `blank_site` only.
 pub fn opening<'a, R: Wait>(rt: &'a R, alloc: Global, opens: bool) -> Option<OpenBench<'a, R>> {
     Some(OpenBench {
         rt,
@@ -166,7 +166,7 @@ impl<R: Wait> Bench for OpenBench<'_, R> {
                 blank.give_up(self.rt);
                 Said::Well(0)
             }
-            // The page structure's own refusal of a reader's place is that of memory too.
+            // The page structure's refusal of a reader counts as a failed allocation, too.
             Err(OpenFault::NoReader) | Err(OpenFault::NoMemory) => Said::NoMemory,
         }
     }

@@ -1,4 +1,4 @@
-//! Waits and boards, by which decisions are kept, and pages, which show them.
+//! Waits, boards and pages.
 use crate::sample::{APP, Does, ME, OTHER, config, meaning};
 use crate::trial::{Bench, Said, of_any, of_bytes};
 use dac_base::NoMemory;
@@ -9,7 +9,7 @@ use dac_state::State;
 use dac_status::{Summary, header, page};
 use std::alloc::Global;
 
-/// What is asked.
+/// A call of waits, boards or pages.
 #[derive(Clone, Copy, Debug, PartialEq, Eq)]
 pub enum OfDecision {
     NewWaits,
@@ -20,7 +20,7 @@ pub enum OfDecision {
     Page,
 }
 
-/// A configuration and a state, and what decisions by them are kept in.
+/// A configuration and a state, with waits and a board.
 #[derive(Drop)]
 pub struct DecisionBench {
     alloc: Global,
@@ -31,7 +31,7 @@ pub struct DecisionBench {
     board: Board,
 }
 
-/// The bench of a call.
+/// The bench of decisions.
 pub fn decisions(alloc: Global, asked: OfDecision) -> Option<DecisionBench> {
     let config = config(alloc)?;
     let state = meaning(alloc, OTHER, Does::Up)?;
@@ -45,7 +45,7 @@ pub fn decisions(alloc: Global, asked: OfDecision) -> Option<DecisionBench> {
     })
 }
 
-/// What an answer of a board says: how many applications run at the other node.
+/// The outcome of a call that returns a board: the number of applications at the other node.
 fn of_board(answer: Result<Board, NoMemory>) -> Said {
     match answer {
         Ok(board) => Said::Well(u64::from(board.load(APP, OTHER))),
@@ -54,7 +54,7 @@ fn of_board(answer: Result<Board, NoMemory>) -> Said {
 }
 
 impl DecisionBench {
-    /// The first line of the node's page.
+    /// Writes the header of a page.
     fn head(&self) -> Said {
         if ME.0 < self.config.nodes() {
             of_bytes(header(self.alloc, &self.config, ME, None))
@@ -63,7 +63,7 @@ impl DecisionBench {
         }
     }
 
-    /// The rest of it.
+    /// Writes a page.
     fn rest(&self) -> Said {
         let summary = Summary::of(&self.config, &self.state);
         of_bytes(page(self.alloc, &self.config, &summary))

@@ -1,4 +1,4 @@
-//! Copies of messages, events and replies, and of lists in them.
+//! Copies of messages, events, replies and their lists.
 use crate::sample::{APP, Does, ME, message, operation};
 use crate::trial::{Bench, Said, of_any};
 use dac_lattice::Bottom;
@@ -6,7 +6,7 @@ use dac_messages::{AppList, Body, Event, Message, OpList, Reply};
 use dac_state::State;
 use std::alloc::Global;
 
-/// What is asked of a message.
+/// A call of a message.
 #[derive(Clone, Copy, Debug, PartialEq, Eq)]
 pub enum OfMessage {
     Copy,
@@ -15,7 +15,7 @@ pub enum OfMessage {
     CopyReply,
 }
 
-/// A message with a state, an event that brings it, and a reply.
+/// A message with a state, its delivery, and a reply.
 #[derive(Drop)]
 pub struct MessageBench {
     asked: OfMessage,
@@ -24,12 +24,12 @@ pub struct MessageBench {
     reply: Reply,
 }
 
-/// A message with a state whose copy takes memory, as that of any other doesn't.
+/// A message with the only state whose copy allocates.
 fn whole(alloc: Global) -> Message {
     message(Body::Whole(State::bottom(alloc)), 1)
 }
 
-/// The bench of a call.
+/// The bench of messages.
 pub fn messages(alloc: Global, asked: OfMessage) -> Option<MessageBench> {
     Some(MessageBench {
         asked,
@@ -54,14 +54,14 @@ impl Bench for MessageBench {
     }
 }
 
-/// What is asked of the lists of a reply.
+/// A call of a reply's lists.
 #[derive(Clone, Copy, Debug, PartialEq, Eq)]
 pub enum OfList {
     CopyOps,
     CopyApps,
 }
 
-/// The operations of a tick, and the applications that it looked at.
+/// The operations and applications of a tick's reply.
 #[derive(Drop)]
 pub struct ListBench {
     asked: OfList,
@@ -77,7 +77,7 @@ fn ops(alloc: Global) -> Option<OpList> {
     Some(OpList::new(ops))
 }
 
-/// The bench of a call.
+/// The bench of a reply's lists.
 pub fn lists(alloc: Global, asked: OfList) -> Option<ListBench> {
     let apps = Vec::from_slice(alloc, &[APP]).ok()?;
     Some(ListBench {

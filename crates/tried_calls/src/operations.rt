@@ -1,10 +1,10 @@
-//! Copies of operations, and what pieces see of them.
+//! Copies of operations, and their acts on pieces.
 use crate::sample::{Does, ME, dot, operation};
 use crate::trial::{Bench, Said, of_any};
 use dac_state::{DotList, Op};
 use std::alloc::Global;
 
-/// What is asked of an operation.
+/// A call of an operation.
 #[derive(Clone, Copy, Debug, PartialEq, Eq)]
 pub enum OfOperation {
     Copy,
@@ -15,7 +15,7 @@ pub enum OfOperation {
     SeeDrain,
 }
 
-/// A stop, and the dots that it replaces.
+/// A stop, and a list of two dots.
 #[derive(Drop)]
 pub struct OperationBench {
     alloc: Global,
@@ -24,7 +24,7 @@ pub struct OperationBench {
     dots: DotList,
 }
 
-/// The bench of a call.
+/// The bench of operations.
 pub fn operations(alloc: Global, asked: OfOperation) -> Option<OperationBench> {
     let dots = [dot(ME, 1), dot(ME, 2)];
     let dots = Vec::from_slice(alloc, &dots).ok()?;

@@ -1,4 +1,4 @@
-//! Calls of lattices: pieces of states, stores, and maps.
+//! Lattices: pieces of states, stores, and maps.
 use crate::sample::{APP, ME, OTHER, dot, key, origin};
 use crate::trial::{Bench, Said, of_any};
 use dac_base::{AppId, NoMemory, NodeId};
@@ -10,14 +10,14 @@ use dac_store::{Causal, DotFun, DotMap, DotSet, DotStore};
 use dac_wishes::{DotList, DrainAct, Drains, Permissions, PermitAct, WishAct, Wishes};
 use std::alloc::Global;
 
-/// What is asked of a lattice.
+/// A call of a lattice.
 #[derive(Clone, Copy, Debug, PartialEq, Eq)]
 pub enum OfLattice {
     Join,
     Copy,
 }
 
-/// Two values of a lattice, and what one of them was.
+/// Two values of a lattice, and a copy of the first.
 #[derive(Drop)]
 pub struct LatticeBench<L: Lattice> {
     asked: OfLattice,
@@ -26,7 +26,7 @@ pub struct LatticeBench<L: Lattice> {
     kept: L,
 }
 
-/// The bench of two values of a lattice, if there was memory for both.
+/// The bench of two values of a lattice.
 fn both<L: Lattice>(
     asked: OfLattice,
     one: Result<L, NoMemory>,
@@ -64,7 +64,6 @@ impl<L: Lattice> Bench for LatticeBench<L> {
     }
 }
 
-/// A rising list of dots.
 fn dots(alloc: Global, list: &[Dot]) -> Result<DotList, NoMemory> {
     Ok(DotList::new(Vec::from_slice(alloc, list)?))
 }
@@ -77,7 +76,7 @@ fn lives_of(alloc: Global, node: NodeId) -> Result<Lives, NoMemory> {
     Lives::one(alloc, node, life)
 }
 
-/// The bench of a call.
+/// The bench of lives.
 pub fn lives(alloc: Global, asked: OfLattice) -> Option<LatticeBench<Lives>> {
     both(asked, lives_of(alloc, ME), lives_of(alloc, OTHER))
 }
@@ -92,7 +91,7 @@ fn claims_of(alloc: Global, app: u16) -> Result<Claims, NoMemory> {
     Claims::one(alloc, AppId(app), claim)
 }
 
-/// The bench of a call.
+/// The bench of claims.
 pub fn claims(alloc: Global, asked: OfLattice) -> Option<LatticeBench<Claims>> {
     both(asked, claims_of(alloc, 0), claims_of(alloc, 1))
 }
@@ -105,7 +104,7 @@ fn start_at(alloc: Global, at: Dot) -> Result<Wishes, NoMemory> {
     Wishes::delta(alloc, at, &act)
 }
 
-/// The bench of a call.
+/// The bench of wishes.
 pub fn wishes(alloc: Global, asked: OfLattice) -> Option<LatticeBench<Wishes>> {
     both(
         asked,
@@ -123,7 +122,7 @@ fn permit_at(alloc: Global, at: Dot) -> Result<Permissions, NoMemory> {
     Permissions::delta(alloc, at, &act)
 }
 
-/// The bench of a call.
+/// The bench of permissions.
 pub fn permissions(alloc: Global, asked: OfLattice) -> Option<LatticeBench<Permissions>> {
     both(
         asked,
@@ -141,7 +140,7 @@ fn drain_at(alloc: Global, at: Dot) -> Result<Drains, NoMemory> {
     Drains::delta(alloc, at, &act)
 }
 
-/// The bench of a call.
+/// The bench of drains.
 pub fn drains(alloc: Global, asked: OfLattice) -> Option<LatticeBench<Drains>> {
     both(
         asked,
@@ -154,7 +153,7 @@ fn map_of(alloc: Global, key: u64) -> Result<MapOf<u64, Max<u64>>, NoMemory> {
     MapOf::one(alloc, key, Max::new(7))
 }
 
-/// The bench of a call.
+/// The bench of maps.
 pub fn maps(alloc: Global, asked: OfLattice) -> Option<LatticeBench<MapOf<u64, Max<u64>>>> {
     both(asked, map_of(alloc, 1), map_of(alloc, 2))
 }
@@ -163,7 +162,7 @@ fn pair_of(alloc: Global, key: u64) -> Result<Pair<MapOf<u64, Max<u64>>, Max<u64
     Ok(Pair::new(map_of(alloc, key)?, Max::new(key)))
 }
 
-/// The bench of a call.
+/// The bench of pairs.
 pub fn pairs(
     alloc: Global,
     asked: OfLattice,
@@ -180,7 +179,7 @@ pub fn context(alloc: Global, list: &[Dot]) -> Result<Context, NoMemory> {
     Ok(all)
 }
 
-/// Values at two dots of a node, at a key, beside what was heard.
+/// Values at dots, by key.
 type FlagMap = DotMap<u64, DotFun<Flag>>;
 
 fn votes_of(alloc: Global, node: NodeId) -> Result<DotFun<Flag>, NoMemory> {
@@ -198,19 +197,19 @@ fn causal_of(alloc: Global, node: NodeId, key: u64) -> Result<Causal<FlagMap>, N
     }
 }
 
-/// The bench of a call.
+/// The bench of stores paired with their contexts.
 pub fn causals(alloc: Global, asked: OfLattice) -> Option<LatticeBench<Causal<FlagMap>>> {
     both(asked, causal_of(alloc, ME, 1), causal_of(alloc, OTHER, 2))
 }
 
-/// What is asked of a store.
+/// A call of a store.
 #[derive(Clone, Copy, Debug, PartialEq, Eq)]
 pub enum OfStore {
     Join,
     Copy,
 }
 
-/// Two stores, each beside what was heard.
+/// Two stores, each paired with its context.
 #[derive(Drop)]
 pub struct StoreBench<S: DotStore> {
     asked: OfStore,
@@ -261,12 +260,12 @@ fn set_of(alloc: Global, node: NodeId) -> Result<DotSet, NoMemory> {
     Ok(set)
 }
 
-/// The bench of a call.
+/// The bench of sets of dots.
 pub fn dot_sets(alloc: Global, asked: OfStore) -> Option<StoreBench<DotSet>> {
     stores(alloc, asked, set_of(alloc, ME), set_of(alloc, OTHER))
 }
 
-/// The bench of a call.
+/// The bench of functions of dots.
 pub fn dot_funs(alloc: Global, asked: OfStore) -> Option<StoreBench<DotFun<Flag>>> {
     stores(alloc, asked, votes_of(alloc, ME), votes_of(alloc, OTHER))
 }
@@ -275,12 +274,12 @@ fn map_at(alloc: Global, node: NodeId, key: u64) -> Result<FlagMap, NoMemory> {
     DotMap::one(alloc, key, votes_of(alloc, node)?)
 }
 
-/// The bench of a call.
+/// The bench of maps of dots.
 pub fn dot_maps(alloc: Global, asked: OfStore) -> Option<StoreBench<FlagMap>> {
     stores(alloc, asked, map_at(alloc, ME, 1), map_at(alloc, OTHER, 2))
 }
 
-/// A vote at each of 40 keys, as a join makes the map: 24 entries stand in two blocks.
+/// A value at each of 40 keys, as joins build the map: 24 entries are in two blocks.
 fn map_in_blocks(alloc: Global) -> Result<FlagMap, NoMemory> {
     let mut pushed = DotMap::empty(alloc);
     for key in 1..41u64 {
@@ -290,12 +289,12 @@ fn map_in_blocks(alloc: Global) -> Result<FlagMap, NoMemory> {
     pushed.join_in(&nothing, &DotMap::empty(alloc), &nothing)
 }
 
-/// The bench of a call.
+/// The bench of maps of dots in blocks.
 pub fn block_maps(alloc: Global, asked: OfStore) -> Option<StoreBench<FlagMap>> {
     stores(alloc, asked, map_in_blocks(alloc), map_at(alloc, OTHER, 41))
 }
 
-/// What is made anew.
+/// A call that makes a value from plain arguments.
 #[derive(Clone, Copy, Debug, PartialEq, Eq)]
 pub enum Made {
     OneLife,
@@ -307,19 +306,19 @@ pub enum Made {
     ClaimDelta,
 }
 
-/// What is made of nothing else.
+/// The arguments of such a call.
 #[derive(Drop)]
 pub struct MakingBench {
     alloc: Global,
     made: Made,
 }
 
-/// The bench of a call.
+/// The bench of values from plain arguments.
 pub fn making(alloc: Global, made: Made) -> Option<MakingBench> {
     Some(MakingBench { alloc, made })
 }
 
-/// What a claim adds.
+/// The delta of a claim.
 fn claim_delta(alloc: Global) -> Result<Claims, NoMemory> {
     let act = ClaimAct::Claim {
         app: APP,
@@ -349,7 +348,7 @@ impl Bench for MakingBench {
     }
 }
 
-/// Whose delta is made.
+/// A piece whose delta is made.
 #[derive(Clone, Copy, Debug, PartialEq, Eq)]
 pub enum OfAct {
     Wish,
@@ -372,7 +371,7 @@ fn replaced_dots(alloc: Global) -> Option<DotList> {
     dots(alloc, &[dot(ME, 1), dot(OTHER, 1)]).ok()
 }
 
-/// The bench of a call.
+/// The bench of deltas.
 pub fn acts(alloc: Global, asked: OfAct) -> Option<ActBench> {
     Some(ActBench {
         alloc,
@@ -406,7 +405,7 @@ impl Bench for ActBench {
     }
 }
 
-/// What is pushed behind all that a store has, or made of a store.
+/// A call that appends to a store, or makes a map of a store.
 #[derive(Clone, Copy, Debug, PartialEq, Eq)]
 pub enum Pushed {
     ToSet,
@@ -415,7 +414,7 @@ pub enum Pushed {
     OneAtKey,
 }
 
-/// A set and a function of one dot, a map of none, and stores that are put at a key.
+/// A set and a function of one dot, an empty map, and stores to put at a key.
 #[derive(Drop)]
 pub struct PushBench {
     alloc: Global,
@@ -426,7 +425,7 @@ pub struct PushBench {
     more: Vec<DotFun<Flag>>,
 }
 
-/// The bench of a call.
+/// The bench of appends.
 pub fn pushes(alloc: Global, pushed: Pushed) -> Option<PushBench> {
     let mut more = Vec::new(alloc);
     more.push(votes_of(alloc, OTHER).ok()?).ok()?;
@@ -441,7 +440,7 @@ pub fn pushes(alloc: Global, pushed: Pushed) -> Option<PushBench> {
     })
 }
 
-/// What an answer says of a push.
+/// The outcome of an append.
 fn of_push(answer: Result<bool, NoMemory>) -> Said {
     match answer {
         Ok(is_pushed) => Said::Well(u64::from(is_pushed)),
@@ -450,7 +449,7 @@ fn of_push(answer: Result<bool, NoMemory>) -> Said {
 }
 
 impl PushBench {
-    /// Puts a store behind the last key of the map, or makes a map of it.
+    /// Appends a store to the map at the next key, or makes a map of it.
     fn put_store(&mut self) -> Said {
         let Some(store) = self.more.pop() else {
             return Said::Other;

@@ -6,7 +6,7 @@ use dac_lattice::{Bottom, Lattice};
 use dac_state::{Op, State};
 use std::alloc::Global;
 
-/// What is asked of a state.
+/// A call of a state.
 #[derive(Clone, Copy, Debug, PartialEq, Eq)]
 pub enum OfState {
     Join,
@@ -14,7 +14,7 @@ pub enum OfState {
     DeltaOf,
 }
 
-/// A state of one node, what is joined to it, the least one, and an operation.
+/// A state with a copy, one to join, the least state, and an operation.
 #[derive(Drop)]
 pub struct StateBench {
     alloc: Global,
@@ -26,7 +26,7 @@ pub struct StateBench {
     op: Op,
 }
 
-/// All that a node does, together.
+/// The join of all of a node's operations.
 pub fn all_of(alloc: Global, node: NodeId) -> Option<State> {
     let mut all = State::bottom(alloc);
     for i in 0..ALL.len() {
@@ -35,7 +35,7 @@ pub fn all_of(alloc: Global, node: NodeId) -> Option<State> {
     Some(all)
 }
 
-/// The bench of a call.
+/// The bench of states.
 pub fn states(alloc: Global, asked: OfState) -> Option<StateBench> {
     let state = all_of(alloc, OTHER)?;
     Some(StateBench {
@@ -49,7 +49,7 @@ pub fn states(alloc: Global, asked: OfState) -> Option<StateBench> {
     })
 }
 
-/// What an answer of a state says.
+/// The outcome of a call that returns a state.
 pub fn of_state<E: Drop>(answer: Result<State, E>) -> Said {
     match answer {
         Ok(state) => {
@@ -65,7 +65,7 @@ impl Bench for StateBench {
     fn call(&mut self) -> Said {
         match self.asked {
             OfState::Join => of_state(self.state.join(&self.other)),
-            // A copy of any other state takes no memory.
+            // Only a copy of the least state allocates.
             OfState::Copy => of_state(self.least.copy()),
             OfState::DeltaOf => of_state(State::delta_of(self.alloc, &self.op)),
         }

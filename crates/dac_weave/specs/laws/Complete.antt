@@ -1,6 +1,6 @@
--- Where no journal's next record can be placed after these events, no list of events gives a front of a journal that
--- is longer. A record's answer depends on its node's records before it alone, and a message that some run of fronts
--- ships is in a front, so what can be placed stays so.
+-- If no journal's next record can be placed after es, no run reproduces a longer prefix of any journal. A result
+-- depends only on earlier records of its node, and a message shipped by any run of prefixes is shipped by some prefix,
+-- so a record that can be placed stays placeable.
 use Rattle.std.proofs.Common.{◌≡◌, ℕ, zero, suc, true, false, cond, inl, inr, ◌⊎◌, List, [], ◌∷◌, ◌++◌, Option, Some, None, Ok, map, nat_eq, refl, sym, ap, subst, ◌∙◌, true≢false, eq-eqb, append-nil, append_assoc}
 use Rattle.std.proofs.lemmas.List.{append_cancel_left}
 use Rattle.std.proofs.lemmas.Map.Views.{exact_unsigned_eq}
@@ -22,8 +22,8 @@ use Rattle.dac_weave.specs.Replay.{node_step, replayed}
 use Rattle.dac_weave.specs.laws.Members.{IsMember, in-from_counted, counted-from_in}
 use Rattle.dac_weave.specs.laws.Runs.{node-after, count-after, seen-append, steps_node, outs, outs-front, sent, from, grows, shipped_of, issued_of}
 
--- ---- which world event is a node's event
--- what was shipped and issued in one world was so in another
+-- ---- the world event that is a node's event
+-- every message and operation of world w is also in v
 pub record Has (w v : ModelWorld) : Type 0 where
   pub messages : (m : Message) → IsMember m w.messages → IsMember m v.messages
   pub operations : (o : Operation) → IsMember o w.operations → IsMember o v.operations
@@ -36,7 +36,7 @@ handed-from : (o : Option Operation) (e : Event) → handed_by o ≡ Ok e → (p
 handed-from None e h = cc
 handed-from (Some p) e h = (p, refl)
 
--- what names an event in the one world is so named in the other
+-- an event that has a name in w has one in v
 pub named_still : (w v : ModelWorld) → Has w v → (what : What) (e : Event) → event_of w.operations w.messages what ≡ Ok e → (other : What) × (event_of v.operations v.messages other ≡ Ok e)
 named_still w v has (Boots now) e h = (Boots now, h)
 named_still w v has Crashes e h = (Crashes, h)
@@ -74,15 +74,15 @@ has_journal (b ∷ js) n =
     apart e none zero j at is = true≢false (sym (eq-eqb b.beginning.node.0 n.0 (number b j at ∙ ap (λ (k : NodeId). k.0) is)) ∙ e)
     apart e none (suc i) j at is = none i j at is
 
--- ---- what a journal's node saw are records
+-- ---- events seen at a journal's node are records
 journal_seen-record : (rs : List Record) (xs : List Seen) (x : Seen) (ys : List Seen) → map as_seen rs ≡ xs ++ x ∷ ys → (r : Record) × (x ≡ as_seen r)
 journal_seen-record [] [] x ys h = cc
 journal_seen-record [] (z ∷ zs) x ys h = cc
 journal_seen-record (r ∷ rs) [] x ys h = (r, cc)
 journal_seen-record (r ∷ rs) (z ∷ zs) x ys h = journal_seen-record rs zs x ys (cc)
 
--- ---- fronts
--- the same list goes on with the same
+-- ---- prefixes
+-- two continuations of one list agree in their next item
 next_same : (a : List Seen) (x y : Seen) (xs ys r s : List Seen) (all : List Seen) → all ≡ (a ++ x ∷ xs) ++ r → all ≡ (a ++ y ∷ ys) ++ s → x ≡ y
 next_same a x y xs ys r s all p q =
     head (append_cancel_left a (x ∷ (xs ++ r)) (y ∷ (ys ++ s)) (sym (append_assoc a (x ∷ xs) r) ∙ (sym p ∙ (q ∙ append_assoc a (y ∷ ys) s))))
@@ -94,7 +94,7 @@ no_more : (a : List Seen) (x : Seen) (xs : List Seen) → a ++ x ∷ xs ≡ [] �
 no_more [] x xs e = cc
 no_more (z ∷ a) x xs e = cc
 
--- ---- the weave's events and where they stand still
+-- ---- the end of the merge
 module _ (t : Table) (js : List JournalValue) (es : List WorldEvent) where
   abbrev pub final : ModelWorld
   final = run_from t (start t) es
@@ -103,7 +103,7 @@ module _ (t : Table) (js : List JournalValue) (es : List WorldEvent) where
   abbrev pub Stands : Type 0
   Stands = (i : ℕ) (j : JournalValue) → At js i j → (x : Seen) → IsFrontOf (seen_in t es j.beginning.node ++ x ∷ []) (journal_seen j) → x.answer ≡ (node_step t j.beginning.node (final.node j.beginning.node) x.event).answer → (what : What) → event_of final.operations final.messages what ≡ x.event → ⊥
 
-  -- another run, no further than this one anywhere
+  -- gs goes no further than es at any node
   abbrev pub Behind : List WorldEvent → Type 0
   Behind gs = (n : NodeId) → IsFrontOf (seen_in t gs n) (seen_in t es n)
 
@@ -121,13 +121,13 @@ module _ (t : Table) (js : List JournalValue) (es : List WorldEvent) where
     ];
   }
 
-  -- where another run has come as far as this one at a node, the node is the same in both
+  -- a node that has the same events in both runs has the same state
   same_there : (gs : List WorldEvent) (n : NodeId) → seen_in t es n ≡ seen_in t gs n → (run_from t (start t) gs).node n ≡ final.node n
   same_there gs n e =
       node-after t n (start t) gs refl ∙ (ap (replayed t n (off_after 0)) (sym e) ∙ sym (node-after t n (start t) es refl))
 
   module _ (own : GivesFronts t js es) (stands : Stands) where
-    -- the next event of another run, at its node: this run has it too
+    -- the next event of another run that reproduces prefixes, at node n
     record Next (gs : List WorldEvent) (f : WorldEvent) (fs : List WorldEvent) (n : NodeId) : Type 0 where
       pub at : nat_eq f.node.0 n.0 ≡ true
       pub whole : GivesFronts t js (gs ++ f ∷ fs)
@@ -145,7 +145,7 @@ module _ (t : Table) (js : List JournalValue) (es : List WorldEvent) where
     all_seen : (gs : List WorldEvent) (f : WorldEvent) (fs : List WorldEvent) (n : NodeId) → nat_eq f.node.0 n.0 ≡ true → seen_in t (gs ++ f ∷ fs) n ≡ seen_in t gs n ++ seen_next gs f ∷ later gs f fs n
     all_seen gs f fs n e = seen-append t n (start t) gs (f ∷ fs) ∙ ap (λ b. seen_in t gs n ++ cond b (seen_next gs f ∷ later gs f fs n) (later gs f fs n)) e
 
-    -- it isn't the first that this run lacks
+    -- es goes further than gs at that node
     not_lacking : (gs : List WorldEvent) (f : WorldEvent) (fs : List WorldEvent) (i : ℕ) (j : JournalValue) → At js i j → Next gs f fs j.beginning.node → seen_in t es j.beginning.node ≡ seen_in t gs j.beginning.node → ⊥
     not_lacking gs f fs i j at next same =
         let n = j.beginning.node in
@@ -191,6 +191,6 @@ module _ (t : Table) (js : List JournalValue) (es : List WorldEvent) where
         let same : (gs ++ f ∷ []) ++ fs ≡ gs ++ f ∷ fs = append_assoc gs (f ∷ []) fs in
         subst Behind same (behind_all (gs ++ f ∷ []) fs (subst (GivesFronts t js) (sym same) whole) (behind_more gs f fs whole behind))
 
-    -- no run of fronts goes further anywhere
+    -- no run of prefixes goes further at any node
     pub furthest : (fs : List WorldEvent) → GivesFronts t js fs → (n : NodeId) → IsFrontOf (seen_in t fs n) (seen_in t es n)
     furthest fs whole = behind_all [] fs whole (λ n. (seen_in t es n, refl))

@@ -1,5 +1,5 @@
--- What each node records of a run is what it sees of it, without the events that name no node, no message or no
--- operation. A list without these events gives what the list with them records.
+-- The records of a run are its seen events without those that name no node, message or operation. Dropping these events
+-- from the list changes no record.
 use Rattle.std.proofs.Common.{◌≡◌, ℕ, Bool, true, false, cond, inl, inr, List, [], ◌∷◌, ◌++◌, Option, Some, None, Result, Ok, Err, map, nat_eq, refl, sym, ap, subst, ◌∙◌}
 use Rattle.std.specs.Prelude.{nat_lt}
 use Rattle.std.proofs.lemmas.Bool.{cases_eq, ne_eqb}
@@ -49,7 +49,7 @@ answered-worldly : (w : ModelWorld) (n : NodeId) (d : ModelNode) (a : Result Rep
 answered-worldly w n d (Ok x) = refl
 answered-worldly w n d (Err x) = refl
 
--- ---- what is recorded of what is seen
+-- ---- records of seen events
 abbrev entries_of : List Seen → List Entry
 entries_of [] = []
 entries_of (x ∷ xs) = recorded (own_answer x.answer) x.event ++ entries_of xs
@@ -69,7 +69,7 @@ records-seen t n w (e ∷ es) =
     ∙ (ap (λ b. cond b (recorded (own_answer x.answer) x.event) [] ++ entries_of rest) (eq-flip n.0 e.node.0)
     ∙ seen-first (nat_eq e.node.0 n.0) x rest))
 
--- memory is never refused
+-- no step fails for lack of memory
 abbrev AllEnough : List Seen → Type 0
 AllEnough [] = Unit {0}
 AllEnough (x ∷ xs) = (x.answer ≡ out_of_memory → ⊥) × AllEnough xs
@@ -90,7 +90,7 @@ entries-journal_seen (r ∷ rs) h =
     ap (λ o. recorded o (Ok r.event) ++ entries_of (map as_seen rs)) (own-worldly r.answer (λ e. h.0 (ap worldly e)))
     ∙ ap (λ (xs : List Entry). entry_of r ∷ xs) (entries-journal_seen rs h.1)
 
--- what a run gives it records
+-- a run that reproduces journals records them
 pub gives-recorded : (t : Table) (js : List JournalValue) (es : List WorldEvent) → Gives t js es → IsRecorded t js es
 gives-recorded t js es g = record {
   fit = g.fit;
@@ -100,7 +100,7 @@ gives-recorded t js es g = record {
   others = λ n none. records-seen t n (start t) es ∙ ap entries_of (g.others n none);
 }
 
--- ---- without the events that name nothing
+-- ---- dropping events that name nothing
 abbrev kept_by : Bool → Result Event WorldFault → WorldEvent → List WorldEvent → List WorldEvent
 kept_by false what e es = es
 kept_by true (Err fault) e es = es
@@ -110,7 +110,7 @@ abbrev pub kept : Table → ModelWorld → List WorldEvent → List WorldEvent
 kept t w [] = []
 kept t w (e ∷ es) = kept_by (nat_lt e.node.0 w.count) (event_of w.operations w.messages e.what) e (kept t (happens t w e).world es)
 
--- an entry, as its node saw it
+-- an entry as an event seen in a run
 abbrev seen_entry : Entry → Seen
 seen_entry x = record { event = Ok x.event; answer = worldly x.answer }
 
@@ -128,7 +128,7 @@ module _ (t : Table) (n : NodeId) (w : ModelWorld) (e : WorldEvent) (es : List W
   abbrev nowhere : WorldStepped
   nowhere = record { world = w; answer = Err NoSuchNode }
 
-  -- an event that changes nothing and of which nothing is recorded
+  -- an event that changes nothing and isn't recorded can be dropped
   drops : by.world ≡ w → records_of n w e by.answer ≡ [] → seen_at t n by.world es ≡ map seen_entry rest → seen_at t n w es ≡ map seen_entry (records_of n w e by.answer ++ rest)
   drops same none h = ap (λ v. seen_at t n v es) (sym same) ∙ (h ∙ ap (λ (xs : List Entry). map seen_entry (xs ++ rest)) (sym none))
 
@@ -183,7 +183,7 @@ entries-seen : (rs : List Record) → map seen_entry (map entry_of rs) ≡ map a
 entries-seen [] = refl
 entries-seen (r ∷ rs) = ap (λ (xs : List Seen). as_seen r ∷ xs) (entries-seen rs)
 
--- what a run records is given by the run of those of its events that name something
+-- if a run records the journals, the run of its events that name something reproduces them
 pub recorded-gives : (t : Table) (js : List JournalValue) (es : List WorldEvent) → IsRecorded t js es → Gives t js (kept t (start t) es)
 recorded-gives t js es h = record {
   fit = h.fit;
