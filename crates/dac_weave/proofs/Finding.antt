@@ -12,7 +12,7 @@ use Rattle.std.proofs.lemmas.Option.{slice_get-map}
 use Rattle.std.specs.Option.{option_map}
 use Rattle.dac_journal.specs.ModelWorld.{counted}
 use Rattle.dac_weave.specs.Labels.{lent}
-use Rattle.dac_weave.specs.Filing.{numbers_of, bucket_of, IsFiledIn, Files, IsKept, Finds}
+use Rattle.dac_weave.specs.Indexing.{numbers_of, bucket_of, IsFiledIn, Files, IsKept, Finds}
 
 -- a fact that holds anyway holds on an error
 pub on_err : {A E P : Type 0} (r : Result A E) → P → OnErr r P

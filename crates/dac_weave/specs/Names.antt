@@ -16,7 +16,7 @@ use Rattle.dac_weave.specs.Replay.{IsLongest}
 -- the cursor of a journal with no record placed
 pub record Begins (t : Table) (j : JournalValue) (s : Cursor) : Type 0 where
   pub placed : s.placed ≡ 0
-  pub longest : IsLongest t j s.good
+  pub longest : IsLongest t j s.valid
 
 -- found is the world event that is e at its node, if there is one
 abbrev pub Names : List Operation → List Message → Event → Option What → Type 0

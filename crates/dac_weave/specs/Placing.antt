@@ -15,13 +15,13 @@ use Rattle.dac_weave.specs.Names.{IsUnnamed, issued_in, shipped_in}
 
 -- every placed record agrees with the replay of its node
 pub record IsCursor (t : Table) (j : JournalValue) (s : Cursor) : Type 0 where
-  pub placed : s.placed ≤ s.good
-  pub longest : IsLongest t j s.good
+  pub placed : s.placed ≤ s.valid
+  pub longest : IsLongest t j s.valid
 
 -- there is a cursor for each journal, within its records
 pub record HaveCursors (js : List JournalValue) (ss : List Cursor) : Type 0 where
   pub count : length ss ≡ length js
-  pub within : (i : ℕ) (j : JournalValue) (s : Cursor) → At js i j → At ss i s → s.good ≤ length j.records
+  pub within : (i : ℕ) (j : JournalValue) (s : Cursor) → At js i j → At ss i s → s.valid ≤ length j.records
 
 -- The invariant: the run of the events placed so far reproduces exactly the placed records, and issues the operations
 -- and messages of the merge.
@@ -41,29 +41,29 @@ pub record CanBePlaced (js : List JournalValue) (l : Merge) (i : ℕ) (what : Wh
   pub next : Record
   pub at : At js i journal
   pub cursor_at : At l.cursors.items i cursor
-  pub left : cursor.placed < cursor.good
+  pub left : cursor.placed < cursor.valid
   pub next_at : At journal.records cursor.placed next
   pub named : event_of l.operations l.messages what ≡ Ok next.event
 
 -- the next record of the i-th journal can't be placed
-pub record IsStill (js : List JournalValue) (l : Merge) (i : ℕ) : Type 0 where
+pub record IsBlocked (js : List JournalValue) (l : Merge) (i : ℕ) : Type 0 where
   pub journal : JournalValue
   pub cursor : Cursor
   pub at : At js i journal
   pub cursor_at : At l.cursors.items i cursor
-  pub cause : (cursor.good ≤ cursor.placed)
+  pub cause : (cursor.valid ≤ cursor.placed)
       ⊎ ((r : Record) × (At journal.records cursor.placed r × IsUnnamed l.operations l.messages r.event))
 
-abbrev pub AllStill : List JournalValue → Merge → Type 0
-AllStill js l = (i : ℕ) → i < length js → IsStill js l i
+abbrev pub AllBlocked : List JournalValue → Merge → Type 0
+AllBlocked js l = (i : ℕ) → i < length js → IsBlocked js l i
 
 -- no journal from low up to high can place its next record
-abbrev pub StillBetween : List JournalValue → Merge → ℕ → ℕ → Type 0
-StillBetween js l low high = (i : ℕ) → low ≤ i → i < high → IsStill js l i
+abbrev pub BlockedBetween : List JournalValue → Merge → ℕ → ℕ → Type 0
+BlockedBetween js l low high = (i : ℕ) → low ≤ i → i < high → IsBlocked js l i
 
 -- the cursor after one more record
 abbrev pub longer : Cursor → Cursor
-longer s = record { placed = s.placed + 1; good = s.good }
+longer s = record { placed = s.placed + 1; valid = s.valid }
 
 -- record r of the i-th journal is placed as the world event `what`
 pub record PlacesRecord (old : Merge) (i : ℕ) (what : What) (new : Merge) (j : JournalValue) (s : Cursor)

@@ -33,13 +33,13 @@ abbrev pub seen_in : Table → List WorldEvent → NodeId → List Seen
 seen_in t es n = seen_at t n (start t) es
 
 -- ---- journals
-abbrev pub worldly : Result Reply Refusal → Result Reply WorldFault
-worldly (Ok reply) = Ok reply
-worldly (Err why) = Err (Refused why)
+abbrev pub as_world_result : Result Reply Refusal → Result Reply WorldFault
+as_world_result (Ok reply) = Ok reply
+as_world_result (Err why) = Err (Refused why)
 
 -- a record as an event seen in a run
 abbrev pub as_seen : Record → Seen
-as_seen r = record { event = Ok r.event; answer = worldly r.answer }
+as_seen r = record { event = Ok r.event; answer = as_world_result r.answer }
 
 abbrev pub journal_seen : JournalValue → List Seen
 journal_seen j = list_map as_seen j.records
@@ -48,8 +48,8 @@ journal_seen j = list_map as_seen j.records
 abbrev pub At : {X : Type 0} → List X → ℕ → X → Type 0
 At xs i x = slice_get xs i ≡ Some x
 
-abbrev pub IsFrontOf : List Seen → List Seen → Type 0
-IsFrontOf xs ys = (rest : List Seen) × (ys ≡ xs ++ rest)
+abbrev pub IsPrefixOf : List Seen → List Seen → Type 0
+IsPrefixOf xs ys = (rest : List Seen) × (ys ≡ xs ++ rest)
 
 -- no journal belongs to node n
 abbrev pub HasNone : List JournalValue → NodeId → Type 0
@@ -75,8 +75,8 @@ pub record Gives (t : Table) (js : List JournalValue) (es : List WorldEvent) : T
   pub others : (n : NodeId) → HasNone js n → seen_in t es n ≡ []
 
 -- the run reproduces a prefix of each journal, and nothing at any other node
-pub record GivesFronts (t : Table) (js : List JournalValue) (es : List WorldEvent) : Type 0 where
-  pub each : (i : ℕ) (j : JournalValue) → At js i j → IsFrontOf (seen_in t es j.beginning.node) (journal_seen j)
+pub record ReproducesPrefixes (t : Table) (js : List JournalValue) (es : List WorldEvent) : Type 0 where
+  pub each : (i : ℕ) (j : JournalValue) → At js i j → IsPrefixOf (seen_in t es j.beginning.node) (journal_seen j)
   pub others : (n : NodeId) → HasNone js n → seen_in t es n ≡ []
 
 -- Of the journals with property among, the i-th has the least node.
@@ -94,7 +94,7 @@ GivesEarlier t js node es =
 -- the run reproduces prefixes, of journal j the records before place, and the journals of lesser nodes whole
 abbrev pub ReachesPlace : Table → List JournalValue → JournalValue → ℕ → List WorldEvent → Type 0
 ReachesPlace t js j place es =
-    GivesFronts t js es
+    ReproducesPrefixes t js es
     × ((length (seen_in t es j.beginning.node) + 1 ≡ place) × GivesEarlier t js j.beginning.node es)
 
 -- Some run reaches this place of the i-th journal, and no run of prefixes includes the record there.
@@ -102,7 +102,7 @@ pub record IsStuckAt (t : Table) (js : List JournalValue) (i : ℕ) (j : Journal
   pub there : At js i j
   pub within : place ≤ length j.records
   pub reached : (es : List WorldEvent) × ReachesPlace t js j place es
-  pub never : (es : List WorldEvent) → GivesFronts t js es → length (seen_in t es j.beginning.node) < place
+  pub never : (es : List WorldEvent) → ReproducesPrefixes t js es → length (seen_in t es j.beginning.node) < place
 
 -- the fault for journals that no run reproduces: the least unfit journal with place 0, or a place where every run is
 -- stuck

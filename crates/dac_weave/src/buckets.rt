@@ -1,7 +1,7 @@
 //! Hash buckets of numbers.
 
 ghost use Rattle.std.specs.Prelude.{◌≡◌, ℕ, ◌<◌, IfOk, OnOk, OnErr, length};
-ghost use Rattle.dac_weave.specs.Filing.{bucket_of, IsFiledIn, Files, IsKept};
+ghost use Rattle.dac_weave.specs.Indexing.{bucket_of, IsFiledIn, Files, IsKept};
 
 use dac_base::NoMemory;
 use std::alloc::Global;

@@ -4,7 +4,7 @@ ghost use Rattle.std.specs.Prelude.{IfOk};
 ghost use Rattle.std.specs.List.{AllZip};
 ghost use Rattle.dac_weave.specs.Names.{Begins};
 
-use crate::replay::true_records;
+use crate::replay::valid_prefix;
 use dac_base::NoMemory;
 use dac_config::Config;
 use dac_journal::Closed;
@@ -14,7 +14,7 @@ use std::alloc::Global;
 #[derive(Drop)]
 pub(crate) struct Cursor {
     pub(crate) placed: usize,
-    pub(crate) good: usize,
+    pub(crate) valid: usize,
 }
 
 /// A cursor at the start of each journal.
@@ -27,8 +27,8 @@ pub(crate) fn cursors_of(
 {
     let mut cursors = Vec::new(alloc);
     for journal in journals {
-        let good = true_records(alloc, config, journal)?;
-        cursors.push(Cursor { placed: 0, good })?;
+        let valid = valid_prefix(alloc, config, journal)?;
+        cursors.push(Cursor { placed: 0, valid })?;
     }
     Ok(cursors)
 }

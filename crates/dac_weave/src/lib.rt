@@ -12,7 +12,7 @@ pub use weaving::weave;
 mod buckets;
 mod cursor;
 mod fault;
-mod filed;
+mod indexed_list;
 mod labels;
 mod merge;
 mod replay;

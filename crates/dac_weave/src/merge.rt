@@ -4,7 +4,7 @@ ghost use Rattle.std.specs.Prelude.{◌≡◌, ◌<◌, ◌≤◌, ◌++◌, IfO
 ghost use Rattle.dac_weave.specs.Names.{Names, issued_in, shipped_in};
 
 use crate::cursor::{Cursor, cursors_of};
-use crate::filed::Filed;
+use crate::indexed_list::IndexedList;
 use crate::unfit::lesser;
 use dac_base::{NoMemory, NodeId};
 use dac_config::Config;
@@ -19,14 +19,14 @@ use std::alloc::Global;
 pub(crate) struct Merge<'a> {
     pub(crate) cursors: Vec<Cursor>,
     pub(crate) events: Vec<WorldEvent>,
-    pub(crate) operations: Filed<'a, Op>,
-    pub(crate) messages: Filed<'a, Message>,
+    pub(crate) operations: IndexedList<'a, Op>,
+    pub(crate) messages: IndexedList<'a, Message>,
 }
 
 /// Returns the world event that is `event` at its node. A delivered message or operation has none until it was sent.
 fn name_event(
-    operations: &Filed<'_, Op>,
-    messages: &Filed<'_, Message>,
+    operations: &IndexedList<'_, Op>,
+    messages: &IndexedList<'_, Message>,
     event: &Event,
 ) -> Option<What>
     ensures { Names operations.now messages.now event.now result }
@@ -49,7 +49,10 @@ fn name_event(
 }
 
 /// Appends the issued operations.
-fn note_all<'a>(operations: &mut Filed<'a, Op>, issued: &'a OpList) -> Result<(), NoMemory>
+fn append_issued<'a>(
+    operations: &mut IndexedList<'a, Op>,
+    issued: &'a OpList,
+) -> Result<(), NoMemory>
     ensures { OnOk result (operations.new ≡ operations.old ++ issued.now) }
 {
     for operation in issued.as_slice() {
@@ -60,8 +63,8 @@ fn note_all<'a>(operations: &mut Filed<'a, Op>, issued: &'a OpList) -> Result<()
 
 /// Appends the operations and messages of a record's result.
 fn note<'a>(
-    operations: &mut Filed<'a, Op>,
-    messages: &mut Filed<'a, Message>,
+    operations: &mut IndexedList<'a, Op>,
+    messages: &mut IndexedList<'a, Message>,
     answer: &'a Answer,
 ) -> Result<(), NoMemory>
     ensures operations { OnOk result (operations.new ≡ operations.old ++ issued_in answer.now) }
@@ -69,7 +72,7 @@ fn note<'a>(
 {
     match answer {
         Ok(Reply::Booted(operation) | Reply::Issued(operation)) => operations.put(operation),
-        Ok(Reply::Ticked { ops, passed: _ }) => note_all(operations, ops),
+        Ok(Reply::Ticked { ops, passed: _ }) => append_issued(operations, ops),
         Ok(Reply::Shipped(message)) => messages.put(message),
         Ok(Reply::Crashed | Reply::Held | Reply::GaveUp | Reply::Heard(_)) | Err(_) => Ok(()),
     }
@@ -88,7 +91,7 @@ impl<'a> Merge<'a> {
     ghost use Rattle.std.specs.Prelude.{◌<◌, ◌≤◌, IfOk, OnOk, MatchOption, length};
     ghost use Rattle.dac_journal.specs.Journals.{JournalValue};
     ghost use Rattle.dac_weave.specs.Woven.{AllFit, IsFirst};
-    ghost use Rattle.dac_weave.specs.Placing.{HaveCursors, Weaves, CanBePlaced, IsStill, AllStill, StillBetween, Places, IsLeft, IsLeftAt, AllWhole};
+    ghost use Rattle.dac_weave.specs.Placing.{HaveCursors, Weaves, CanBePlaced, IsBlocked, AllBlocked, BlockedBetween, Places, IsLeft, IsLeftAt, AllWhole};
 
     /// A merge with no record placed.
     pub(crate) fn new(
@@ -100,8 +103,8 @@ impl<'a> Merge<'a> {
     {
         let cursors = cursors_of(alloc, config, journals)?;
         let room = count_all(journals);
-        let operations = Filed::new(alloc, room)?;
-        let messages = Filed::new(alloc, room)?;
+        let operations = IndexedList::new(alloc, room)?;
+        let messages = IndexedList::new(alloc, room)?;
         Ok(Merge {
             cursors,
             events: Vec::new(alloc),
@@ -114,12 +117,12 @@ impl<'a> Merge<'a> {
     fn ready(&self, journals: &[Closed], i: usize) -> Option<What>
         requires fits { HaveCursors journals.now self.now.cursors.items }
         requires within { i < length journals.now }
-        ensures { MatchOption result (IsStill journals.now self.now i)
+        ensures { MatchOption result (IsBlocked journals.now self.now i)
             (CanBePlaced journals.now self.now i) }
     {
         let cursor = &self.cursors[i];
         let records = journals[i].records();
-        if cursor.placed < cursor.good {
+        if cursor.placed < cursor.valid {
             name_event(
                 &self.operations,
                 &self.messages,
@@ -134,7 +137,7 @@ impl<'a> Merge<'a> {
     fn find_between(&self, journals: &[Closed], low: usize, high: usize) -> Option<(usize, What)>
         requires fits { HaveCursors journals.now self.now.cursors.items }
         requires within { high ≤ length journals.now }
-        ensures { MatchOption result (StillBetween journals.now self.now low high)
+        ensures { MatchOption result (BlockedBetween journals.now self.now low high)
             (λ found. (found.0 < length journals.now)
             × CanBePlaced journals.now self.now found.0 found.1) }
     {
@@ -152,7 +155,7 @@ impl<'a> Merge<'a> {
     fn find(&self, journals: &[Closed], from: usize) -> Option<(usize, What)>
         requires fits { HaveCursors journals.now self.now.cursors.items }
         requires within { from ≤ length journals.now }
-        ensures { MatchOption result (AllStill journals.now self.now)
+        ensures { MatchOption result (AllBlocked journals.now self.now)
             (λ found. (found.0 < length journals.now)
             × CanBePlaced journals.now self.now found.0 found.1) }
     {
@@ -187,7 +190,7 @@ impl<'a> Merge<'a> {
         requires fit { AllFit journals.now }
         requires weaves { Weaves config.now journals.now self.old }
         ensures weaves { OnOk result (Weaves config.now journals.now self.new) }
-        ensures still { OnOk result (AllStill journals.now self.new) }
+        ensures still { OnOk result (AllBlocked journals.now self.new) }
     {
         let mut from = 0;
         while let Some((i, what)) = self.find(journals, from) {

@@ -48,7 +48,7 @@ fn repeat(config: &Config, me: NodeId, node: &mut Node, entry: &Record) -> Resul
 }
 
 /// How many records, from the first on, agree with a replay from a node that was never booted.
-pub(crate) fn true_records(
+pub(crate) fn valid_prefix(
     alloc: Global,
     config: &Config,
     journal: &Closed,

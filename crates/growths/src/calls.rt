@@ -21,7 +21,7 @@ use tried_calls::values::{
     OfBuffer, OfConfig, OfContext, Written, buffers, configs, contexts, writing,
 };
 
-/// A call, by its bench.
+/// A call, by its fixture.
 #[derive(Clone, Copy, Debug, PartialEq, Eq)]
 pub enum Call {
     Config(OfConfig),

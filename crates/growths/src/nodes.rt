@@ -7,7 +7,7 @@ use dac_lattice::Lattice;
 use dac_messages::{Body, Event, Reply};
 use std::alloc::Global;
 use tried_calls::sample::{APP, Does, ME, OTHER, config, meaning, message, operation, origin};
-use tried_calls::trial::{Bench, Said};
+use tried_calls::trial::{Fixture, Said};
 
 /// A third node, which exchanges few messages.
 pub const THIRD: NodeId = NodeId(2);
@@ -203,7 +203,7 @@ fn are_alike(one: &Node, other: &Node) -> bool {
 
 /// A node before the event, with a copy.
 #[derive(Drop)]
-pub struct StepBench {
+pub struct StepFixture {
     config: Config,
     node: Node,
     kept: Node,
@@ -219,13 +219,13 @@ fn node_after(alloc: Global, config: &Config, events: Vec<Event>) -> Option<Node
     Some(node)
 }
 
-/// The bench of a step.
-pub fn step(alloc: Global, happens: Happens) -> Option<StepBench> {
+/// The fixture of a step.
+pub fn step(alloc: Global, happens: Happens) -> Option<StepFixture> {
     let config = config(alloc)?;
     let node = node_after(alloc, &config, all_before(alloc, happens)?)?;
     let kept = node.copy().ok()?;
     let events = twice(alloc, happens)?;
-    Some(StepBench {
+    Some(StepFixture {
         config,
         node,
         kept,
@@ -233,7 +233,7 @@ pub fn step(alloc: Global, happens: Happens) -> Option<StepBench> {
     })
 }
 
-impl Bench for StepBench {
+impl Fixture for StepFixture {
     fn call(&mut self) -> Said {
         match self.events.pop() {
             Some(event) => said(&self.node.step(&self.config, ME, event)),
@@ -248,18 +248,18 @@ impl Bench for StepBench {
 
 /// A node to copy.
 #[derive(Drop)]
-pub struct CopyBench {
+pub struct CopyFixture {
     node: Node,
 }
 
-/// The bench of a node's copy.
-pub fn node_copy(alloc: Global) -> Option<CopyBench> {
+/// The fixture of a node's copy.
+pub fn node_copy(alloc: Global) -> Option<CopyFixture> {
     let step = step(alloc, Happens::Tick)?;
-    let StepBench { node, .. } = step;
-    Some(CopyBench { node })
+    let StepFixture { node, .. } = step;
+    Some(CopyFixture { node })
 }
 
-impl Bench for CopyBench {
+impl Fixture for CopyFixture {
     fn call(&mut self) -> Said {
         match self.node.copy() {
             Ok(copied) => Said::Well(u64::from(are_alike(&self.node, &copied))),
@@ -274,7 +274,7 @@ impl Bench for CopyBench {
 
 /// A journal before the event, with a copy of its node.
 #[derive(Drop)]
-pub struct AskBench {
+pub struct AskFixture {
     journal: Journal,
     kept: Node,
     events: Vec<Event>,
@@ -295,8 +295,8 @@ fn ask(journal: &mut Journal, event: Event) -> Said {
     }
 }
 
-/// The bench of a journal.
-pub fn journal(alloc: Global, happens: Happens) -> Option<AskBench> {
+/// The fixture of a journal.
+pub fn journal(alloc: Global, happens: Happens) -> Option<AskFixture> {
     let config = config(alloc)?;
     let mut journal = Journal::new(alloc, config, ME, 0);
     for event in all_before(alloc, happens)? {
@@ -307,7 +307,7 @@ pub fn journal(alloc: Global, happens: Happens) -> Option<AskBench> {
     let kept = journal.node().copy().ok()?;
     let records = journal.records().len();
     let events = twice(alloc, happens)?;
-    Some(AskBench {
+    Some(AskFixture {
         journal,
         kept,
         events,
@@ -315,7 +315,7 @@ pub fn journal(alloc: Global, happens: Happens) -> Option<AskBench> {
     })
 }
 
-impl Bench for AskBench {
+impl Fixture for AskFixture {
     fn call(&mut self) -> Said {
         match self.events.pop() {
             Some(event) => ask(&mut self.journal, event),

@@ -9,7 +9,7 @@ use std::io::Print;
 use std::sync::Wait;
 use std::thread::Threads;
 use tried_calls::sample::config;
-use tried_calls::trial::{Bench, Came, Said, ended};
+use tried_calls::trial::{Came, Fixture, Said, ended};
 
 /// A script with each verb.
 const VERBS: &[u8] =
@@ -27,15 +27,15 @@ pub enum OfScript {
 
 /// The configuration of a script.
 #[derive(Drop)]
-pub struct ScriptBench {
+pub struct ScriptFixture {
     alloc: Global,
     asked: OfScript,
     config: Config,
 }
 
-/// The bench of a script's reader.
-pub fn scripts(alloc: Global, asked: OfScript) -> Option<ScriptBench> {
-    Some(ScriptBench {
+/// The fixture of a script's reader.
+pub fn scripts(alloc: Global, asked: OfScript) -> Option<ScriptFixture> {
+    Some(ScriptFixture {
         alloc,
         asked,
         config: config(alloc)?,
@@ -51,7 +51,7 @@ fn of_script<S: Drop>(answer: Result<Vec<S>, Failure>) -> Said {
     }
 }
 
-impl Bench for ScriptBench {
+impl Fixture for ScriptFixture {
     fn call(&mut self) -> Said {
         match self.asked {
             OfScript::Script => of_script(read_script(self.alloc, &self.config, VERBS)),

@@ -9,7 +9,7 @@ use dac_sites::replay;
 use dac_weave::{WeaveFault, weave};
 use std::alloc::Global;
 use tried_calls::sample::{APP, ME, OTHER, config};
-use tried_calls::trial::{Bench, Said};
+use tried_calls::trial::{Fixture, Said};
 
 /// A call of a world.
 #[derive(Clone, Copy, Debug, PartialEq, Eq)]
@@ -29,7 +29,7 @@ pub enum OfWorld {
 
 /// A world after some events, and the call to make.
 #[derive(Drop)]
-pub struct WorldBench {
+pub struct WorldFixture {
     alloc: Global,
     asked: OfWorld,
     config: Config,
@@ -137,13 +137,13 @@ fn events_before(alloc: Global, asked: OfWorld) -> Option<Vec<WorldEvent>> {
     }
 }
 
-/// The bench of worlds.
-pub fn worlds(alloc: Global, asked: OfWorld) -> Option<WorldBench> {
+/// The fixture of worlds.
+pub fn worlds(alloc: Global, asked: OfWorld) -> Option<WorldFixture> {
     let config = config(alloc)?;
     let events = events_before(alloc, asked)?;
     let (world, _) = World::run(alloc, &config, &events).ok()?;
     let counts = (world.operations().len(), world.messages().len());
-    Some(WorldBench {
+    Some(WorldFixture {
         alloc,
         asked,
         config,
@@ -194,7 +194,7 @@ fn all_said(answers: &[Result<Reply, WorldFault>]) -> Said {
     Said::Well(sum)
 }
 
-impl WorldBench {
+impl WorldFixture {
     /// Makes a world and runs it.
     fn run(&self) -> Said {
         match World::run(self.alloc, &self.config, &self.events) {
@@ -204,7 +204,7 @@ impl WorldBench {
     }
 }
 
-impl Bench for WorldBench {
+impl Fixture for WorldFixture {
     fn call(&mut self) -> Said {
         match self.asked {
             OfWorld::New => match World::new(self.alloc, &self.config) {
@@ -235,7 +235,7 @@ pub enum OfClosed {
 
 /// The closed journals of two nodes.
 #[derive(Drop)]
-pub struct ClosedBench {
+pub struct ClosedFixture {
     alloc: Global,
     asked: OfClosed,
     config: Config,
@@ -270,10 +270,10 @@ fn two_journals(alloc: Global, config: &Config) -> Option<Vec<Closed>> {
     Some(closed)
 }
 
-/// The bench of closed journals.
-pub fn journals(alloc: Global, asked: OfClosed) -> Option<ClosedBench> {
+/// The fixture of closed journals.
+pub fn journals(alloc: Global, asked: OfClosed) -> Option<ClosedFixture> {
     let config = config(alloc)?;
-    Some(ClosedBench {
+    Some(ClosedFixture {
         alloc,
         asked,
         closed: two_journals(alloc, &config)?,
@@ -281,7 +281,7 @@ pub fn journals(alloc: Global, asked: OfClosed) -> Option<ClosedBench> {
     })
 }
 
-impl ClosedBench {
+impl ClosedFixture {
     fn weave_all(&self) -> Said {
         match weave(self.alloc, &self.config, &self.closed) {
             Ok(events) => Said::Well(events.len() as u64),
@@ -299,7 +299,7 @@ impl ClosedBench {
     }
 }
 
-impl Bench for ClosedBench {
+impl Fixture for ClosedFixture {
     fn call(&mut self) -> Said {
         if self.asked == OfClosed::Weave {
             return self.weave_all();

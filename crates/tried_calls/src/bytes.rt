@@ -1,7 +1,7 @@
 //! Bytes of states and packets.
 use crate::sample::{OTHER, config, message};
 use crate::states::{all_of, of_state};
-use crate::trial::{Bench, Said, of_bytes};
+use crate::trial::{Fixture, Said, of_bytes};
 use dac_base::NoMemory;
 use dac_bytes::{ByteWriter, Version};
 use dac_config::Config;
@@ -22,7 +22,7 @@ pub enum OfStateBytes {
 
 /// A state with its bytes in both versions.
 #[derive(Drop)]
-pub struct StateBytesBench {
+pub struct StateBytesFixture {
     alloc: Global,
     asked: OfStateBytes,
     config: Config,
@@ -37,11 +37,11 @@ fn in_version_one(alloc: Global, state: &State) -> Result<Vec<u8>, NoMemory> {
     Ok(writer.into_bytes())
 }
 
-/// The bench of a state's bytes.
-pub fn state_bytes(alloc: Global, asked: OfStateBytes) -> Option<StateBytesBench> {
+/// The fixture of a state's bytes.
+pub fn state_bytes(alloc: Global, asked: OfStateBytes) -> Option<StateBytesFixture> {
     let config = config(alloc)?;
     let state = all_of(alloc, OTHER)?;
-    Some(StateBytesBench {
+    Some(StateBytesFixture {
         alloc,
         asked,
         bytes: state.encode().ok()?,
@@ -59,7 +59,7 @@ fn of_read(answer: Result<State, StateFault>) -> Said {
     }
 }
 
-impl Bench for StateBytesBench {
+impl Fixture for StateBytesFixture {
     fn call(&mut self) -> Said {
         let alloc = self.alloc;
         match self.asked {
@@ -84,7 +84,7 @@ pub enum OfPacket {
 
 /// A packet with its bytes.
 #[derive(Drop)]
-pub struct PacketBench {
+pub struct PacketFixture {
     alloc: Global,
     asked: OfPacket,
     config: Config,
@@ -92,12 +92,12 @@ pub struct PacketBench {
     bytes: Vec<u8>,
 }
 
-/// The bench of a packet's bytes.
-pub fn packets(alloc: Global, asked: OfPacket) -> Option<PacketBench> {
+/// The fixture of a packet's bytes.
+pub fn packets(alloc: Global, asked: OfPacket) -> Option<PacketFixture> {
     let config = config(alloc)?;
     let state = all_of(alloc, OTHER)?;
     let packet = Packet::Msg(message(Body::Whole(state), 1));
-    Some(PacketBench {
+    Some(PacketFixture {
         alloc,
         asked,
         bytes: encode(alloc, &config, &packet).ok()?,
@@ -134,7 +134,7 @@ fn of_packet(answer: Result<Packet, WireFault>, packet: &Packet) -> Said {
     }
 }
 
-impl Bench for PacketBench {
+impl Fixture for PacketFixture {
     fn call(&mut self) -> Said {
         let alloc = self.alloc;
         match self.asked {

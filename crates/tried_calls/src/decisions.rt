@@ -1,6 +1,6 @@
 //! Waits, boards and pages.
 use crate::sample::{APP, Does, ME, OTHER, config, meaning};
-use crate::trial::{Bench, Said, of_any, of_bytes};
+use crate::trial::{Fixture, Said, of_any, of_bytes};
 use dac_base::NoMemory;
 use dac_board::Board;
 use dac_config::Config;
@@ -22,7 +22,7 @@ pub enum OfDecision {
 
 /// A configuration and a state, with waits and a board.
 #[derive(Drop)]
-pub struct DecisionBench {
+pub struct DecisionFixture {
     alloc: Global,
     asked: OfDecision,
     config: Config,
@@ -31,11 +31,11 @@ pub struct DecisionBench {
     board: Board,
 }
 
-/// The bench of decisions.
-pub fn decisions(alloc: Global, asked: OfDecision) -> Option<DecisionBench> {
+/// The fixture of decisions.
+pub fn decisions(alloc: Global, asked: OfDecision) -> Option<DecisionFixture> {
     let config = config(alloc)?;
     let state = meaning(alloc, OTHER, Does::Up)?;
-    Some(DecisionBench {
+    Some(DecisionFixture {
         alloc,
         asked,
         waits: Waits::new(alloc, &config).ok()?,
@@ -53,7 +53,7 @@ fn of_board(answer: Result<Board, NoMemory>) -> Said {
     }
 }
 
-impl DecisionBench {
+impl DecisionFixture {
     /// Writes the header of a page.
     fn head(&self) -> Said {
         if ME.0 < self.config.nodes() {
@@ -70,7 +70,7 @@ impl DecisionBench {
     }
 }
 
-impl Bench for DecisionBench {
+impl Fixture for DecisionFixture {
     fn call(&mut self) -> Said {
         match self.asked {
             OfDecision::NewWaits => of_any(Waits::new(self.alloc, &self.config)),

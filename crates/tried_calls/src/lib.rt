@@ -1,6 +1,6 @@
 //! Calls that allocate, tried while allocations fail.
 //!
-//! A [`Bench`](trial::Bench) is the fixture of a call. [`try_call`](trial::try_call) makes the call and prints the
+//! A [`Fixture`](trial::Fixture) is the fixture of a call. [`try_call`](trial::try_call) makes the call and prints the
 //! outcome. This crate has the calls of configurations, contexts, lattices, states and messages. The program `growths`
 //! has those of nodes, sites and worlds, and the table of all calls.
 #![tactic(auto)]

@@ -1,6 +1,6 @@
 //! Copies of messages, events, replies and their lists.
 use crate::sample::{APP, Does, ME, message, operation};
-use crate::trial::{Bench, Said, of_any};
+use crate::trial::{Fixture, Said, of_any};
 use dac_lattice::Bottom;
 use dac_messages::{AppList, Body, Event, Message, OpList, Reply};
 use dac_state::State;
@@ -17,7 +17,7 @@ pub enum OfMessage {
 
 /// A message with a state, its delivery, and a reply.
 #[derive(Drop)]
-pub struct MessageBench {
+pub struct MessageFixture {
     asked: OfMessage,
     message: Message,
     event: Event,
@@ -29,9 +29,9 @@ fn whole(alloc: Global) -> Message {
     message(Body::Whole(State::bottom(alloc)), 1)
 }
 
-/// The bench of messages.
-pub fn messages(alloc: Global, asked: OfMessage) -> Option<MessageBench> {
-    Some(MessageBench {
+/// The fixture of messages.
+pub fn messages(alloc: Global, asked: OfMessage) -> Option<MessageFixture> {
+    Some(MessageFixture {
         asked,
         reply: Reply::Issued(operation(alloc, ME, Does::Stop)?),
         message: whole(alloc),
@@ -39,7 +39,7 @@ pub fn messages(alloc: Global, asked: OfMessage) -> Option<MessageBench> {
     })
 }
 
-impl Bench for MessageBench {
+impl Fixture for MessageFixture {
     fn call(&mut self) -> Said {
         match self.asked {
             OfMessage::Copy => of_any(self.message.copy()),
@@ -63,7 +63,7 @@ pub enum OfList {
 
 /// The operations and applications of a tick's reply.
 #[derive(Drop)]
-pub struct ListBench {
+pub struct ListFixture {
     asked: OfList,
     ops: OpList,
     apps: AppList,
@@ -77,17 +77,17 @@ fn ops(alloc: Global) -> Option<OpList> {
     Some(OpList::new(ops))
 }
 
-/// The bench of a reply's lists.
-pub fn lists(alloc: Global, asked: OfList) -> Option<ListBench> {
+/// The fixture of a reply's lists.
+pub fn lists(alloc: Global, asked: OfList) -> Option<ListFixture> {
     let apps = Vec::from_slice(alloc, &[APP]).ok()?;
-    Some(ListBench {
+    Some(ListFixture {
         asked,
         ops: ops(alloc)?,
         apps: AppList::new(apps),
     })
 }
 
-impl Bench for ListBench {
+impl Fixture for ListFixture {
     fn call(&mut self) -> Said {
         match self.asked {
             OfList::CopyOps => of_any(self.ops.copy()),

@@ -1,6 +1,6 @@
 //! Lattices: pieces of states, stores, and maps.
 use crate::sample::{APP, ME, OTHER, dot, key, origin};
-use crate::trial::{Bench, Said, of_any};
+use crate::trial::{Fixture, Said, of_any};
 use dac_base::{AppId, NoMemory, NodeId};
 use dac_chains::{Claim, ClaimAct, Claims, How, Life, LifeAct, Lives};
 use dac_dots::Context;
@@ -19,22 +19,22 @@ pub enum OfLattice {
 
 /// Two values of a lattice, and a copy of the first.
 #[derive(Drop)]
-pub struct LatticeBench<L: Lattice> {
+pub struct LatticeFixture<L: Lattice> {
     asked: OfLattice,
     one: L,
     other: L,
     kept: L,
 }
 
-/// The bench of two values of a lattice.
+/// The fixture of two values of a lattice.
 fn both<L: Lattice>(
     asked: OfLattice,
     one: Result<L, NoMemory>,
     other: Result<L, NoMemory>,
-) -> Option<LatticeBench<L>> {
+) -> Option<LatticeFixture<L>> {
     let one = one.ok()?;
     let kept = one.copy().ok()?;
-    Some(LatticeBench {
+    Some(LatticeFixture {
         asked,
         other: other.ok()?,
         one,
@@ -42,7 +42,7 @@ fn both<L: Lattice>(
     })
 }
 
-impl<L: Lattice> Bench for LatticeBench<L> {
+impl<L: Lattice> Fixture for LatticeFixture<L> {
     fn call(&mut self) -> Said {
         match self.asked {
             OfLattice::Join => match self.one.join(&self.other) {
@@ -76,8 +76,8 @@ fn lives_of(alloc: Global, node: NodeId) -> Result<Lives, NoMemory> {
     Lives::one(alloc, node, life)
 }
 
-/// The bench of lives.
-pub fn lives(alloc: Global, asked: OfLattice) -> Option<LatticeBench<Lives>> {
+/// The fixture of lives.
+pub fn lives(alloc: Global, asked: OfLattice) -> Option<LatticeFixture<Lives>> {
     both(asked, lives_of(alloc, ME), lives_of(alloc, OTHER))
 }
 
@@ -91,8 +91,8 @@ fn claims_of(alloc: Global, app: u16) -> Result<Claims, NoMemory> {
     Claims::one(alloc, AppId(app), claim)
 }
 
-/// The bench of claims.
-pub fn claims(alloc: Global, asked: OfLattice) -> Option<LatticeBench<Claims>> {
+/// The fixture of claims.
+pub fn claims(alloc: Global, asked: OfLattice) -> Option<LatticeFixture<Claims>> {
     both(asked, claims_of(alloc, 0), claims_of(alloc, 1))
 }
 
@@ -104,8 +104,8 @@ fn start_at(alloc: Global, at: Dot) -> Result<Wishes, NoMemory> {
     Wishes::delta(alloc, at, &act)
 }
 
-/// The bench of wishes.
-pub fn wishes(alloc: Global, asked: OfLattice) -> Option<LatticeBench<Wishes>> {
+/// The fixture of wishes.
+pub fn wishes(alloc: Global, asked: OfLattice) -> Option<LatticeFixture<Wishes>> {
     both(
         asked,
         start_at(alloc, dot(ME, 2)),
@@ -122,8 +122,8 @@ fn permit_at(alloc: Global, at: Dot) -> Result<Permissions, NoMemory> {
     Permissions::delta(alloc, at, &act)
 }
 
-/// The bench of permissions.
-pub fn permissions(alloc: Global, asked: OfLattice) -> Option<LatticeBench<Permissions>> {
+/// The fixture of permissions.
+pub fn permissions(alloc: Global, asked: OfLattice) -> Option<LatticeFixture<Permissions>> {
     both(
         asked,
         permit_at(alloc, dot(ME, 2)),
@@ -140,8 +140,8 @@ fn drain_at(alloc: Global, at: Dot) -> Result<Drains, NoMemory> {
     Drains::delta(alloc, at, &act)
 }
 
-/// The bench of drains.
-pub fn drains(alloc: Global, asked: OfLattice) -> Option<LatticeBench<Drains>> {
+/// The fixture of drains.
+pub fn drains(alloc: Global, asked: OfLattice) -> Option<LatticeFixture<Drains>> {
     both(
         asked,
         drain_at(alloc, dot(ME, 2)),
@@ -153,8 +153,8 @@ fn map_of(alloc: Global, key: u64) -> Result<MapOf<u64, Max<u64>>, NoMemory> {
     MapOf::one(alloc, key, Max::new(7))
 }
 
-/// The bench of maps.
-pub fn maps(alloc: Global, asked: OfLattice) -> Option<LatticeBench<MapOf<u64, Max<u64>>>> {
+/// The fixture of maps.
+pub fn maps(alloc: Global, asked: OfLattice) -> Option<LatticeFixture<MapOf<u64, Max<u64>>>> {
     both(asked, map_of(alloc, 1), map_of(alloc, 2))
 }
 
@@ -162,11 +162,11 @@ fn pair_of(alloc: Global, key: u64) -> Result<Pair<MapOf<u64, Max<u64>>, Max<u64
     Ok(Pair::new(map_of(alloc, key)?, Max::new(key)))
 }
 
-/// The bench of pairs.
+/// The fixture of pairs.
 pub fn pairs(
     alloc: Global,
     asked: OfLattice,
-) -> Option<LatticeBench<Pair<MapOf<u64, Max<u64>>, Max<u64>>>> {
+) -> Option<LatticeFixture<Pair<MapOf<u64, Max<u64>>, Max<u64>>>> {
     both(asked, pair_of(alloc, 1), pair_of(alloc, 2))
 }
 
@@ -197,8 +197,8 @@ fn causal_of(alloc: Global, node: NodeId, key: u64) -> Result<Causal<FlagMap>, N
     }
 }
 
-/// The bench of stores paired with their contexts.
-pub fn causals(alloc: Global, asked: OfLattice) -> Option<LatticeBench<Causal<FlagMap>>> {
+/// The fixture of stores paired with their contexts.
+pub fn causals(alloc: Global, asked: OfLattice) -> Option<LatticeFixture<Causal<FlagMap>>> {
     both(asked, causal_of(alloc, ME, 1), causal_of(alloc, OTHER, 2))
 }
 
@@ -211,7 +211,7 @@ pub enum OfStore {
 
 /// Two stores, each paired with its context.
 #[derive(Drop)]
-pub struct StoreBench<S: DotStore> {
+pub struct StoreFixture<S: DotStore> {
     asked: OfStore,
     one: S,
     heard: Context,
@@ -224,10 +224,10 @@ fn stores<S: DotStore>(
     asked: OfStore,
     one: Result<S, NoMemory>,
     other: Result<S, NoMemory>,
-) -> Option<StoreBench<S>> {
+) -> Option<StoreFixture<S>> {
     let mine = [dot(ME, 1), dot(ME, 2), dot(ME, 3)];
     let theirs = [dot(OTHER, 1), dot(OTHER, 2), dot(OTHER, 3)];
-    Some(StoreBench {
+    Some(StoreFixture {
         asked,
         one: one.ok()?,
         heard: context(alloc, &mine).ok()?,
@@ -236,7 +236,7 @@ fn stores<S: DotStore>(
     })
 }
 
-impl<S: DotStore> Bench for StoreBench<S> {
+impl<S: DotStore> Fixture for StoreFixture<S> {
     fn call(&mut self) -> Said {
         match self.asked {
             OfStore::Join => {
@@ -260,13 +260,13 @@ fn set_of(alloc: Global, node: NodeId) -> Result<DotSet, NoMemory> {
     Ok(set)
 }
 
-/// The bench of sets of dots.
-pub fn dot_sets(alloc: Global, asked: OfStore) -> Option<StoreBench<DotSet>> {
+/// The fixture of sets of dots.
+pub fn dot_sets(alloc: Global, asked: OfStore) -> Option<StoreFixture<DotSet>> {
     stores(alloc, asked, set_of(alloc, ME), set_of(alloc, OTHER))
 }
 
-/// The bench of functions of dots.
-pub fn dot_funs(alloc: Global, asked: OfStore) -> Option<StoreBench<DotFun<Flag>>> {
+/// The fixture of functions of dots.
+pub fn dot_funs(alloc: Global, asked: OfStore) -> Option<StoreFixture<DotFun<Flag>>> {
     stores(alloc, asked, votes_of(alloc, ME), votes_of(alloc, OTHER))
 }
 
@@ -274,8 +274,8 @@ fn map_at(alloc: Global, node: NodeId, key: u64) -> Result<FlagMap, NoMemory> {
     DotMap::one(alloc, key, votes_of(alloc, node)?)
 }
 
-/// The bench of maps of dots.
-pub fn dot_maps(alloc: Global, asked: OfStore) -> Option<StoreBench<FlagMap>> {
+/// The fixture of maps of dots.
+pub fn dot_maps(alloc: Global, asked: OfStore) -> Option<StoreFixture<FlagMap>> {
     stores(alloc, asked, map_at(alloc, ME, 1), map_at(alloc, OTHER, 2))
 }
 
@@ -289,8 +289,8 @@ fn map_in_blocks(alloc: Global) -> Result<FlagMap, NoMemory> {
     pushed.join_in(&nothing, &DotMap::empty(alloc), &nothing)
 }
 
-/// The bench of maps of dots in blocks.
-pub fn block_maps(alloc: Global, asked: OfStore) -> Option<StoreBench<FlagMap>> {
+/// The fixture of maps of dots in blocks.
+pub fn block_maps(alloc: Global, asked: OfStore) -> Option<StoreFixture<FlagMap>> {
     stores(alloc, asked, map_in_blocks(alloc), map_at(alloc, OTHER, 41))
 }
 
@@ -308,14 +308,14 @@ pub enum Made {
 
 /// The arguments of such a call.
 #[derive(Drop)]
-pub struct MakingBench {
+pub struct MakingFixture {
     alloc: Global,
     made: Made,
 }
 
-/// The bench of values from plain arguments.
-pub fn making(alloc: Global, made: Made) -> Option<MakingBench> {
-    Some(MakingBench { alloc, made })
+/// The fixture of values from plain arguments.
+pub fn making(alloc: Global, made: Made) -> Option<MakingFixture> {
+    Some(MakingFixture { alloc, made })
 }
 
 /// The delta of a claim.
@@ -329,7 +329,7 @@ fn claim_delta(alloc: Global) -> Result<Claims, NoMemory> {
     Claims::delta(alloc, dot(ME, 2), &act)
 }
 
-impl Bench for MakingBench {
+impl Fixture for MakingFixture {
     fn call(&mut self) -> Said {
         let alloc = self.alloc;
         match self.made {
@@ -358,7 +358,7 @@ pub enum OfAct {
 
 /// Acts that replace two dots.
 #[derive(Drop)]
-pub struct ActBench {
+pub struct ActFixture {
     alloc: Global,
     asked: OfAct,
     wish: WishAct,
@@ -371,9 +371,9 @@ fn replaced_dots(alloc: Global) -> Option<DotList> {
     dots(alloc, &[dot(ME, 1), dot(OTHER, 1)]).ok()
 }
 
-/// The bench of deltas.
-pub fn acts(alloc: Global, asked: OfAct) -> Option<ActBench> {
-    Some(ActBench {
+/// The fixture of deltas.
+pub fn acts(alloc: Global, asked: OfAct) -> Option<ActFixture> {
+    Some(ActFixture {
         alloc,
         asked,
         wish: WishAct::Start {
@@ -391,7 +391,7 @@ pub fn acts(alloc: Global, asked: OfAct) -> Option<ActBench> {
     })
 }
 
-impl Bench for ActBench {
+impl Fixture for ActFixture {
     fn call(&mut self) -> Said {
         match self.asked {
             OfAct::Wish => of_any(Wishes::delta(self.alloc, dot(ME, 2), &self.wish)),
@@ -416,7 +416,7 @@ pub enum Pushed {
 
 /// A set and a function of one dot, an empty map, and stores to put at a key.
 #[derive(Drop)]
-pub struct PushBench {
+pub struct PushFixture {
     alloc: Global,
     pushed: Pushed,
     set: DotSet,
@@ -425,12 +425,12 @@ pub struct PushBench {
     more: Vec<DotFun<Flag>>,
 }
 
-/// The bench of appends.
-pub fn pushes(alloc: Global, pushed: Pushed) -> Option<PushBench> {
+/// The fixture of appends.
+pub fn pushes(alloc: Global, pushed: Pushed) -> Option<PushFixture> {
     let mut more = Vec::new(alloc);
     more.push(votes_of(alloc, OTHER).ok()?).ok()?;
     more.push(votes_of(alloc, OTHER).ok()?).ok()?;
-    Some(PushBench {
+    Some(PushFixture {
         alloc,
         pushed,
         set: DotSet::one(alloc, dot(ME, 1)).ok()?,
@@ -448,7 +448,7 @@ fn of_push(answer: Result<bool, NoMemory>) -> Said {
     }
 }
 
-impl PushBench {
+impl PushFixture {
     /// Appends a store to the map at the next key, or makes a map of it.
     fn put_store(&mut self) -> Said {
         let Some(store) = self.more.pop() else {
@@ -461,7 +461,7 @@ impl PushBench {
     }
 }
 
-impl Bench for PushBench {
+impl Fixture for PushFixture {
     fn call(&mut self) -> Said {
         match self.pushed {
             Pushed::ToSet => of_push(self.set.push(dot(OTHER, 1))),

@@ -1,6 +1,6 @@
 //! Calls of states.
 use crate::sample::{ALL, Does, ME, OTHER, meaning, operation};
-use crate::trial::{Bench, Said, short};
+use crate::trial::{Fixture, Said, short};
 use dac_base::NodeId;
 use dac_lattice::{Bottom, Lattice};
 use dac_state::{Op, State};
@@ -16,7 +16,7 @@ pub enum OfState {
 
 /// A state with a copy, one to join, the least state, and an operation.
 #[derive(Drop)]
-pub struct StateBench {
+pub struct StateFixture {
     alloc: Global,
     asked: OfState,
     state: State,
@@ -35,10 +35,10 @@ pub fn all_of(alloc: Global, node: NodeId) -> Option<State> {
     Some(all)
 }
 
-/// The bench of states.
-pub fn states(alloc: Global, asked: OfState) -> Option<StateBench> {
+/// The fixture of states.
+pub fn states(alloc: Global, asked: OfState) -> Option<StateFixture> {
     let state = all_of(alloc, OTHER)?;
-    Some(StateBench {
+    Some(StateFixture {
         alloc,
         asked,
         kept: state.copy().ok()?,
@@ -61,7 +61,7 @@ pub fn of_state<E: Drop>(answer: Result<State, E>) -> Said {
     }
 }
 
-impl Bench for StateBench {
+impl Fixture for StateFixture {
     fn call(&mut self) -> Said {
         match self.asked {
             OfState::Join => of_state(self.state.join(&self.other)),

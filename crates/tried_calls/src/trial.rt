@@ -13,7 +13,7 @@ pub enum Said {
 }
 
 /// The fixture of a call.
-pub trait Bench: Drop {
+pub trait Fixture: Drop {
     /// Makes the call.
     fn call(&mut self) -> Said;
 
@@ -35,22 +35,22 @@ pub enum Came {
 }
 
 /// Makes the call again after an allocation failed.
-fn made_again<B: Bench>(bench: &mut B) -> Came {
-    if !bench.is_as_before() {
+fn made_again<B: Fixture>(fixture: &mut B) -> Came {
+    if !fixture.is_as_before() {
         return Came::Wrong;
     }
-    match bench.call() {
+    match fixture.call() {
         Said::Well(number) => Came::Refused(number),
         _ => Came::Wrong,
     }
 }
 
 /// Makes the call, and again if an allocation failed.
-fn made<B: Bench>(bench: &mut B) -> Came {
-    match bench.call() {
+fn made<B: Fixture>(fixture: &mut B) -> Came {
+    match fixture.call() {
         Said::Well(number) => Came::Well(number),
         Said::Other => Came::Wrong,
-        Said::NoMemory => made_again(bench),
+        Said::NoMemory => made_again(fixture),
     }
 }
 
@@ -67,12 +67,12 @@ pub fn ended<T: Print>(rt: &T, came: Came) -> Came {
 
 /// Makes the call, and again if an allocation failed. Allocations are counted after the printed colon. The outcome is
 /// printed before the fixture is dropped.
-pub fn try_call<T: Print, B: Bench>(rt: &T, bench: Option<B>) -> Came {
-    let Some(mut bench) = bench else {
+pub fn try_call<T: Print, B: Fixture>(rt: &T, fixture: Option<B>) -> Came {
+    let Some(mut fixture) = fixture else {
         return Came::SetUp;
     };
     print!(rt; ": ").ok();
-    let came = made(&mut bench);
+    let came = made(&mut fixture);
     ended(rt, came)
 }
 

@@ -1,7 +1,7 @@
 //! Calls of configurations, contexts, lists of keys, byte writers, and delta logs.
 use crate::pieces::context;
 use crate::sample::{ME, OTHER, TWO, config, dot, origin};
-use crate::trial::{Bench, Said, of_any, of_bytes, short};
+use crate::trial::{Fixture, Said, of_any, of_bytes, short};
 use dac_base::NoMemory;
 use dac_bytes::{ByteReader, ByteWriter, ReadFaultKind, Version};
 use dac_config::{Config, FaultKind, printed_name, read_config};
@@ -23,15 +23,15 @@ pub enum OfConfig {
 
 /// A configuration.
 #[derive(Drop)]
-pub struct ConfigBench {
+pub struct ConfigFixture {
     alloc: Global,
     asked: OfConfig,
     config: Config,
 }
 
-/// The bench of configurations.
-pub fn configs(alloc: Global, asked: OfConfig) -> Option<ConfigBench> {
-    Some(ConfigBench {
+/// The fixture of configurations.
+pub fn configs(alloc: Global, asked: OfConfig) -> Option<ConfigFixture> {
+    Some(ConfigFixture {
         alloc,
         asked,
         config: config(alloc)?,
@@ -47,7 +47,7 @@ fn read(alloc: Global) -> Said {
     }
 }
 
-impl Bench for ConfigBench {
+impl Fixture for ConfigFixture {
     fn call(&mut self) -> Said {
         match self.asked {
             OfConfig::Read => read(self.alloc),
@@ -82,7 +82,7 @@ pub enum OfContext {
 
 /// A context, one to unite with it, and its bytes. The other contexts don't share its rows, so they show changes of it.
 #[derive(Drop)]
-pub struct ContextBench {
+pub struct ContextFixture {
     alloc: Global,
     asked: OfContext,
     context: Context,
@@ -99,12 +99,12 @@ fn bytes_of(alloc: Global, context: &Context) -> Result<Vec<u8>, NoMemory> {
     Ok(writer.into_bytes())
 }
 
-/// The bench of contexts.
-pub fn contexts(alloc: Global, asked: OfContext) -> Option<ContextBench> {
+/// The fixture of contexts.
+pub fn contexts(alloc: Global, asked: OfContext) -> Option<ContextFixture> {
     let mine = [dot(ME, 1), dot(ME, 2), dot(ME, 5), dot(ME, 9)];
     let theirs = [dot(OTHER, 1), dot(OTHER, 2), dot(ME, 3), dot(ME, 7)];
     let all = context(alloc, &mine).ok()?;
-    Some(ContextBench {
+    Some(ContextFixture {
         alloc,
         asked,
         kept: context(alloc, &mine).ok()?,
@@ -132,7 +132,7 @@ fn of_context(answer: Result<Context, NoMemory>) -> Said {
     }
 }
 
-impl ContextBench {
+impl ContextFixture {
     /// Reads the context from its bytes.
     fn read(&self) -> Said {
         match ByteReader::new(&self.bytes).read_context(self.alloc, Version::Two, 3) {
@@ -167,7 +167,7 @@ impl ContextBench {
     }
 }
 
-impl Bench for ContextBench {
+impl Fixture for ContextFixture {
     fn call(&mut self) -> Said {
         match self.asked {
             OfContext::Insert | OfContext::PushRow => self.grow(),
@@ -206,17 +206,17 @@ pub enum Written {
 
 /// The argument of a writer.
 #[derive(Drop)]
-pub struct WritingBench {
+pub struct WritingFixture {
     alloc: Global,
     written: Written,
 }
 
-/// The bench of writers.
-pub fn writing(alloc: Global, written: Written) -> Option<WritingBench> {
-    Some(WritingBench { alloc, written })
+/// The fixture of writers.
+pub fn writing(alloc: Global, written: Written) -> Option<WritingFixture> {
+    Some(WritingFixture { alloc, written })
 }
 
-impl WritingBench {
+impl WritingFixture {
     /// Writes the value to an empty writer.
     fn write(&self, writer: ByteWriter) -> Result<ByteWriter, NoMemory> {
         match self.written {
@@ -244,7 +244,7 @@ fn insert_one(alloc: Global) -> Said {
     }
 }
 
-impl Bench for WritingBench {
+impl Fixture for WritingFixture {
     fn call(&mut self) -> Said {
         if self.written == Written::Key {
             return insert_one(self.alloc);
@@ -278,7 +278,7 @@ type Delta = MapOf<u64, Max<u64>>;
 
 /// A log of 31 or 32 deltas, deltas to append, and sixteen acknowledgements.
 #[derive(Drop)]
-pub struct BufferBench {
+pub struct BufferFixture {
     alloc: Global,
     asked: OfBuffer,
     buffer: Buffer<Delta>,
@@ -342,10 +342,10 @@ fn deltas_for(alloc: Global, asked: OfBuffer) -> Option<Buffer<Delta>> {
     Some(buffer)
 }
 
-/// The bench of delta logs.
-pub fn buffers(alloc: Global, asked: OfBuffer) -> Option<BufferBench> {
+/// The fixture of delta logs.
+pub fn buffers(alloc: Global, asked: OfBuffer) -> Option<BufferFixture> {
     let buffer = deltas_for(alloc, asked)?;
-    Some(BufferBench {
+    Some(BufferFixture {
         alloc,
         asked,
         more: threes(alloc)?,
@@ -355,7 +355,7 @@ pub fn buffers(alloc: Global, asked: OfBuffer) -> Option<BufferBench> {
     })
 }
 
-impl BufferBench {
+impl BufferFixture {
     fn push_three(&mut self) -> Said {
         let Some(more) = self.more.pop() else {
             return Said::Other;
@@ -380,7 +380,7 @@ impl BufferBench {
     }
 }
 
-impl Bench for BufferBench {
+impl Fixture for BufferFixture {
     fn call(&mut self) -> Said {
         match self.asked {
             OfBuffer::Push => of_any(push(self.alloc, &mut self.buffer, 99)),

@@ -16,7 +16,7 @@ use Rattle.dac_journal.specs.Histories.{off_after}
 use Rattle.dac_journal.specs.ModelWorld.{ModelWorld, start, happens, event_of, heard_by, handed_by, counted}
 use Rattle.dac_journal.specs.declared.record.Record.{Record}
 use Rattle.dac_journal.specs.Journals.{JournalValue}
-use Rattle.dac_weave.specs.Woven.{Seen, seen_of, seen_at, seen_in, as_seen, journal_seen, At, IsFrontOf, HasNone, GivesFronts}
+use Rattle.dac_weave.specs.Woven.{Seen, seen_of, seen_at, seen_in, as_seen, journal_seen, At, IsPrefixOf, HasNone, ReproducesPrefixes}
 use Rattle.dac_journal.specs.EveryList.{run_from}
 use Rattle.dac_weave.specs.Replay.{node_step, replayed}
 use Rattle.dac_weave.specs.laws.Members.{IsMember, in-from_counted, counted-from_in}
@@ -101,11 +101,11 @@ module _ (t : Table) (js : List JournalValue) (es : List WorldEvent) where
 
   -- no journal's next record can be placed
   abbrev pub Stands : Type 0
-  Stands = (i : ℕ) (j : JournalValue) → At js i j → (x : Seen) → IsFrontOf (seen_in t es j.beginning.node ++ x ∷ []) (journal_seen j) → x.answer ≡ (node_step t j.beginning.node (final.node j.beginning.node) x.event).answer → (what : What) → event_of final.operations final.messages what ≡ x.event → ⊥
+  Stands = (i : ℕ) (j : JournalValue) → At js i j → (x : Seen) → IsPrefixOf (seen_in t es j.beginning.node ++ x ∷ []) (journal_seen j) → x.answer ≡ (node_step t j.beginning.node (final.node j.beginning.node) x.event).answer → (what : What) → event_of final.operations final.messages what ≡ x.event → ⊥
 
   -- gs goes no further than es at any node
   abbrev pub Behind : List WorldEvent → Type 0
-  Behind gs = (n : NodeId) → IsFrontOf (seen_in t gs n) (seen_in t es n)
+  Behind gs = (n : NodeId) → IsPrefixOf (seen_in t gs n) (seen_in t es n)
 
   behind_has : (gs : List WorldEvent) → Behind gs → Has (run_from t (start t) gs) final
   behind_has gs behind = record {
@@ -126,11 +126,11 @@ module _ (t : Table) (js : List JournalValue) (es : List WorldEvent) where
   same_there gs n e =
       node-after t n (start t) gs refl ∙ (ap (replayed t n (off_after 0)) (sym e) ∙ sym (node-after t n (start t) es refl))
 
-  module _ (own : GivesFronts t js es) (stands : Stands) where
+  module _ (own : ReproducesPrefixes t js es) (stands : Stands) where
     -- the next event of another run that reproduces prefixes, at node n
     record Next (gs : List WorldEvent) (f : WorldEvent) (fs : List WorldEvent) (n : NodeId) : Type 0 where
       pub at : nat_eq f.node.0 n.0 ≡ true
-      pub whole : GivesFronts t js (gs ++ f ∷ fs)
+      pub whole : ReproducesPrefixes t js (gs ++ f ∷ fs)
       pub behind : Behind gs
 
     abbrev world_of : List WorldEvent → ModelWorld
@@ -160,7 +160,7 @@ module _ (t : Table) (js : List JournalValue) (es : List WorldEvent) where
         ◌∙◌ {a = x.answer} (steps_node t n (world_of gs) f (count-after t (start t) gs refl) next.at).answer (ap (λ d. (node_step t n d x.event).answer) (same_there gs n same)) in
         stands i j at x (later gs f fs n ++ r, front) answer named.0 (named.1 ∙ sym (ap (λ (s : Seen). s.event) rec.1))
 
-    at_journal : (gs : List WorldEvent) (f : WorldEvent) (fs : List WorldEvent) (i : ℕ) (j : JournalValue) → At js i j → Next gs f fs j.beginning.node → (left : List Seen) → seen_in t es j.beginning.node ≡ seen_in t gs j.beginning.node ++ left → IsFrontOf (seen_in t gs j.beginning.node ++ seen_next gs f ∷ []) (seen_in t es j.beginning.node)
+    at_journal : (gs : List WorldEvent) (f : WorldEvent) (fs : List WorldEvent) (i : ℕ) (j : JournalValue) → At js i j → Next gs f fs j.beginning.node → (left : List Seen) → seen_in t es j.beginning.node ≡ seen_in t gs j.beginning.node ++ left → IsPrefixOf (seen_in t gs j.beginning.node ++ seen_next gs f ∷ []) (seen_in t es j.beginning.node)
     at_journal gs f fs i j at next [] q = absurd (not_lacking gs f fs i j at next (q ∙ append-nil (seen_in t gs j.beginning.node)))
     at_journal gs f fs i j at next (y ∷ ys) q =
         let n = j.beginning.node in
@@ -170,27 +170,27 @@ module _ (t : Table) (js : List JournalValue) (es : List WorldEvent) where
         let is : x ≡ y = next_same (seen_in t gs n) x y (later gs f fs n) ys theirs.0 mine.0 (journal_seen j) (theirs.1 ∙ ap (λ (xs : List Seen). xs ++ theirs.0) (all_seen gs f fs n next.at)) (mine.1 ∙ ap (λ (xs : List Seen). xs ++ mine.0) q) in
         (ys, q ∙ (ap (λ z. seen_in t gs n ++ z ∷ ys) (sym is) ∙ sym (append_assoc (seen_in t gs n) (x ∷ []) ys)))
 
-    at_node : (gs : List WorldEvent) (f : WorldEvent) (fs : List WorldEvent) (n : NodeId) → Next gs f fs n → IsFrontOf (seen_in t gs n ++ seen_next gs f ∷ []) (seen_in t es n)
+    at_node : (gs : List WorldEvent) (f : WorldEvent) (fs : List WorldEvent) (n : NodeId) → Next gs f fs n → IsPrefixOf (seen_in t gs n ++ seen_next gs f ∷ []) (seen_in t es n)
     at_node gs f fs n next = elim (has_journal js n) [
-      | inl h ↦ subst (λ (m : NodeId). Next gs f fs m → IsFrontOf (seen_in t gs m ++ seen_next gs f ∷ []) (seen_in t es m)) h.1.1.1
+      | inl h ↦ subst (λ (m : NodeId). Next gs f fs m → IsPrefixOf (seen_in t gs m ++ seen_next gs f ∷ []) (seen_in t es m)) h.1.1.1
           (λ (here : Next gs f fs h.1.0.beginning.node). at_journal gs f fs h.0 h.1.0 h.1.1.0 here (here.behind h.1.0.beginning.node).0 (here.behind h.1.0.beginning.node).1) next
       | inr none ↦ absurd (no_more (seen_in t gs n) (seen_next gs f) (later gs f fs n) (sym (all_seen gs f fs n next.at) ∙ next.whole.others n none))
     ]
 
-    behind_more : (gs : List WorldEvent) (f : WorldEvent) (fs : List WorldEvent) → GivesFronts t js (gs ++ f ∷ fs) → Behind gs → Behind (gs ++ f ∷ [])
+    behind_more : (gs : List WorldEvent) (f : WorldEvent) (fs : List WorldEvent) → ReproducesPrefixes t js (gs ++ f ∷ fs) → Behind gs → Behind (gs ++ f ∷ [])
     behind_more gs f fs whole behind n =
-        elim (nat_eq f.node.0 n.0) as (λ b. nat_eq f.node.0 n.0 ≡ b → IsFrontOf (seen_in t (gs ++ f ∷ []) n) (seen_in t es n)) [
-          | true ↦ λ e. subst (λ xs. IsFrontOf xs (seen_in t es n)) (sym (all_seen gs f [] n e)) (at_node gs f fs n (record { at = e; whole = whole; behind = behind }))
-          | false ↦ λ e. subst (λ xs. IsFrontOf xs (seen_in t es n))
+        elim (nat_eq f.node.0 n.0) as (λ b. nat_eq f.node.0 n.0 ≡ b → IsPrefixOf (seen_in t (gs ++ f ∷ []) n) (seen_in t es n)) [
+          | true ↦ λ e. subst (λ xs. IsPrefixOf xs (seen_in t es n)) (sym (all_seen gs f [] n e)) (at_node gs f fs n (record { at = e; whole = whole; behind = behind }))
+          | false ↦ λ e. subst (λ xs. IsPrefixOf xs (seen_in t es n))
               (sym (seen-append t n (start t) gs (f ∷ []) ∙ (ap (λ b. seen_in t gs n ++ cond b (seen_next gs f ∷ []) []) e ∙ append-nil (seen_in t gs n)))) (behind n)
         ] refl
 
-    behind_all : (gs fs : List WorldEvent) → GivesFronts t js (gs ++ fs) → Behind gs → Behind (gs ++ fs)
+    behind_all : (gs fs : List WorldEvent) → ReproducesPrefixes t js (gs ++ fs) → Behind gs → Behind (gs ++ fs)
     behind_all gs [] whole behind = subst Behind (sym (append-nil gs)) behind
     behind_all gs (f ∷ fs) whole behind =
         let same : (gs ++ f ∷ []) ++ fs ≡ gs ++ f ∷ fs = append_assoc gs (f ∷ []) fs in
-        subst Behind same (behind_all (gs ++ f ∷ []) fs (subst (GivesFronts t js) (sym same) whole) (behind_more gs f fs whole behind))
+        subst Behind same (behind_all (gs ++ f ∷ []) fs (subst (ReproducesPrefixes t js) (sym same) whole) (behind_more gs f fs whole behind))
 
     -- no run of prefixes goes further at any node
-    pub furthest : (fs : List WorldEvent) → GivesFronts t js fs → (n : NodeId) → IsFrontOf (seen_in t fs n) (seen_in t es n)
+    pub furthest : (fs : List WorldEvent) → ReproducesPrefixes t js fs → (n : NodeId) → IsPrefixOf (seen_in t fs n) (seen_in t es n)
     furthest fs whole = behind_all [] fs whole (λ n. (seen_in t es n, refl))

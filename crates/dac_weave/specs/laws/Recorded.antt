@@ -22,7 +22,7 @@ use Rattle.dac_journal.specs.laws.Memory.{enough_memory}
 use Rattle.dac_journal.specs.laws.Runs.{went_as_answered}
 use Rattle.dac_journal.specs.declared.record.Record.{Record}
 use Rattle.dac_journal.specs.Journals.{JournalValue, entry_of}
-use Rattle.dac_weave.specs.Woven.{Seen, seen_of, seen_at, as_seen, worldly, Gives}
+use Rattle.dac_weave.specs.Woven.{Seen, seen_of, seen_at, as_seen, as_world_result, Gives}
 use Rattle.dac_weave.specs.Recording.{IsRecorded}
 
 -- ---- small facts
@@ -40,14 +40,14 @@ unnamed : (answer : Option (Result Reply Refusal)) (fault : WorldFault) → reco
 unnamed None fault = refl
 unnamed (Some answer) fault = refl
 
-own-worldly : (a : Result Reply Refusal) → (a ≡ Err NoMemory → ⊥) → own_answer (worldly a) ≡ Some a
-own-worldly (Ok x) h = refl
-own-worldly (Err NoMemory) h = absurd (h refl)
-own-worldly (Err why) h = refl
+own-as_world_result : (a : Result Reply Refusal) → (a ≡ Err NoMemory → ⊥) → own_answer (as_world_result a) ≡ Some a
+own-as_world_result (Ok x) h = refl
+own-as_world_result (Err NoMemory) h = absurd (h refl)
+own-as_world_result (Err why) h = refl
 
-answered-worldly : (w : ModelWorld) (n : NodeId) (d : ModelNode) (a : Result Reply Refusal) → (answered_by w n d a).answer ≡ worldly a
-answered-worldly w n d (Ok x) = refl
-answered-worldly w n d (Err x) = refl
+answered-as_world_result : (w : ModelWorld) (n : NodeId) (d : ModelNode) (a : Result Reply Refusal) → (answered_by w n d a).answer ≡ as_world_result a
+answered-as_world_result w n d (Ok x) = refl
+answered-as_world_result w n d (Err x) = refl
 
 -- ---- records of seen events
 abbrev entries_of : List Seen → List Entry
@@ -87,7 +87,7 @@ enough-seen t n w (e ∷ es) =
 entries-journal_seen : (rs : List Record) → AllEnough (map as_seen rs) → entries_of (map as_seen rs) ≡ map entry_of rs
 entries-journal_seen [] h = refl
 entries-journal_seen (r ∷ rs) h =
-    ap (λ o. recorded o (Ok r.event) ++ entries_of (map as_seen rs)) (own-worldly r.answer (λ e. h.0 (ap worldly e)))
+    ap (λ o. recorded o (Ok r.event) ++ entries_of (map as_seen rs)) (own-as_world_result r.answer (λ e. h.0 (ap as_world_result e)))
     ∙ ap (λ (xs : List Entry). entry_of r ∷ xs) (entries-journal_seen rs h.1)
 
 -- a run that reproduces journals records them
@@ -112,7 +112,7 @@ kept t w (e ∷ es) = kept_by (nat_lt e.node.0 w.count) (event_of w.operations w
 
 -- an entry as an event seen in a run
 abbrev seen_entry : Entry → Seen
-seen_entry x = record { event = Ok x.event; answer = worldly x.answer }
+seen_entry x = record { event = Ok x.event; answer = as_world_result x.answer }
 
 kept-first : (b : Bool) (x : Entry) (xs : List Entry) → cond b (seen_entry x ∷ map seen_entry xs) (map seen_entry xs) ≡ map seen_entry (cond b (x ∷ []) [] ++ xs)
 kept-first true x xs = refl
@@ -149,8 +149,8 @@ module _ (t : Table) (n : NodeId) (w : ModelWorld) (e : WorldEvent) (es : List W
   keeps x there named h =
       let st = model_step t e.node (w.node e.node) x in
       let is : by ≡ happens_by t w e.node (Ok x) = ap (λ b. cond b (happens_by t w e.node what) nowhere) there ∙ ap (happens_by t w e.node) named in
-      let answer : by.answer ≡ worldly st.answer = ap (λ (s : WorldStepped). s.answer) is ∙ answered-worldly w e.node st.node st.answer in
-      let own : own_answer by.answer ≡ Some st.answer = ap own_answer answer ∙ own-worldly st.answer (λ bad. enough_memory t w e (answer ∙ ap worldly bad)) in
+      let answer : by.answer ≡ as_world_result st.answer = ap (λ (s : WorldStepped). s.answer) is ∙ answered-as_world_result w e.node st.node st.answer in
+      let own : own_answer by.answer ≡ Some st.answer = ap own_answer answer ∙ own-as_world_result st.answer (λ bad. enough_memory t w e (answer ∙ ap as_world_result bad)) in
       let entry : Entry = record { event = x; answer = st.answer } in
       let first : records_of n w e by.answer ≡ cond (nat_eq n.0 e.node.0) (entry ∷ []) [] =
       ap (λ o. cond (nat_eq n.0 e.node.0) (recorded o what) []) own ∙ ap (λ y. cond (nat_eq n.0 e.node.0) (recorded (Some st.answer) y) []) named in

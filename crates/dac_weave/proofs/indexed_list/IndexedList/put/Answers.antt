@@ -2,7 +2,7 @@ use Rattle.std.proofs.Common.{◌≡◌, Some}
 use Rattle.dac_journal.specs.ModelWorld.{counted}
 use Rattle.dac_weave.specs.Labels.{lent}
 use Rattle.dac_weave.proofs.Finding.{lent-again}
-use Rattle.dac_weave.proofs.filed.Filed.put.Goals as goal
+use Rattle.dac_weave.proofs.indexed_list.IndexedList.put.Goals as goal
 
 pub invariant_of-self-in-Some : goal.invariant_of-self-in-Some
 invariant_of-self-in-Some g c =

@@ -5,7 +5,7 @@ use Rattle.dac_journal.specs.ModelWorld.{counted}
 use Rattle.dac_weave.specs.Labels.{lent}
 use Rattle.dac_weave.proofs.Finding.{filed-within, lent-at, none-more, nowhere}
 use Rattle.dac_weave.specs.laws.Members.{counted-get}
-use Rattle.dac_weave.proofs.filed.Filed.number.Goals as goal
+use Rattle.dac_weave.proofs.indexed_list.IndexedList.number.Goals as goal
 
 pub index-requires : goal.index-requires
 index-requires g c =

@@ -10,25 +10,25 @@ use std::alloc::Global;
 use std::marker::Model;
 
 /// Items in the order of insertion, indexed by label. Contracts see the list.
-pub(crate) struct Filed<'a, T: Labelled> {
+pub(crate) struct IndexedList<'a, T: Labelled> {
     items: Vec<&'a T>,
     buckets: Buckets,
 }
 
 /// Written out so that proofs see each drop as one call.
-impl<T: Labelled> Drop for Filed<'_, T> {
+impl<T: Labelled> Drop for IndexedList<'_, T> {
     fn drop(self) {
-        let Filed {
+        let IndexedList {
             items: _items,
             buckets: _buckets,
         } = self;
     }
 }
 
-impl<'a, T: Labelled> Model for Filed<'a, T> {
+impl<'a, T: Labelled> Model for IndexedList<'a, T> {
     ghost use Rattle.std.specs.Prelude.{List};
     ghost use Rattle.dac_weave.specs.Labels.{lent};
-    ghost use Rattle.dac_weave.specs.Filing.{Finds};
+    ghost use Rattle.dac_weave.specs.Indexing.{Finds};
 
     ghost Value = { List T };
 
@@ -37,13 +37,13 @@ impl<'a, T: Labelled> Model for Filed<'a, T> {
     ghost invariant = { λ a. Finds T.label_of (lent a.items.items) a.buckets.lists.items };
 }
 
-impl<'a, T: Labelled> Filed<'a, T> {
+impl<'a, T: Labelled> IndexedList<'a, T> {
     /// An empty list with `room` buckets.
     pub(crate) fn new(alloc: Global, room: usize) -> Result<Self, NoMemory>
         ensures { IfOk result (λ made. made ≡ []) }
     {
         let buckets = Buckets::new(alloc, room)?;
-        Ok(Filed {
+        Ok(IndexedList {
             items: Vec::new(alloc),
             buckets,
         })

@@ -1,4 +1,4 @@
-use Rattle.growths.proofs.sites.OpenBenchBench.call.Given as goal
+use Rattle.growths.proofs.sites.OpenFixtureFixture.call.Given as goal
 
 abbrev pub ghosts-opens-L-Ledger : goal.ghosts-opens-L-Ledger
 ghosts-opens-L-Ledger g a = record { name = a.blank.blank.name; parts = a.blank.blank.parts }

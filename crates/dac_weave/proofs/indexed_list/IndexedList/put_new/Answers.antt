@@ -1,7 +1,7 @@
 use Rattle.std.proofs.Common.{◌≡◌, length, rules, ap, ◌∙◌, ◌++◌, ◌∷◌, [], List}
 use Rattle.std.specs.Borrow.{Bor}
 use Rattle.dac_weave.proofs.Finding.{lent-filed, lent-kept}
-use Rattle.dac_weave.proofs.filed.Filed.put_new.Goals as goal
+use Rattle.dac_weave.proofs.indexed_list.IndexedList.put_new.Goals as goal
 
 pub invariant_of-self-in_err-file : goal.invariant_of-self-in_err-file
 invariant_of-self-in_err-file g c = lent-kept g.T.Labelled.label_of c.self.inside.items.items c.reserve.new.self.items c.self.inside.buckets.lists.items c.file.new.self.lists.items c.in_ok-reserve.ensures.items c.in_err-file.ensures.kept c.self.invariant

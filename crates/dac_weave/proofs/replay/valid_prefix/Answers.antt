@@ -2,7 +2,7 @@ use Rattle.std.proofs.Common.{◌≡◌, subst, false, nat_lt, ◌≤◌, ◌<�
 use Rattle.dac_base.specs.declared.NodeId.{NodeId}
 use Rattle.dac_config.specs.Table.{node_count}
 use Rattle.dac_weave.proofs.Replays.{replay_nowhere, outside, replay_start, read_turn, read_stop, read_end}
-use Rattle.dac_weave.proofs.replay.true_records.Goals as goal
+use Rattle.dac_weave.proofs.replay.valid_prefix.Goals as goal
 
 pub returns-then-me-nodes : goal.returns-then-me-nodes
 returns-then-me-nodes c = replay_nowhere c.args.config.now c.args.journal.now (subst (λ (n : NodeId). nat_lt n.0 (node_count c.args.config.now) ≡ false) c.node-me.ensures (outside c.node-me.result.0 (node_count c.args.config.now) (subst (λ (k : ℕ). k ≤ c.node-me.result.0) c.nodes.ensures.count c.if-me-nodes.true)))
