@@ -62,7 +62,7 @@ fn append_issued<'a>(
 }
 
 /// Appends the operations and messages of a record's result.
-fn note<'a>(
+fn append_output<'a>(
     operations: &mut IndexedList<'a, Op>,
     messages: &mut IndexedList<'a, Message>,
     answer: &'a Answer,
@@ -180,7 +180,7 @@ impl<'a> Merge<'a> {
             node: journal.node(),
             what,
         })?;
-        note(&mut self.operations, &mut self.messages, &record.answer)?;
+        append_output(&mut self.operations, &mut self.messages, &record.answer)?;
         self.cursors[i].placed = placed + 1;
         Ok(())
     }
