@@ -148,7 +148,7 @@ ends_rise low (span ∷ spans) h (suc i) (suc j) d p q = ends_rise (span.last + 
 
 -- ---- joining spans
 
--- the first span begins no more than one below the next
+-- the span begins no later than one past the end of the next
 abbrev pub IsNext : Span → List Span → Type 0
 IsNext span [] = Unit {0}
 IsNext span (next ∷ spans) = span.first ≤ next.last + 1
