@@ -9,12 +9,12 @@ use Rattle.dac_wishes.specs.Writes.{Write}
 use Rattle.dac_wishes.specs.laws.Votes.{known-join_votes, same_votes, votes_laws, no_votes_value, no_votes_least}
 use Rattle.dac_wishes.specs.PermissionsValue.{ArePermissions, IsPermissionsBelow, PermissionsValue, join_permissions, no_permissions}
 
--- ---- the laws
+-- ---- laws of joins
 
 pub known-join : (x y : PermissionsValue) → (join_permissions x y).known ≡ set.union x.known y.known
 known-join = known-join_votes key_cmp
 
--- two values that show the same are equal
+-- two values with equal parts are equal
 pub same_permissions : (x y : PermissionsValue) → x.known ≡ y.known → ((w : Write) → map.get x.standing w ≡ map.get y.standing w) → x ≡ y
 same_permissions = same_votes keys_total exact_keys
 
