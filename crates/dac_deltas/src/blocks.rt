@@ -44,8 +44,8 @@ impl<L: Lattice> Model for BlockEnd<L> {
     ghost view = { λ e. (e.delta, e.joins.items) };
 }
 
-/// The join of the block of twice 2^level deltas that ends with a stored one. `None` unless that is the next join to
-/// make and the join of its first half is made.
+/// The join of the block of twice 2^level deltas that ends with the stored delta at index `i`. `None` unless that is
+/// the next join to make and the join of its first half is made.
 fn doubled<L: Lattice>(
     kept: &VecDeque<BlockEnd<L>>,
     i: usize,
@@ -67,8 +67,8 @@ fn doubled<L: Lattice>(
     Ok(Some(joined))
 }
 
-/// Makes the joins of the blocks that end with a stored delta, if those of their first halves are made. The first
-/// stored delta has number `base`. After [`NoMemory`] some can be made.
+/// Makes the joins of the blocks that end with the stored delta at index `i`, as far as those of their first halves are
+/// made. The first stored delta has number `base`. After [`NoMemory`] some can be made.
 fn make_joins<L: Lattice>(
     kept: &mut VecDeque<BlockEnd<L>>,
     base: u64,
@@ -126,8 +126,8 @@ pub(crate) fn join_from<L: Lattice>(
     make_all_joins(kept, base, from)
 }
 
-/// The longest block with a join, among those that begin with a stored delta and have at most 2^most deltas: its level
-/// and its join.
+/// The longest block with a join, among those that begin with the stored delta at index `begin` and have at most 2^most
+/// deltas: its level and its join.
 pub(crate) fn longest_made<L: Lattice>(
     kept: &VecDeque<BlockEnd<L>>,
     begin: usize,
@@ -199,7 +199,7 @@ impl<L: Lattice> BlockEnd<L> {
         Ok(())
     }
 
-    /// A copy. [`NoMemory`] is the only error.
+    /// A copy of the delta and its joins.
     pub(crate) fn copy(&self) -> Result<Self, NoMemory>
         ensures { IfOk result (λ copied. copied ≡ self.now) }
     {

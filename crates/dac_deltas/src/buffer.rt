@@ -21,7 +21,7 @@ pub const MAX_DELTAS: usize = 1 << MOST_LEVEL;
 /// number of deltas ever pushed, the least number that is stored, and the stored deltas, the oldest first.
 ///
 /// A buffer also stores the joins of aligned blocks of 2 to 256 deltas, at most 255 of them. A push makes those of the
-/// blocks that end with it, so that an interval takes at most 16 joins. A lazy buffer, for an owner that may never
+/// blocks that end with it, so that an interval takes at most 16 joins. A lazy buffer, for an owner that might never
 /// request an interval, makes none until [`Buffer::warm`] makes all, and then behaves like any other. A buffer also
 /// caches one interval until the next delta, so that peers that receive the same interval share it.
 #[derive(Drop)]

@@ -7,9 +7,9 @@ ghost use Rattle.dac_deltas.specs.Numbers.{NothingIsGreatest, RaisesAcknowledge}
 use dac_lattice::Bottom;
 
 /// A buffer stores the part of an append-only log from its base on. It begins as the empty log. A push of one delta or
-/// of several appends to the log, and moves the base to the newest 256. A trim moves only the base. An interval from
-/// the base on is the join of the log's deltas from its number on, which is the least value above each of them. An
-/// interval from below the base is `None`.
+/// of several appends to the log, and drops all but the newest 256. A trim moves only the base. An interval from the
+/// base on is the join of the log's deltas from its number on, which is the least value above each of them. An interval
+/// from below the base is `None`.
 pub fn buffers_keep_logs<L: Bottom>()
     ensures new { EmptyIsOfNothing L }
     ensures push { PushesAppend L }

@@ -23,8 +23,9 @@ use std::sync::Arc;
 /// Dots can arrive in any order, so a context need not be a version vector: it can contain the fourth dot of an origin
 /// without the third.
 ///
-/// Copies share their rows, so a copy costs a reference count. Up to 128 rows form one list, which changes in place
-/// unless another context shares it. More rows are split into shared parts, so that a change copies only one part.
+/// Copies share memory, so a copy only increments a reference count. The rows form one list, which a change first
+/// copies if another context shares it. A union of more than 128 rows splits them into shared parts, so that a change
+/// copies only one part.
 pub struct Context {
     alloc: Global,
     kept: Kept,
@@ -35,9 +36,9 @@ pub struct Context {
 enum Kept {
     /// No dots.
     Nothing,
-    /// A single part, of at most 128 rows unless `push_row` appended more.
+    /// All rows in one list.
     One(Arc<OriginRows, Global>),
-    /// Several parts.
+    /// Rows in several parts.
     Many(Arc<Parts, Global>),
 }
 
@@ -302,7 +303,7 @@ impl Context {
         ensures value { MatchOption result (length (rows_of self.now) ≤ i)
             (λ row. slice_get (rows_of self.now) i
             ≡ Some (record { origin = row.0; upto = row.1; further = row.2 })) }
-        // An index can be a `usize`.
+        // Each index fits a `usize`.
         ensures few { length (rows_of self.now) < 2 ^ 63 }
         // The rows describe the set exactly.
         ensures rows { AreRowsOf self.now (rows_of self.now) }

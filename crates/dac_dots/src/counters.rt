@@ -174,7 +174,7 @@ impl Counters {
         }
     }
 
-    /// The set of one counter. It takes no memory.
+    /// The set of one counter.
     pub(crate) fn one(alloc: Global, n: u64) -> Self
         ensures { result ≡ n ∷ [] }
     {
@@ -332,7 +332,7 @@ impl Counters {
         }
     }
 
-    /// The last counter before the first gap: 1 to this one are in the set, and it is 0 if 1 isn't.
+    /// The last counter before the first gap, or 0 if the set lacks 1.
     pub(crate) fn upto(&self) -> u64
         ensures { result ≡ reach_of self.now }
     {

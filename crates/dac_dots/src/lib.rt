@@ -1,12 +1,12 @@
 //! Causal contexts: the sets of dots that a replica has received.
 //!
 //! These are the causal contexts of delta-state CRDTs. Contracts treat a context as a finite set of dots and say
-//! nothing about its representation. They promise the laws of sets: its members, equality of sets with the same
+//! nothing about its representation. They promise the laws of sets: the members, equality of sets with the same
 //! members, and the next dot of an origin.
 //!
-//! A context is stored by origin, as spans of consecutive counters, so that calls cost time by the number of origins
-//! and gaps and not by that of dots. Only listing all dots, or the further counters of a row, takes time for each.
-//! Copies share memory, so a copy costs a reference count.
+//! A context is stored by origin, as spans of consecutive counters, so that the time of calls depends on the number of
+//! origins and gaps and not on that of dots. Only listing all dots, or the further counters of a row, takes time for
+//! each one. Copies share memory, so a copy only increments a reference count.
 //!
 //! Functions that don't return `Result<_, NoMemory>` allocate nothing. A public function that fails, only ever with
 //! [`NoMemory`], leaves its arguments unchanged.

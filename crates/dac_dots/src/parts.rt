@@ -183,7 +183,7 @@ impl Parts {
         ensures value { MatchOption result (length (rows_of self.now) ≤ i)
             (λ row. slice_get (rows_of self.now) i
             ≡ Some (record { origin = row.0; upto = row.1; further = row.2 })) }
-        // An index can be a `usize`.
+        // Each index fits a `usize`.
         ensures few { length (rows_of self.now) < 2 ^ 63 }
     {
         let mut left = i;

@@ -100,7 +100,7 @@ impl<'a> Further<'a> {
     }
 }
 
-/// An iterator over the further counters of an origin, in rising order.
+/// An iterator over the further counters of an origin, in ascending order.
 #[derive(Debug, Drop)]
 pub struct FurtherIter<'a> {
     further: Further<'a>,

@@ -285,7 +285,7 @@ impl OriginRows {
         ensures value { MatchOption result (length (rows_of self.now) ≤ i)
             (λ row. slice_get (rows_of self.now) i
             ≡ Some (record { origin = row.0; upto = row.1; further = row.2 })) }
-        // An index can be a `usize`.
+        // Each index fits a `usize`.
         ensures few { length (rows_of self.now) < 2 ^ 63 }
         // The rows describe the set exactly.
         ensures rows { AreRowsOf self.now (rows_of self.now) }

@@ -51,7 +51,7 @@ impl SharedContext {
         &self.context
     }
 
-    /// The same context, shared.
+    /// The same context, which both share.
     pub fn copy(&self) -> Result<Self, NoMemory>
         ensures { IfOk result (λ copied. copied ≡ self.now) }
     {

@@ -8,7 +8,7 @@ use std::alloc::Global;
 /// The greatest value received so far: ordered as its values are, with the maximum as join.
 #[derive(Clone, Copy, Debug)]
 pub struct Max<T> {
-    /// The greatest value seen.
+    /// The greatest value received.
     pub value: T,
 }
 

@@ -5,13 +5,14 @@ use crate::{Bottom, Lattice};
 use dac_origins::{MapKey, NoMemory};
 use std::alloc::Global;
 
-/// A two-valued lattice in which up is below down, so that once one replica sets it down, it is down at all that merge.
-/// It records that a node went down, or that a permission was withdrawn (up: permitted, down: not).
+/// A two-valued lattice in which up is below down, so that once one replica sets it down, it is down at every replica
+/// that merges it. It records that a node went down, that a permission was withdrawn, or that an incarnation is
+/// drained.
 #[derive(Clone, Copy, Debug, PartialEq, Eq, PartialOrd, Ord, Hash)]
 pub enum Flag {
-    /// Up, or permitted.
+    /// Up, permitted, or not drained.
     Up,
-    /// Down, or not permitted.
+    /// Down, not permitted, or drained.
     Down,
 }
 

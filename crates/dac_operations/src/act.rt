@@ -173,7 +173,7 @@ impl Act {
         }
     }
 
-    /// An equal act. [`NoMemory`] is the only error.
+    /// An equal act.
     pub fn copy(&self) -> Result<Self, NoMemory>
         ensures { IfOk result (λ copied. copied ≡ self.now) }
     {

@@ -94,7 +94,7 @@ impl Op {
         self.dot == other.dot && self.act.equal(&other.act)
     }
 
-    /// An equal operation. [`NoMemory`] is the only error.
+    /// An equal operation.
     pub fn copy(&self) -> Result<Self, NoMemory>
         ensures { IfOk result (λ copied. copied ≡ self.now) }
     {

@@ -1,7 +1,7 @@
 //! Dots, the names of operations, and the keys of maps and sets.
 //!
-//! The dot of an operation is the node, its incarnation, and a counter from 1. Contracts state everything over finite
-//! sets of dots: which dot an origin uses next, and whether a set is a version vector.
+//! The dot of an operation is the node, its incarnation, and a counter from 1. Contracts are about finite sets of dots,
+//! for which they define an origin's next dot and version vectors.
 //!
 //! Functions that don't return `Result<_, NoMemory>` allocate nothing.
 #![tactic(auto)]

@@ -77,7 +77,7 @@ impl<K: MapKey, S: DotStore> Counted<K, S> {
         let _parts = &self.parts;
     }
 
-    /// The same entries, with shared blocks.
+    /// The same entries, which share the blocks.
     fn copy(&self) -> Result<Self, NoMemory>
         ensures { IfOk result (λ copied. copied ≡ self.now) }
     {

@@ -27,8 +27,8 @@ use std::sync::Arc;
 /// The entries are stored in immutable blocks, and the last ones in a list after them. A join shares the blocks of its
 /// own side that it is known to leave unchanged.
 ///
-/// Copies share all entries, so a copy costs a reference count. Appending to shared entries first copies those in no
-/// block. An empty map needs no allocation.
+/// Copies share all entries, so a copy only increments a reference count. Appending to shared entries first copies
+/// those in no block. An empty map needs no allocation.
 #[derive(Drop)]
 pub struct DotMap<K: MapKey, S: DotStore> {
     alloc: Global,
@@ -135,7 +135,7 @@ impl<K: MapKey, S: DotStore> DotMap<K, S> {
         }
     }
 
-    /// Reads the entries in key order.
+    /// An iterator over the entries, in key order.
     pub fn entries(&self) -> Entries<'_, K, S>
         ensures { result ≡ self.now }
     {
@@ -154,7 +154,7 @@ impl<K: MapKey, S: DotStore> DotMap<K, S> {
     }
 }
 
-/// The single entry; its store has dots.
+/// The single entry, whose store must have dots.
 fn first_entry<K: MapKey, S: DotStore>(
     alloc: Global,
     key: K,

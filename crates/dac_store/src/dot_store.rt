@@ -38,11 +38,11 @@ pub trait DotStore: Drop {
     fn tells_invariant(&self)
         ensures { is_store self.now };
 
-    /// The store without dots. It takes no memory.
+    /// The store without dots.
     fn empty(alloc: Global) -> Self
         ensures { result ≡ nothing };
 
-    /// The allocator of its memory.
+    /// The allocator of the store's memory.
     fn allocator(&self) -> Global;
 
     /// An equal store. It can share immutable memory.

@@ -10,8 +10,8 @@
 //! are few. Maps store their entries in blocks, each with a filter of its dots, so that a join can share the blocks
 //! that it is known to leave unchanged. No contract mentions blocks: [`Entries`] iterates over the entries of a map.
 //!
-//! Functions that don't return `Result<_, NoMemory>` allocate nothing. A public function that fails with `NoMemory`
-//! leaves its borrowed arguments unchanged. That is the only error of such a function.
+//! Functions that don't return `Result<_, NoMemory>` allocate nothing. A public function that fails with `NoMemory`,
+//! its only error, leaves its borrowed arguments unchanged.
 #![tactic(auto)]
 
 pub use causal::Causal;

@@ -1,5 +1,5 @@
--- An operation's delta is below a value exactly if the order allows each standing write, and all dots it names are
--- known.
+-- A value is above an operation's delta exactly if it knows the dots that the operation names, and each of its standing
+-- writes is one that such a value can contain.
 use Rattle.std.proofs.Common.{◌≡◌, Bool, true, false, not, cond, ◌&&◌, ◌||◌, List, [], ◌∷◌, Option, None, Some, is_some, ◌↔◌, refl, sym, ap, subst, ◌∙◌, inl, inr}
 use Rattle.std.specs.Prelude.{T, unwrap_or}
 use Rattle.std.specs.declared.cmp.Ordering.{Ordering}
@@ -122,7 +122,7 @@ said_below (Some Up) g = (λ _. tt, λ _. refl)
 said_below (Some Down) Up = (λ e. absurd (false≢true e), λ h. absurd h)
 said_below (Some Down) Down = (λ _. tt, λ _. refl)
 
--- an allowed vote satisfies the order, if its dot is named
+-- a vote that a value above the delta can contain satisfies the order, if its dot is named
 may_stand : (same replaced : Bool) (said : Option Flag) (g : Flag) → (cond same (is_said_below said g) (not replaced) ≡ true) ↔ ((same || replaced) ≡ true → StandsBelow IsFlagBelow (cond same said None) (Some g))
 may_stand true replaced said g = (λ e _. (said_below said g).0 e, λ f. (said_below said g).1 (f refl))
 may_stand false true said g = (λ e. absurd (false≢true e), λ f. absurd (f refl))

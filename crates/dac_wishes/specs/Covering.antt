@@ -1,5 +1,5 @@
--- When the order allows a standing write above an operation's delta. If it allows all of them, the delta is below the
--- whole value.
+-- The standing writes that a value above an operation's delta can contain. A value that knows the operation's dots is
+-- above the delta exactly if it can contain all its standing writes.
 use Rattle.std.specs.Prelude.{Bool, true, false, not, List, Option, None, Some, if◌then◌else◌}
 use Rattle.std.specs.declared.cmp.Ordering.{Ordering}
 use Rattle.std.specs.List.{list_all}
@@ -50,12 +50,12 @@ is_said_below (Some Down) Up = false
 is_said_below (Some Down) Down = true
 
 module _ {K : Type 0} (R : K → K → Ordering) (dot : Dot) (vote : Option (K × Flag)) (over : List Dot) where
-  -- The standing vote is allowed: it is the operation's own, with a flag at least the operation's, or isn't replaced by
-  -- it.
+  -- A value above the delta can contain the vote: it is the operation's own, with a flag at least the operation's, or
+  -- isn't replaced by it.
   abbrev pub lets_stand : K → Dot × Flag → Bool
   lets_stand key p = if same_dot p.0 dot then is_said_below (says_of R key vote) p.1 else not (has_key dot_cmp over p.0)
 
-  -- each standing vote at each key is allowed
+  -- a value above the delta can contain each vote at each key
   abbrev pub let_stand : List (K × DotFlags) → Bool
   let_stand m = list_all (λ (e : K × DotFlags). list_all (lets_stand e.0) e.1) m
 
@@ -67,10 +67,10 @@ is_wish_of None key = false
 is_wish_of (Some k) key = same_key key k
 
 module _ (dot : Dot) (start : Option Key) (over : List Dot) where
-  -- The standing wish is allowed: it is the operation's own, or isn't replaced by it.
+  -- A value above the delta can contain the wish: it is the operation's own, or isn't replaced by it.
   abbrev pub lets_wish : Key → Dot → Bool
   lets_wish key d = if same_dot d dot then is_wish_of start key else not (has_key dot_cmp over d)
 
-  -- each standing wish at each key is allowed
+  -- a value above the delta can contain each wish at each key
   abbrev pub let_wishes : List (Key × Dots) → Bool
   let_wishes m = list_all (λ (e : Key × Dots). list_all (lets_wish e.0) (in_order e.1)) m

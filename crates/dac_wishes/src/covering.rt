@@ -65,7 +65,7 @@ impl Wishes {
     }
 }
 
-/// A permit as a vote.
+/// The vote of a permit.
 fn permit_vote(permit: Option<(Key, bool)>) -> Option<(Key, Flag)>
     ensures { (over : List DotValue) → result ≡ permits_by (permit_act permit over) }
 {
@@ -75,7 +75,7 @@ fn permit_vote(permit: Option<(Key, bool)>) -> Option<(Key, Flag)>
     }
 }
 
-/// A drain as a vote.
+/// The vote of a drain.
 fn drain_vote(drain: Option<(Origin, bool)>) -> Option<(Origin, Flag)>
     ensures { (over : List DotValue) → result ≡ drains_by (drain_act drain over) }
 {
@@ -113,7 +113,7 @@ fn names(dots: &[Dot], dot: Dot) -> bool
     dots.iter().any(|named| is_same(dot, *named))
 }
 
-/// Whether the order allows each standing vote at each key above the operation's delta.
+/// Whether a value above the operation's delta can contain all these standing votes.
 fn let_stand<K: MapKey>(
     dot: Dot,
     vote: Option<(K, Flag)>,
@@ -131,7 +131,7 @@ fn let_stand<K: MapKey>(
     true
 }
 
-/// Whether the order allows each standing vote at a key above the operation's delta.
+/// Whether a value above the operation's delta can contain all these standing votes at a key.
 fn let_stand_at<K: MapKey>(
     dot: Dot,
     vote: Option<(K, Flag)>,
@@ -146,8 +146,8 @@ fn let_stand_at<K: MapKey>(
         .all(|stands| lets_stand(dot, vote, over, key, stands))
 }
 
-/// Whether the order allows a standing vote at a key above the operation's delta: either it is the operation's own,
-/// with a flag at least the operation's, or the operation doesn't replace it.
+/// Whether a value above the operation's delta can contain this standing vote at a key: it is the operation's own, with
+/// a flag at least the operation's, or the operation doesn't replace it.
 fn lets_stand<K: MapKey>(
     dot: Dot,
     vote: Option<(K, Flag)>,
@@ -190,7 +190,7 @@ fn is_said_below(said: Option<Flag>, stands: Flag) -> bool
     }
 }
 
-/// Whether the order allows each standing wish at each key above the operation's delta.
+/// Whether a value above the operation's delta can contain all these standing wishes.
 fn let_wishes(dot: Dot, start: Option<Key>, over: &[Dot], entries: Entries<'_, Key, DotSet>) -> bool
     ensures { result ≡ let_wishes dot start over.now entries.entry }
 {
@@ -203,7 +203,7 @@ fn let_wishes(dot: Dot, start: Option<Key>, over: &[Dot], entries: Entries<'_, K
     true
 }
 
-/// Whether the order allows each standing wish at a key above the operation's delta.
+/// Whether a value above the operation's delta can contain all these standing wishes at a key.
 fn let_wishes_at(dot: Dot, start: Option<Key>, over: &[Dot], key: Key, wishes: &[Dot]) -> bool
     ensures { result ≡ list_all (lets_wish dot start over.now key) wishes.now }
 {
@@ -212,7 +212,7 @@ fn let_wishes_at(dot: Dot, start: Option<Key>, over: &[Dot], key: Key, wishes: &
         .all(|stands| lets_wish(dot, start, over, key, *stands))
 }
 
-/// Whether the order allows a standing wish at a key above the operation's delta: either it is the operation's own, or
+/// Whether a value above the operation's delta can contain this standing wish at a key: it is the operation's own, or
 /// the operation doesn't replace it.
 fn lets_wish(dot: Dot, start: Option<Key>, over: &[Dot], key: Key, stands: Dot) -> bool
     ensures { result ≡ lets_wish dot start over.now key stands }

@@ -48,7 +48,7 @@ grows v (n ∷ ns) = elim (nat_eq n (v + 1)) as (λ b. nat_eq n (v + 1) ≡ b �
   | false ↦ λ e. grows v ns
 ] refl
 
--- each number from v to the one reached is among the counters
+-- each number after v up to the one reached is among the counters
 pub on_the_way : (v m : ℕ) (ns : List ℕ) → v < m → m ≤ reach_from v ns → has_key nat_cmp ns m ≡ true
 on_the_way v m [] p q = absurd (omega arith)
 on_the_way v m (n ∷ ns) p q = elim (nat_eq n (v + 1)) as (λ b. nat_eq n (v + 1) ≡ b → m ≤ reach_from (cond b n v) ns → has_key nat_cmp (n ∷ ns) m ≡ true) [

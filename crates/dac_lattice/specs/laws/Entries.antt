@@ -82,7 +82,7 @@ module _ {K X : Type 0} {R : K → K → Ordering} (o : IsTotalOrder R) (exact :
     sorted_right [] h = tt
     sorted_right (y ∷ ys) h = sorted_keep y.0 _ _ (below_right y.0 ys (first _ _ h)) (sorted_right ys (second _ _ h))
 
-    -- `rest` keeps the order, and preserves lower bounds of both lists
+    -- x is below xs, and a merge with xs keeps the order
     record Follows (x : K × X) (xs : List (K × X)) : Type 0 where
       above : T (below_all R x.0 xs)
       sorted : (ys : List (K × X)) → T (is_sorted R ys) → T (is_sorted R (merge_entries R f xs ys))
