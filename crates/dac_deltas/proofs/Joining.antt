@@ -107,7 +107,7 @@ module _ {L : Type 0} (is_value : L → Type 0) (join : L → L → L) where
       subst (StandsFor is_value join (join_at e level)) (ap (λ n. drop n ds) begins ∙ (ap (λ n. drop begin (take n (deltas_of es))) (sym ends) ∙ drop-take begin (2 ^ level) (deltas_of es))) had
 
   -- ---- making joins
-  --  a block has the deltas of its halves
+  -- a block has the deltas of its halves
   two_halves : (b p : ℕ) (ds : List L) → take p (drop b ds) ++ take p (drop (b + p) ds) ≡ drop b (take (b + (p + p)) ds)
   two_halves b p ds =
       ap (λ xs. take p (drop b ds) ++ take p xs) (sym (drop-drop p b ds))
@@ -183,7 +183,7 @@ module _ {L : Type 0} (is_value : L → Type 0) (join : L → L → L) where
       ∙ ap (fold join joined) (take-append-drop m rest)))
 
   -- ---- several deltas
-  --  the deltas that remain to be added after the stored ones
+  -- the deltas that remain to be added after the stored ones
   pub record AreAdded (old : List (L × List L)) (deltas : List L) (kept : List (L × List L)) (left : List L) : Type 0 where
     pub joined : AreJoined is_value join kept
     pub added : deltas_of kept ++ left ≡ deltas_of old ++ deltas
@@ -205,7 +205,7 @@ module _ {L : Type 0} (is_value : L → Type 0) (join : L → L → L) where
       }
 
   -- ---- intervals
-  --  of the deltas from a on, those before the number are joined
+  -- of the deltas from a on, those before the number are joined
   pub record IsJoining (bottom : L) (base a count number : ℕ) (ds : List L) (joined : L) : Type 0 where
     pub from : a ≤ number
     pub to : number ≤ count

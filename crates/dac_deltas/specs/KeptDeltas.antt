@@ -28,7 +28,7 @@ abbrev pub newest : {L : Type 0} → ℕ → List L → KeptDeltas L
 newest count ds = record { count = count; base = count - length ds; deltas = ds }
 
 -- ---- the effects of calls
---  the empty buffer
+-- the empty buffer
 abbrev pub empty : {L : Type 0} → KeptDeltas L
 empty = record { count = 0; base = 0; deltas = [] }
 
@@ -54,7 +54,7 @@ abbrev pub interval_of : {L : Type 0} → L → (L → L → L) → KeptDeltas L
 interval_of bottom join k a = cond (nat_lt a k.base) None (Some (fold join bottom (numbered_from k a)))
 
 -- ---- joins
---  the value is the least that is above each of the deltas
+-- the value is the least that is above each of the deltas
 pub record IsJoinOf {L : Type 0} (is_value : L → Type 0) (below : L → L → Type 0) (ds : List L)
     (joined : L) : Type 0 where
   pub value : is_value joined

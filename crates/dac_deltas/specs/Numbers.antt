@@ -18,7 +18,7 @@ abbrev pub raised : Numbers → Origin → ℕ → Numbers
 raised m origin n = map.insert m origin (greater (map.get m origin) n)
 
 -- ---- the table, in terms of all acknowledgements
---  the origin acknowledged the number, according to the list of all acknowledgements
+-- the origin acknowledged the number, according to the list of all acknowledgements
 abbrev pub HasAcknowledged : List (Origin × ℕ) → Origin → ℕ → Type 0
 HasAcknowledged [] origin n = ⊥
 HasAcknowledged (r ∷ rs) origin n = ((r.0 ≡ origin) × (r.1 ≡ n)) ⊎ HasAcknowledged rs origin n

@@ -678,7 +678,7 @@ module _ {Z : Type 0} where
   pub single_has : (ps : List (Arc Dots Z)) (part : Arc Dots Z) → ps ≡ part ∷ [] → (q : Dot) → set.contains (dots_in (all_rows ps)) q ≡ set.contains (arc_value part) q
   single_has ps part e q = ap (λ (l : List (Arc Dots Z)). set.contains (dots_in (all_rows l)) q) e ∙ contains-dots_in (all_rows (part ∷ [])) q ∙ ap (λ (l : List Row). any_row l q) (append-nil (rows_in part)) ∙ any_of part q
 
-  -- if no part remains at the place, the set is empty
+  -- if no part remains at the index, the set is empty
   pub nothing_there : (ps front rest : List (Arc Dots Z)) (dots : Dots) (o : Origin) (i : ℕ) → dots_in (all_rows ps) ≡ dots → IsPlaceIn ps o i → ps ≡ front ++ rest → length front ≡ i → length rest ≡ 0 → (q : Dot) → set.contains dots q ≡ false
   nothing_there ps front rest dots o i view at split short none q =
       let all : length ps ≡ length front + length rest = ap (λ (l : List (Arc Dots Z)). length l) split ∙ length-append front rest in

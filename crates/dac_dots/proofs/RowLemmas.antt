@@ -1,4 +1,4 @@
--- The counters of one origin: merging up to the first gap, inserting, and uniting.
+-- The counters of one origin: extending a version-vector entry up to the first gap, inserting, and uniting.
 use Rattle.std.proofs.Common.{◌≡◌, ◌↔◌, ℕ, ◌+◌, ◌<◌, ◌≤◌, inl, inr, Bool, true, false, ◌||◌, ◌&&◌, nat_le, nat_lt, nat_eq, IsTrue, List, [], ◌∷◌, length, refl, sym, ap, ◌∙◌, subst, arith, take, get_or}
 use Rattle.std.specs.Ordering.{nat_cmp, eq_by_cmp}
 use Rattle.std.proofs.lemmas.Bool.{and_parts, and_from, or_cases, or_from, or_left, or_right, false≢true, cases_lt, leb-true, le-leb, ltb-true, eqb-true}
@@ -18,7 +18,7 @@ use Rattle.dac_origins.specs.declared.dot.Origin.{Origin}
 use Rattle.dac_dots.proofs.PlaceLemmas.{some_from}
 use Rattle.dac_dots.proofs.SpanLemmas.{reaches}
 
--- ---- merged up to the first gap
+-- ---- extended up to the first gap
 
 beyond : (v w n : ℕ) (k : Bool) → v ≤ w → ((nat_lt w n || nat_eq n 0) && ((nat_le 1 n && nat_le n v) || k)) ≡ ((nat_lt w n || nat_eq n 0) && k)
 beyond v w n k p = grind (arith, nat_tests)
@@ -27,7 +27,7 @@ module _ (o : Origin) (v : ℕ) (ns : List ℕ) where
   abbrev pub settled : Row
   settled = record { origin = o; upto = reach_from v ns; further = further_of (reach_from v ns) ns }
 
-  -- the row contains 1 to v and these counters
+  -- the extended row contains 1 to v and these counters
   pub settled_has : (n : ℕ) → has_counter settled n ≡ ((nat_le 1 n && nat_le n v) || has_key nat_cmp ns n)
   settled_has n =
       let w = reach_from v ns in

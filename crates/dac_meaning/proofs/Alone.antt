@@ -117,7 +117,7 @@ wish_wishes key (Stop k over) = refl
 wish_wishes key (Drain n i v over) = refl
 wish_wishes key (Claim app term how from) = refl
 
--- b: the act replaces its own dot; k: it wishes the key; e: it has the dot; r: it replaces the dot
+-- b: the act replaces its own dot; k: it starts the key; e: it has the dot; r: it replaces the dot
 start_alone : (b k e r : Bool) → (e ≡ true → r ≡ b) → cond b false (k && e) ≡ ((k && e) && not r)
 start_alone true true true r h = sym (ap not (h refl))
 start_alone true true false r h = refl

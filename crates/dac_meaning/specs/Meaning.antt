@@ -89,8 +89,8 @@ abbrev pub is_same : Bool → Bool → Bool
 is_same true v = v
 is_same false v = not v
 
--- The flag written: Down if the value for Down is, otherwise Up if the other is. Operations without two of the same dot
--- don't write both.
+-- The flag written: Down if the value for Down is written, otherwise Up if the other value is. Operations with distinct
+-- dots don't write both.
 abbrev pub flag_said : Bool → Bool → Option Flag
 flag_said true b = Some Down
 flag_said false true = Some Up

@@ -110,13 +110,13 @@ module _ {E B : Type 0} (value : B → List E) where
 
 -- ---- a walk through blocks: the goal for the remaining ones
 
--- a property of a list that is equivalent to that of its two parts
+-- the property holds of a list exactly if it holds of its two parts
 pub record Splits {E : Type 0} (P : List E → Type 0) : Type 0 where
   pub both : (xs ys : List E) → P xs → P ys → P (xs ++ ys)
   pub left : (xs ys : List E) → P (xs ++ ys) → P xs
   pub right : (xs ys : List E) → P (xs ++ ys) → P ys
 
--- the property of the whole is equivalent to that of the rest
+-- the property holds of the whole exactly if it holds of the rest
 pub record IsLeft {E : Type 0} (P : List E → Type 0) (now whole : List E) : Type 0 where
   pub up : P now → P whole
   pub down : P whole → P now

@@ -39,7 +39,7 @@ module _ {K T : Type 0} {R : K → K → Ordering} {cmp : T → T → Ordering} 
   are_greatest [] = (greatest_piece keys exact_keys o exact said {fits = λ _ _. Unit {0}}).start
   are_greatest (p ∷ os) = one_more keys exact_keys o exact said (pairs os) (p.dot, p.act) (greatest_of cmp said os) (are_greatest os)
 
-  -- this map is unique
+  -- the map of greatest values is unique
   pub one_greatest : (os : List Operation) (m n : map.FinMap R T) → AreGreatest cmp said (pairs os) m → AreGreatest cmp said (pairs os) n → m ≡ n
   one_greatest os m n g h = (greatest_piece keys exact_keys o exact said {fits = λ _ _. Unit {0}}).one (pairs os) m n tt tt g h
 

@@ -32,7 +32,7 @@ module _ {K : Type 0} {R : K → K → Ordering} (o : IsTotalOrder R) where
       let k = get_or ks i e in
       sym (has_is ks s is k) ∙ has_at ks k i e p (ap is_eq (tied_itself o k))
 
-  -- a sorted list is as long as its set is large
+  -- the length of a sorted list is the size of its set
   pub len_rising : (ks : List K) → IsRising R ks → length ks ≡ set.len (set.from_list {R = R} ks)
   len_rising [] h = sym (set.len-empty R)
   len_rising (k ∷ ks) h =

@@ -9,7 +9,7 @@ use Rattle.dac_wishes.specs.Writes.{Write}
 use Rattle.dac_wishes.specs.laws.Votes.{known-join_votes, same_votes, votes_laws, no_votes_value, no_votes_least}
 use Rattle.dac_wishes.specs.PermissionsValue.{ArePermissions, IsPermissionsBelow, PermissionsValue, join_permissions, no_permissions}
 
--- ---- laws of joins
+-- ---- the laws
 
 pub known-join : (x y : PermissionsValue) → (join_permissions x y).known ≡ set.union x.known y.known
 known-join = known-join_votes key_cmp
