@@ -8,8 +8,8 @@
 //! origins and gaps and not on that of dots. Only listing all dots, or the further counters of a row, takes time for
 //! each one. Copies share memory, so a copy only increments a reference count.
 //!
-//! Functions that don't return `Result<_, NoMemory>` allocate nothing. A public function that fails, only ever with
-//! [`NoMemory`], leaves its arguments unchanged.
+//! Public functions that don't return `Result<_, NoMemory>` allocate nothing. One that fails, only ever with
+//! [`NoMemory`], leaves its borrowed arguments unchanged.
 #![tactic(auto)]
 
 pub use context::Context;
