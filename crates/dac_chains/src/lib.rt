@@ -7,7 +7,7 @@
 //! finite map, and define it from the set of operations.
 //!
 //! Functions that don't return `Result<_, NoMemory>` allocate nothing. `NoMemory` is the only error, and leaves
-//! arguments unchanged.
+//! borrowed arguments unchanged.
 #![tactic(auto)]
 
 pub use claims::{Claim, ClaimAct, Claims, How};

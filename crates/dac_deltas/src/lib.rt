@@ -9,7 +9,7 @@
 //! is the rest of an append-only log, and that an interval is the join of the log's deltas.
 //!
 //! Functions that don't return `Result<_, NoMemory>` allocate nothing. A public function that fails, only ever with
-//! `NoMemory`, leaves its arguments unchanged as contracts see them.
+//! `NoMemory`, leaves its borrowed arguments unchanged as contracts see them.
 #![tactic(auto)]
 
 pub use acks::Acks;

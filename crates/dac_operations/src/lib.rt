@@ -6,7 +6,7 @@
 //! one part of an operation, which a method of [`Op`] returns.
 //!
 //! Functions that don't return `Result<_, NoMemory>` allocate nothing. In those that do, `NoMemory` is the only error,
-//! and leaves arguments unchanged.
+//! and leaves borrowed arguments unchanged.
 #![tactic(auto)]
 
 pub use act::Act;

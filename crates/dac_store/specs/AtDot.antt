@@ -16,6 +16,6 @@ join_at join c d (Some v) None = if d then None else Some v
 join_at join c d None (Some w) = if c then None else Some w
 join_at join c d (Some v) (Some w) = Some (join v w)
 
--- the value, if any, has its type's invariant, and then the context contains the dot
+-- if there is a value, it has its type's invariant, and the context contains the dot
 abbrev pub Under : {V : Type 0} → (V → Type 0) → Bool → Option V → Type 0
 Under is_value c v = IsOptionOf is_value v × (is_some v ≡ true → c ≡ true)

@@ -10,8 +10,8 @@
 //! are few. Maps store their entries in blocks, each with a filter of its dots, so that a join can share the blocks
 //! that it is known to leave unchanged. No contract mentions blocks: [`Entries`] iterates over the entries of a map.
 //!
-//! Functions that don't return `Result<_, NoMemory>` allocate nothing. A public function that fails with `NoMemory`,
-//! its only error, leaves its borrowed arguments unchanged.
+//! Public functions that don't return `Result<_, NoMemory>` allocate nothing. One that does fails only with `NoMemory`,
+//! and then leaves its borrowed arguments unchanged.
 #![tactic(auto)]
 
 pub use causal::Causal;
