@@ -2,8 +2,8 @@
 //!
 //! A join is commutative, associative and idempotent, so that replicas that merge the same states agree, whatever their
 //! order and repetition. The trait [`Lattice`] states the laws. They are proved for the maximum ([`Max`]), a flag that
-//! goes down ([`Flag`]), pairs ([`Pair`]), and maps to a lattice ([`MapOf`]). [`merging`] merges two sorted lists of
-//! entries, for every map stored so.
+//! goes down ([`Flag`]), pairs ([`Pair`]), and maps to a lattice ([`MapOf`]). [`merging`] merges maps stored as sorted
+//! lists of entries.
 //!
 //! A [`Piece`] is a lattice to which each operation adds a delta, with a definition of the meaning of a set of
 //! operations. Its law is that the joined deltas have that meaning.

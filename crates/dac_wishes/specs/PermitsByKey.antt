@@ -1,4 +1,4 @@
--- Permits by key: the keys with standing permits, each with their dots and values. They are stored and read so.
+-- Permits by key, their stored form: the keys with standing permits, each with their dots and values.
 use Rattle.std.specs.Prelude.{List}
 use Rattle.dac_wishes.specs.declared.key.Key.{Key}
 use Rattle.dac_wishes.specs.Keys.{key_cmp}

@@ -1,4 +1,4 @@
--- Start wishes by key: the keys with standing wishes, each with their dots. They are stored and read so.
+-- Start wishes by key, their stored form: the keys with standing wishes, each with their dots.
 use Rattle.std.specs.Prelude.{List}
 use Rattle.std.specs.FinSet as set
 use Rattle.dac_origins.specs.Dots.{Dots}

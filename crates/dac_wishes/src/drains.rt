@@ -49,7 +49,7 @@ impl Drains {
     ghost use Rattle.std.specs.FinMap as map;
     ghost use Rattle.dac_wishes.specs.StoredDrains.{drains_of, drains_by_origin};
 
-    /// The drains stored so: for each origin its drains, by their dots.
+    /// The drains of a stored form: for each origin its drains, by their dots.
     pub fn new(causal: Causal<DotMap<Origin, DotFun<Flag>>>) -> Self
         ensures { result ≡ drains_of causal }
     {

@@ -50,7 +50,7 @@ impl Permissions {
     ghost use Rattle.dac_wishes.specs.StoredPermits.{permissions_of};
     ghost use Rattle.dac_wishes.specs.PermitsByKey.{permits_by_key};
 
-    /// The permissions stored so: for each key its permits, by their dots.
+    /// The permissions of a stored form: for each key its permits, by their dots.
     pub fn new(causal: Causal<DotMap<Key, DotFun<Flag>>>) -> Self
         ensures { result ≡ permissions_of causal }
     {

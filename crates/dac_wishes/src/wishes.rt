@@ -48,7 +48,7 @@ impl Wishes {
     ghost use Rattle.dac_wishes.specs.StoredWishes.{wishes_of};
     ghost use Rattle.dac_wishes.specs.StartsByKey.{starts_by_key};
 
-    /// The wishes stored so: for each key the dots of its starts.
+    /// The wishes of a stored form: for each key the dots of its starts.
     pub fn new(causal: Causal<DotMap<Key, DotSet>>) -> Self
         ensures { result ≡ wishes_of causal }
     {
