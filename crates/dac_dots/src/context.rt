@@ -24,8 +24,8 @@ use std::sync::Arc;
 /// without the third.
 ///
 /// Copies share memory, so a copy only increments a reference count. The rows form one list, which a change first
-/// copies if another context shares it. A union of more than 128 rows splits them into shared parts, so that a change
-/// copies only one part.
+/// copies if another context shares it. A union of more than 128 rows stores them in shared parts, so that a change
+/// copies only one part, and splits it in two if it has more than 128 rows.
 pub struct Context {
     alloc: Global,
     kept: Kept,
@@ -38,7 +38,7 @@ enum Kept {
     Nothing,
     /// All rows in one list.
     One(Arc<OriginRows, Global>),
-    /// Rows in several parts.
+    /// Rows in shared parts.
     Many(Arc<Parts, Global>),
 }
 
@@ -251,7 +251,7 @@ impl Context {
         }
     }
 
-    /// Whether the set has at most `most` dots. It examines at most that many origins.
+    /// Whether the set has at most `most` dots. Its time grows with `most`, not with the number of origins.
     pub fn has_at_most(&self, most: usize) -> bool
         ensures { IsTrue result ↔ (set.len self.now ≤ most) }
     {

@@ -15,7 +15,7 @@ use std::alloc::Global;
 use std::marker::Model;
 use std::sync::Arc;
 
-/// The greatest number of rows of a part after an insert; a part with more is split in two.
+/// A changed part with more rows than this is split in two.
 pub(crate) const MOST: usize = 128;
 
 /// The rows of all parts are fewer than this, so that each has an index.
@@ -153,7 +153,7 @@ impl Parts {
         len
     }
 
-    /// Whether the set has at most `most` dots. It examines at most that many origins.
+    /// Whether the set has at most `most` dots. Its time grows with `most`, not with the number of origins.
     pub(crate) fn has_at_most(&self, most: usize) -> bool
         ensures { IsTrue result ↔ (set.len self.now ≤ most) }
     {

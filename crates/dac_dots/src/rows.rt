@@ -231,7 +231,7 @@ impl OriginRows {
         len
     }
 
-    /// Whether the set has at most `most` dots. It examines at most that many origins.
+    /// Whether the set has at most `most` dots. It examines at most `most` origins.
     pub(crate) fn has_at_most(&self, most: usize) -> bool
         ensures { IsTrue result ↔ (set.len self.now ≤ most) }
     {

@@ -17,7 +17,8 @@ const MOST_LOOKED_UP: usize = 16;
 /// A dot store paired with its causal context, which contains all its dots. Ordered by the contexts, and by the stores
 /// given the contexts.
 ///
-/// A join that doesn't change the store of one side copies that store. Values with equal contexts can share one.
+/// A join copies one side's store if that is known to stay unchanged, because the other's is empty and has a small
+/// context. Values with equal contexts can share one.
 #[derive(Drop)]
 pub struct Causal<S: DotStore> {
     store: S,

@@ -21,7 +21,7 @@ use std::sync::Arc;
 /// After a join, fewer entries than this are in no block.
 const MOST: usize = 24;
 
-/// The least size of a block that a join makes, unless no entry follows.
+/// The least size of the blocks that a join makes.
 const LEAST: usize = 12;
 
 /// Entries in blocks, and those after them. Contracts treat all entries as one list.
