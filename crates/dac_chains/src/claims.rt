@@ -8,7 +8,7 @@ use dac_lattice::{Bottom, Dot, Lattice, MapKey, MapOf, Max, Origin, Piece};
 use std::alloc::Global;
 use std::marker::Model;
 
-/// How an application came to the node that claims it. The ways are ordered as they stand here.
+/// How an application came to the node that claims it. Ordered as declared here.
 #[derive(Clone, Copy, Debug, PartialEq, Eq, PartialOrd, Ord, Hash)]
 pub enum How {
     /// It was started, or moved by a permission.
@@ -19,18 +19,18 @@ pub enum How {
     Takeover,
 }
 
-/// That an incarnation of a node runs an application.
+/// A record that an incarnation of a node runs an application.
 ///
-/// Claims are ordered by term, and then by the node and the incarnation that claims. Then comes how, and last the
-/// node that it was taken from, none first. Later claims have greater terms. Nodes that were out of touch may make
-/// claims of one term: between those the order of the names decides.
+/// Claims are ordered by term, then by the claiming node and its incarnation, then by how it came there, and last by
+/// the previous node, none first. A later claim has a greater term. Nodes separated by a network partition can make
+/// claims with the same term: between those the order of the node names decides.
 #[derive(Clone, Copy, Debug, PartialEq, Eq, PartialOrd, Ord, Hash)]
 pub struct Claim {
-    /// Which claim of the application it was, from 1.
+    /// The term (epoch) of the claim among those of the application, from 1.
     pub term: u64,
-    /// Who claims it.
+    /// The incarnation that claims the application.
     pub origin: Origin,
-    /// How it came there.
+    /// How the application came there.
     pub how: How,
     /// The node that it was taken from, unless it was started or moved.
     pub from: Option<NodeId>,
@@ -43,12 +43,12 @@ impl MapKey for Claim {
     ghost exact = { exact_claims ⟦<How as Ord>⟧.cmp exact_derived };
 }
 
-/// What an operation does to claims.
+/// The part of an operation that concerns claims.
 #[derive(Clone, Copy, Debug, PartialEq, Eq)]
 pub enum ClaimAct {
-    /// Its issuer claims an application.
+    /// The issuer claims an application.
     Claim {
-        /// The application.
+        /// The application claimed.
         app: AppId,
         /// The term of the claim.
         term: u64,
@@ -57,17 +57,17 @@ pub enum ClaimAct {
         /// The node that it was taken from, unless it was started or moved.
         from: Option<NodeId>,
     },
-    /// Nothing.
+    /// Concerns no claim.
     Other,
 }
 
-/// For each application that was claimed, its greatest claim. Contracts see it as a finite map from
-/// applications to claims.
+/// The greatest claim of each application that was claimed. Contracts treat it as a finite map from applications to
+/// claims.
 pub struct Claims {
     claims: MapOf<AppId, Max<Claim>>,
 }
 
-/// Written out: a drop is one call for a proof, wherever it stands.
+/// Explicit, so that a proof treats each drop as one call.
 impl Drop for Claims {
     fn drop(self) {
         let Claims { claims: _claims } = self;
@@ -90,7 +90,7 @@ impl Model for Claims {
 }
 
 impl Claims {
-    /// One application has this claim, and no other is claimed. [`NoMemory`] is the only error.
+    /// A single claim.
     pub fn one(alloc: Global, app: AppId, claim: Claim) -> Result<Self, NoMemory>
         ensures { IfOk result (λ claims. claims ≡ map.insert map.empty app claim) }
     {

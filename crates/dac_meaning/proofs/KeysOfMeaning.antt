@@ -1,4 +1,4 @@
--- What is wished and permitted in a meaning, in terms of the operations.
+-- The wished and permitted keys of a meaning, in terms of the operations.
 use Rattle.std.proofs.Common.{◌≡◌, Bool, true, false, List, Option, None, Some, is_some, refl, sym, ap, subst, ◌∙◌, inl, inr}
 use Rattle.std.specs.FinMap as map
 use Rattle.std.proofs.lemmas.Bool.{false≢true}
@@ -25,13 +25,13 @@ wished_have_starts os key = (
 )
 
 module _ (os : List Operation) (agree : DotsDetermine os) (key : Key) where
-  -- what stands is said by an operation that stands
+  -- a standing permit was written by an operation that stands
   standing_says : (d : Dot) (f : Flag) → map.get (meaning_of os).permits (write key d) ≡ Some f → StandsSaying key (says_true f) os
   standing_says d f h =
       let p = (permits_are_unreplaced os agree (write key d) f).0 h in
       (p.0.0, (p.0.1.0, (p.0.1.1.1, subst (λ d. Stands d os) (sym p.0.1.1.0) p.1)))
 
-  -- what an operation says that stands stands
+  -- the permit of an operation that stands is a standing permit
   says_standing : (f : Flag) (s : StandsSaying key (says_true f) os) → map.get (meaning_of os).permits (write key s.0.dot) ≡ Some f
   says_standing f s = (permits_are_unreplaced os agree (write key s.0.dot) f).1 ((s.0, (s.1.0, (refl, s.1.1.0))), s.1.1.1)
 

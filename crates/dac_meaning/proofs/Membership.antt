@@ -1,4 +1,4 @@
--- Meanings in terms of the operations.
+-- Meanings, in terms of the operations.
 use Rattle.std.proofs.Common.{◌≡◌, ◌≤◌, ◌<◌, ℕ, Bool, true, false, not, cond, List, Option, Some, None, is_some, unwrap_or, refl, sym, ap, subst, ◌∙◌, inl, inr, arith}
 use Rattle.std.specs.List.{list_any}
 use Rattle.std.specs.declared.cmp.Ordering.{Ordering}
@@ -69,9 +69,9 @@ known_are_named os d = (
   λ f. known-meaning os d ∙ finds (names d) os f.0 f.1.0 (names_if d f.0 f.1.1),
 )
 
--- ---- what stands
+-- ---- standing dots
 
--- what isn't replaced stands
+-- a dot that isn't replaced stands
 stands_of : (d : Dot) (os : List Operation) → is_replaced d os ≡ false → Stands d os
 stands_of d os n o h = false_from_ne_true (replaces d o) (λ t. false≢true (sym n ∙ finds (replaces d) os o h t))
 
@@ -142,7 +142,7 @@ module _ {K : Type 0} {R : K → K → Ordering} (total : IsTotalOrder R) (exact
   of_vote : (w : KeyedWrite K) (v : Bool) (o : Operation) → is_vote R vote w v o ≡ true → IsVote vote w v o
   of_vote w v o t = let parts = and_parts (vote_says R w.key v (vote o.act)) (has_dot w.dot o) t in (dot_of w.dot o parts.1, told_is w.key v (vote o.act) parts.0)
 
-  -- what is said is said by an operation
+  -- if there is a flag, an operation wrote it
   said_there : (w : KeyedWrite K) (os : List Operation) (f : Flag) → vote_said R vote down w os ≡ Some f → list_any (is_vote R vote w (value_of down f)) os ≡ true
   said_there w os f h = there (list_any (is_vote R vote w down) os) (list_any (is_vote R vote w (not down)) os) refl refl f h
     where
@@ -151,7 +151,7 @@ module _ {K : Type 0} {R : K → K → Ordering} (total : IsTotalOrder R) (exact
       there false true p q f h = ap (λ (o : Option Flag). list_any (is_vote R vote w (value_of down (unwrap_or o IsUp))) os) (sym h) ∙ q
       there false false p q f h = absurd (false≢true (ap is_some h))
 
-  -- operations that have their dots alone don't say both
+  -- operations with distinct dots don't write both values
   not_both : (w : KeyedWrite K) (os : List Operation) → DotsDetermine os → list_any (is_vote R vote w (not down)) os ≡ true → list_any (is_vote R vote w down) os ≡ false
   not_both w os agree t = false_from_ne_true (list_any (is_vote R vote w down) os) (λ n.
       let p = found (is_vote R vote w (not down)) os t in
@@ -165,12 +165,12 @@ module _ {K : Type 0} {R : K → K → Ordering} (total : IsTotalOrder R) (exact
       value_in None = false
       value_in (Some u) = u.1
 
-  -- what an operation says is said
+  -- the flag of a vote is that of an operation that writes it
   there_said : (w : KeyedWrite K) (os : List Operation) → DotsDetermine os → (f : Flag) → list_any (is_vote R vote w (value_of down f)) os ≡ true → vote_said R vote down w os ≡ Some f
   there_said w os agree IsDown t = ap (λ b. flag_said b (list_any (is_vote R vote w (not down)) os)) t
   there_said w os agree IsUp t = λ i. flag_said (not_both w os agree t i) (t i)
 
-  -- a vote stands with a value exactly if an operation is it with this value and none replaces it
+  -- a vote stands with a value exactly if an operation writes it with this value and none replaces it
   pub votes_are_unreplaced : (os : List Operation) → DotsDetermine os → (w : KeyedWrite K) (f : Flag) → (vote_at R vote down os w ≡ Some f) ↔ (((o : Operation) × (IsOperationOf o os × IsVote vote w (value_of down f) o)) × Stands w.dot os)
   votes_are_unreplaced os agree w f = (
     λ h.

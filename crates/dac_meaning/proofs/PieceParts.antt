@@ -1,5 +1,5 @@
--- The joined deltas of a piece are a part of the meaning. This goes operation by operation, since the join of
--- meanings is the meaning of both.
+-- The joined deltas of a piece are a part of the meaning: by induction over the operations, since the join of meanings
+-- is the meaning of all.
 use Rattle.std.proofs.Common.{◌≡◌, List, [], ◌∷◌, ◌++◌, inl, inr, refl, sym, ap, subst, ◌∙◌}
 use Rattle.std.specs.FinMap as map
 use Rattle.dac_origins.specs.declared.dot.Dot.{Dot}
@@ -24,7 +24,7 @@ use Rattle.dac_meaning.specs.PieceParts.{as_seen, PermitsAreJoined, WishesAreJoi
 use Rattle.dac_meaning.proofs.Alone.{permit_delta_is_meaning, drain_delta_is_meaning, wish_delta_is_meaning, life_delta_is_meaning, claim_delta_is_meaning}
 use Rattle.dac_meaning.proofs.Nothing.{nothing_means_bottom}
 
--- an operation put last is among those where it was put first
+-- an operation at the end of a list can be moved to its front
 last_is_first : (o : Operation) (os : List Operation) → AreOperationsOf (os ++ o ∷ []) (o ∷ os)
 last_is_first o [] p h = h
 last_is_first o (q ∷ os) p (inl is) = inr (inl is)

@@ -1,4 +1,4 @@
--- The delta of one operation, part by part: what the operation means alone.
+-- The delta of one operation, part by part: it is the meaning of the operation alone.
 use Rattle.std.specs.Prelude.{◌≡◌, [], ◌∷◌}
 use Rattle.std.specs.FinSet as set
 use Rattle.dac_chains.specs.Greatest.{alone}
@@ -12,7 +12,7 @@ use Rattle.dac_operations.specs.Seen.{seen_wish, seen_permit, seen_drain, seen_l
 use Rattle.dac_meaning.specs.StateValue.{permissions_of, wishes_of, drains_of}
 use Rattle.dac_meaning.specs.Meaning.{meaning_of}
 
--- its dot alone is heard
+-- only the operation's dot is heard
 abbrev pub OneIsHeard : Type 0
 OneIsHeard = (o : Operation) → set.insert set.empty o.dot ≡ (meaning_of (o ∷ [])).heard
 

@@ -1,5 +1,5 @@
--- The parts of a meaning are what its pieces make of the operations: the joined deltas of each piece. So a piece's
--- own definition of what operations mean is that part of their meaning.
+-- The parts of a meaning are the joined deltas of its pieces. Therefore a piece's own definition of the meaning of
+-- operations agrees with the meaning's part.
 use Rattle.std.specs.Prelude.{◌≡◌, List, map as list_map}
 use Rattle.std.specs.FinMap as map
 use Rattle.dac_origins.specs.declared.dot.Dot.{Dot}
@@ -19,7 +19,7 @@ use Rattle.dac_operations.specs.Seen.{seen_wish, seen_permit, seen_drain, seen_l
 use Rattle.dac_meaning.specs.StateValue.{permissions_of, wishes_of, drains_of}
 use Rattle.dac_meaning.specs.Meaning.{DotsDetermine, meaning_of}
 
--- what a piece sees of the operations
+-- the operations, with the part of each act that a piece depends on
 abbrev pub as_seen : {A : Type 0} → (Dot → Act → A) → List Operation → List (Dot × A)
 as_seen sees os = list_map (λ (o : Operation). (o.dot, sees o.dot o.act)) os
 

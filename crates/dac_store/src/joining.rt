@@ -1,4 +1,4 @@
-//! The join of two maps, which shares the blocks that it leaves as they are.
+//! The join of two maps, which shares the blocks that it leaves unchanged.
 ghost use Rattle.std.specs.Prelude.{◌≡◌, ◌++◌, [], Some, true, IfOk, IfSome, OnOk};
 ghost use Rattle.std.specs.Arc.{arc_value};
 ghost use Rattle.std.specs.List.{flat_map};
@@ -20,14 +20,14 @@ use dac_origins::{MapKey, NoMemory};
 use std::alloc::Global;
 use std::sync::Arc;
 
-/// The store, unless it holds no dots.
+/// The store, or `None` if it has no dots.
 fn unless_empty<S: DotStore>(store: S) -> Option<S>
     ensures { result ≡ unless_empty S.is_empty store }
 {
     if store.is_empty() { None } else { Some(store) }
 }
 
-/// Joins the two stores of each key beside what each side has heard of, and drops a key without dots.
+/// Joins the two stores of each key with the contexts of both sides, and drops a key without dots.
 #[derive(Clone, Copy)]
 pub(crate) struct JoinStores<'a> {
     pub(crate) alloc: Global,
@@ -70,7 +70,7 @@ impl<K: MapKey, S: DotStore> Combine<K, S> for JoinStores<'_> {
     }
 }
 
-/// Puts an entry at the end, if there is a store.
+/// Appends an entry, if there is a store.
 fn put_kept<K: MapKey, S: DotStore>(
     built: &mut Parts<K, S>,
     key: K,
@@ -87,7 +87,7 @@ fn put_kept<K: MapKey, S: DotStore>(
     }
 }
 
-/// Puts the other side's next entries at the end whose keys are below this one.
+/// Merges the other side's next entries below a key, and appends the results.
 fn put_below<K: MapKey, S: DotStore, C: Combine<K, S>>(
     how: &C,
     built: &mut Parts<K, S>,
@@ -107,7 +107,7 @@ fn put_below<K: MapKey, S: DotStore, C: Combine<K, S>>(
     Ok(())
 }
 
-/// Puts all entries that the other side has left at the end.
+/// Merges all remaining entries of the other side, and appends the results.
 fn put_rest<K: MapKey, S: DotStore, C: Combine<K, S>>(
     how: &C,
     built: &mut Parts<K, S>,
@@ -137,7 +137,7 @@ fn take_at<'a, K: MapKey, S: DotStore>(theirs: &mut Entries<'a, K, S>, key: K) -
     Some(store)
 }
 
-/// What is kept at a key of the first map, by what the second one has there.
+/// The merged store at a key of the first map, if any.
 fn kept_at<K: MapKey, S: DotStore, C: Combine<K, S>>(
     how: &C,
     key: K,
@@ -159,8 +159,8 @@ fn kept_at<K: MapKey, S: DotStore, C: Combine<K, S>>(
     }
 }
 
-/// Puts what an entry makes with the other side's at the end, which is taken if it is at the same key. None is left there
-/// below it.
+/// Merges an entry with the other side's at the same key, if any, and appends the result. Requires that the other side
+/// has no remaining entry below the key.
 fn put_entry<K: MapKey, S: DotStore, C: Combine<K, S>>(
     how: &C,
     built: &mut Parts<K, S>,
@@ -178,7 +178,7 @@ fn put_entry<K: MapKey, S: DotStore, C: Combine<K, S>>(
     Ok(())
 }
 
-/// Joins these entries with the other side's up to their last key.
+/// Merges these entries with the other side's up to their last key, and appends the results.
 fn join_part<K: MapKey, S: DotStore, C: Combine<K, S>>(
     how: &C,
     built: &mut Parts<K, S>,
@@ -196,7 +196,7 @@ fn join_part<K: MapKey, S: DotStore, C: Combine<K, S>>(
     Ok(())
 }
 
-/// Whether all entries that the other side has left are past these.
+/// Whether all remaining entries of the other side are after these.
 fn are_before<K: MapKey, S: DotStore>(part: &[(K, S)], theirs: &Entries<'_, K, S>) -> bool
     requires { IsInOrder K.cmp part.now }
     ensures { result ≡ true → AreBefore K.cmp part.now theirs.now }
@@ -207,7 +207,8 @@ fn are_before<K: MapKey, S: DotStore>(part: &[(K, S)], theirs: &Entries<'_, K, S
     }
 }
 
-/// Whether a block can be shared: a block may come next, and the join surely leaves its entries as they are.
+/// Whether a block can be shared without comparing stores: a shared block can follow, all remaining entries of the
+/// other side are after it, and the filters prove that the other context has none of its dots.
 fn can_share<K: MapKey, S: DotStore>(
     how: &JoinStores<'_>,
     built: &Parts<K, S>,
@@ -227,7 +228,7 @@ fn can_share<K: MapKey, S: DotStore>(
     block.is_apart(how.theirs)
 }
 
-/// Whether the other side's next entry, if one is left, isn't below this key.
+/// Whether the other side's next entry, if any, isn't below this key.
 fn is_none_below<K: MapKey, S: DotStore>(theirs: &Entries<'_, K, S>, key: K) -> bool
     ensures { result ≡ true → IsNotBelow K.cmp key theirs.now }
 {
@@ -237,7 +238,7 @@ fn is_none_below<K: MapKey, S: DotStore>(theirs: &Entries<'_, K, S>, key: K) -> 
     }
 }
 
-/// Whether a store surely stays as it is beside what the other side has at its key.
+/// Whether the join is known to leave a store unchanged, given the other side's store at its key, if any.
 fn surely_stays<S: DotStore>(how: &JoinStores<'_>, mine: &S, theirs: Option<&S>) -> bool
     ensures { result ≡ true → IsLeft S.nothing S.is_empty S.join how.now.mine.now
         how.now.theirs.now mine.now (option_copied theirs.entry) }
@@ -252,8 +253,8 @@ fn surely_stays<S: DotStore>(how: &JoinStores<'_>, mine: &S, theirs: Option<&S>)
     }
 }
 
-/// Whether the other side's next entry is past these, or surely the same as the one at its key. If not, the join may
-/// change these, or put an entry between them.
+/// A quick test for [`left_past`]: whether the other side's next entry is after these, or known to equal the one at its
+/// key. Otherwise the join can change these entries, or insert one between them.
 fn may_leave<K: MapKey, S: DotStore>(part: &[(K, S)], theirs: &Entries<'_, K, S>) -> bool
     requires { IsInOrder K.cmp part.now }
 {
@@ -267,8 +268,7 @@ fn may_leave<K: MapKey, S: DotStore>(part: &[(K, S)], theirs: &Entries<'_, K, S>
     }
 }
 
-/// What is left of the other side's entries past these, if the join surely leaves these as they are and puts none
-/// between them.
+/// The other side's entries after these, if the join is known to leave these unchanged and to insert none between them.
 fn left_past<'a, K: MapKey, S: DotStore>(
     how: &JoinStores<'_>,
     part: &[(K, S)],
@@ -295,7 +295,7 @@ fn left_past<'a, K: MapKey, S: DotStore>(
     Some(rest)
 }
 
-/// Joins the entries of a block with the other side's up to their last key, or shares the block.
+/// Merges the entries of a block with the other side's up to their last key, or shares the block.
 fn join_block<K: MapKey, S: DotStore>(
     how: &JoinStores<'_>,
     built: &mut Parts<K, S>,
@@ -323,7 +323,7 @@ fn join_block<K: MapKey, S: DotStore>(
     Ok(())
 }
 
-/// The join of two maps. One is in blocks, with entries after them. [`NoMemory`] is the only error.
+/// The join of two maps. One is given as blocks with entries after them.
 pub(crate) fn join_parts<K: MapKey, S: DotStore>(
     how: &JoinStores<'_>,
     blocks: &[Arc<Block<K, S>, Global>],

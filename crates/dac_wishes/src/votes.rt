@@ -1,4 +1,4 @@
-//! What permissions and drains have in common: votes at keys, as they are kept.
+//! The storage of votes, flags written at keys, which permissions and drains share.
 ghost use Rattle.std.specs.Prelude.{◌≡◌, [], IfOk};
 ghost use Rattle.std.specs.FinMap.{find};
 ghost use Rattle.dac_store.specs.DotFuns.{has_dot};
@@ -13,7 +13,7 @@ use dac_origins::{Dot, MapKey};
 use dac_store::{Causal, DotFun, DotMap, DotStore, SharedContext};
 use std::alloc::Global;
 
-/// The votes that are kept at a key.
+/// The votes stored at a key.
 pub(crate) fn kept_at<K: MapKey>(causal: &Causal<DotMap<K, DotFun<Flag>>>, key: K) -> &[(Dot, Flag)]
     ensures { result.now ≡ store_at [] (find K.cmp key causal.now.store) }
 {
@@ -23,7 +23,7 @@ pub(crate) fn kept_at<K: MapKey>(causal: &Causal<DotMap<K, DotFun<Flag>>>, key: 
     }
 }
 
-/// A vote as it is kept, if there is one.
+/// The stored form of a vote, if there is one.
 fn kept_alone<K: MapKey>(
     alloc: Global,
     dot: Dot,
@@ -41,7 +41,7 @@ fn kept_alone<K: MapKey>(
     }
 }
 
-/// What one operation adds, as it is kept: its vote, if it is one, beside these dots, among which are those of the vote.
+/// The stored delta of one operation: its vote, if any, paired with the context `named`, which contains the vote's dot.
 pub(crate) fn kept_beside<K: MapKey>(
     alloc: Global,
     dot: Dot,

@@ -18,12 +18,12 @@ use dac_store::{Causal, Context, DotMap, DotSet, DotStore, Entries, SharedContex
 use std::alloc::Global;
 use std::marker::Model;
 
-/// The start wishes that stand, beside the dots that are known. Contracts see both as finite sets.
+/// The standing start wishes, paired with the known dots. Contracts see both as finite sets.
 pub struct Wishes {
     causal: Causal<DotMap<Key, DotSet>>,
 }
 
-/// Written out: a drop is one call for a proof, wherever it stands.
+/// Explicit, so that a proof treats each drop as one call.
 impl Drop for Wishes {
     fn drop(self) {
         let Wishes { causal: _causal } = self;
@@ -48,7 +48,7 @@ impl Wishes {
     ghost use Rattle.dac_wishes.specs.StoredWishes.{wishes_of};
     ghost use Rattle.dac_wishes.specs.StartsByKey.{starts_by_key};
 
-    /// The wishes that are kept so: at each key the dots of its starts. It takes no memory.
+    /// The wishes of a stored form: for each key the dots of its starts.
     pub fn new(causal: Causal<DotMap<Key, DotSet>>) -> Self
         ensures { result ≡ wishes_of causal }
     {
@@ -56,22 +56,21 @@ impl Wishes {
         Wishes { causal }
     }
 
-    /// The keys that have a start that stands, in ascending order, each with the dots of its starts. It
-    /// takes no memory.
+    /// The keys with a standing start, in ascending order, each with the dots of its starts.
     pub fn entries(&self) -> Entries<'_, Key, DotSet>
         ensures { result ≡ starts_by_key self.now.standing }
     {
         self.causal.store().entries()
     }
 
-    /// How many keys have a start that stands.
+    /// The number of keys with a standing start.
     pub fn len(&self) -> usize
         ensures { result ≡ length (starts_by_key self.now.standing) }
     {
         self.causal.store().len()
     }
 
-    /// Whether some start of the key stands. It takes no memory.
+    /// Whether any start of the key stands.
     pub fn wished(&self, key: Key) -> bool
         ensures value { result ≡ is_wished key self.now }
         ensures some { IsTrue result ↔ SomeStands key self.now }
@@ -79,7 +78,7 @@ impl Wishes {
         self.causal.store().get(key).is_some()
     }
 
-    /// The dots of the starts of the key that stand, in ascending order. It takes no memory.
+    /// The dots of the key's standing starts, in ascending order.
     pub fn dots(&self, key: Key) -> &[Dot]
         ensures { result.now ≡ in_order (dots_at key self.now.standing) }
     {
@@ -89,22 +88,21 @@ impl Wishes {
         }
     }
 
-    /// The dots of the operations, and those that they replace. It takes no memory.
+    /// The known dots: those of the operations, and those that they replace.
     pub fn context(&self) -> &Context
         ensures { result.now ≡ self.now.known }
     {
         self.causal.context()
     }
 
-    /// The same dots, as others may share them. It takes no memory.
+    /// The known dots, in the form that others can share.
     pub fn shared_context(&self) -> &SharedContext
         ensures { result.now ≡ self.now.known }
     {
         self.causal.shared_context()
     }
 
-    /// The join with the other side, where these are the dots that both know, which the join shares. [`NoMemory`] is
-    /// the only error.
+    /// The join with the other value. It shares `union`, the union of the known dots of both.
     pub fn join_beside(&self, other: &Self, union: &SharedContext) -> Result<Self, NoMemory>
         requires { union.now ≡ set.union self.now.known other.now.known }
         ensures { IfOk result (λ joined. joined ≡ join_wishes self.now other.now) }
@@ -113,8 +111,7 @@ impl Wishes {
         Ok(Wishes { causal })
     }
 
-    /// What one operation adds, where these are the dots that it names, which the delta shares. [`NoMemory`] is the
-    /// only error.
+    /// The delta of one operation. It shares `named`, the dots that the operation names.
     pub fn delta_beside(
         alloc: Global,
         dot: Dot,
@@ -130,8 +127,7 @@ impl Wishes {
         Ok(Wishes { causal })
     }
 
-    /// Whether this side is below the other one, where the other knows each dot that this one knows. It takes no
-    /// memory.
+    /// Whether this value is below the other one, if the other knows each dot that this one knows.
     pub fn leq_beside(&self, other: &Self) -> bool
         requires { IsSubset self.now.known other.now.known }
         ensures { IsTrue result ↔ AreWishesBelow self.now other.now }
@@ -140,7 +136,7 @@ impl Wishes {
     }
 }
 
-/// The start in an operation.
+/// The stored form of an operation's start, if any.
 fn start_in(alloc: Global, dot: Dot, act: &WishAct) -> Result<DotMap<Key, DotSet>, NoMemory>
     ensures { IfOk result (λ store. store ≡ stored_start dot act.now) }
 {

@@ -6,6 +6,6 @@ use Rattle.dac_wishes.specs.Replacing.{SparesItself}
 use Rattle.dac_wishes.specs.laws.VoteMeaning as votes_laws
 use Rattle.dac_wishes.specs.DrainMeaning.{IsMeaning, drain_delta, over_of, vote_of}
 
--- the joined deltas of operations are what they mean
+-- the joined deltas of operations are their meaning
 pub drain_piece : IsPiece AreDrains join_drains no_drains (SparesItself over_of) drain_delta IsMeaning
 drain_piece = votes_laws.vote_piece origins_total exact_origins over_of vote_of

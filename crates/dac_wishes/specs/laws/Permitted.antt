@@ -1,4 +1,4 @@
--- The test of permissions in words, for every value.
+-- The test of permissions equals its spelled-out form, for every value.
 use Rattle.std.specs.Prelude.{◌≡◌, ◌↔◌, ◌⊎◌, Bool, true, false, cond, T, [], ◌∷◌, Option, None, Some, is_some, refl}
 use Rattle.std.proofs.Common.{sym, ap, ◌∙◌, inl, inr}
 use Rattle.std.specs.List.{list_all, All}
@@ -23,7 +23,7 @@ up_if : (f : Flag) → says_true f ≡ true → f ≡ Up
 up_if Up e = refl
 up_if Down e = absurd (false≢true e)
 
--- where all permits say true, each that is found does
+-- if all permits are true, each that a search finds is
 said_by_all : (ps : DotFlags) → list_all (λ (p : Dot × Flag). says_true p.1) ps ≡ true → (d : Dot) (f : Flag) → find dot_cmp d ps ≡ Some f → f ≡ Up
 said_by_all [] h d f e = absurd (false≢true (ap is_some e))
 said_by_all (p ∷ ps) h d f e =
@@ -43,7 +43,7 @@ all_if_each (p ∷ ps) h =
     and_from (says_true p.1) (list_all (λ (p : Dot × Flag). says_true p.1) ps) (ap says_true (All-head (λ (p : Dot × Flag). (f : Flag) → Some p.1 ≡ Some f → f ≡ Up) p ps h p.1 refl))
     (all_if_each ps (All-tail (λ (p : Dot × Flag). (f : Flag) → Some p.1 ≡ Some f → f ≡ Up) p ps h))
 
--- the test in words, of the permits of a list
+-- the test, spelled out, for the permits of a list
 module _ (default : Bool) where
   abbrev pub IsPermittedBy : DotFlags → Type 0
   IsPermittedBy ps = (((d : Dot) → find dot_cmp d ps ≡ None) × (default ≡ true)) ⊎ (((p : Dot × Flag) × (find dot_cmp p.0 ps ≡ Some p.1)) × ((d : Dot) (f : Flag) → find dot_cmp d ps ≡ Some f → f ≡ Up))
@@ -61,7 +61,7 @@ module _ (default : Bool) where
   if_permitted (p ∷ ps) s (inl none) = absurd (false≢true (ap is_some (sym (none.0 p.0) ∙ find_first p ps)))
   if_permitted (p ∷ ps) s (inr some) = all_if_each (p ∷ ps) (each_entry dots_total exact_dots (λ d o. (f : Flag) → o ≡ Some f → f ≡ Up) (p ∷ ps) s (λ d f e. some.1 d f e))
 
--- the test says what is permitted
+-- the test returns whether the key is permitted
 pub is_permitted-is : (key : Key) (default : Bool) (v : PermissionsValue) → (is_permitted key default v ≡ true) ↔ IsPermitted key default v
 is_permitted-is key default v =
     let at = find-permits_at key v.standing in (

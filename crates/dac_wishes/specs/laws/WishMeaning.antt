@@ -20,7 +20,7 @@ use Rattle.dac_wishes.specs.Replacing.{is_under, replaces, is_replaced, SparesIt
 use Rattle.dac_wishes.specs.laws.Replacing.{contains-named_by, known_more, names-or, spares, found, finds, again}
 use Rattle.dac_wishes.specs.WishMeaning.{IsMeaning, is_start, over_of, starts_in, wish_delta, wishes}
 
--- ---- the joined deltas of operations are what they mean
+-- ---- the joined deltas of operations are their meaning
 
 or_false : (b : Bool) → (b || false) ≡ b
 or_false true = refl
@@ -33,8 +33,8 @@ contains-delta d a w = set.contains-from_list writes_total (starts_in d a) w ∙
     in_starts (Start key over) = or_false _ ∙ same_write w key d
     in_starts (Other over) = refl
 
--- k, e, o: the operation wishes the key, has the dot, replaces it. st, dt, ov: of those before, one is the wish, one
--- has the dot, one replaces it
+-- k, e, o: the operation starts the key, has the dot, replaces it. st, dt, ov: among the earlier ones, some writes the
+-- wish, some has the dot, some replaces it
 one_stands : (k e o st dt ov : Bool) → (e ≡ true → o ≡ false) → (st ≡ true → dt ≡ true) → (e ≡ true → dt ≡ true → st ≡ k)
     → (((st && not ov) && ((k && e) || not (e || o))) || ((k && e) && ((st && not ov) || not (ov || dt)))) ≡ (((k && e) || st) && not (o || ov))
 one_stands k true true st dt ov f g h = absurd (true≢false (f refl))
@@ -60,11 +60,11 @@ one_stands false false false true dt false f g h = refl
 one_stands false false true false dt ov f g h = refl
 one_stands false false false false dt ov f g h = refl
 
--- a start of the operations has a dot of theirs
+-- a start's dot is that of an operation
 start_has_dot : (w : Write) (os : List (Dot × WishAct)) → list_any (is_start w) os ≡ true → list_any (is_under w.dot) os ≡ true
 start_has_dot w os h = let p = found (is_start w) os h in finds (is_under w.dot) os p.0 p.1.0 (and_parts (wishes w.key p.0.1) (is_under w.dot p.0) p.1.1).1
 
--- where the operation is one of those before, one of them is the wish exactly if it is
+-- if the operation is among the earlier ones, one of them writes the wish exactly if it does
 start_again : (os : List (Dot × WishAct)) (o : Dot × WishAct) → AreOperations (SparesItself over_of) (o ∷ os) → (w : Write) → is_under w.dot o ≡ true → list_any (is_under w.dot) os ≡ true → list_any (is_start w) os ≡ wishes w.key o.1
 start_again os o h w e there = both_ways _ _
     (λ t.

@@ -4,7 +4,7 @@ use Rattle.dac_origins.specs.Keys.{IsRising, has_key}
 use Rattle.dac_dots.specs.Spans.{any_past}
 use Rattle.dac_dots.proofs.counters.list_past.Given as goal
 
--- of the spans so far those that begin above upto are there
+-- the counters of the spans so far that begin above upto are inserted
 abbrev pub invariant-loop-span : goal.invariant-loop-span
 invariant-loop-span l = record {
   rising : IsRising nat_cmp l.counters.items;

@@ -2,7 +2,7 @@ use Rattle.std.proofs.Common.{◌≡◌, ◌<◌, ◌⊎◌, length, take, drop,
 use Rattle.dac_dots.specs.Spans.{absorbed}
 use Rattle.dac_dots.proofs.spans.take_touched.Given as goal
 
--- what is joined so far, with the spans that are left, is the whole
+-- joining the span so far with the remaining spans gives the whole result
 abbrev pub invariant-loop-spans : goal.invariant-loop-spans
 invariant-loop-spans l = record {
   front : take l.place l.spans.items ≡ take l.place l.fn.spans.items;
