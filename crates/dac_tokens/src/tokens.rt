@@ -54,7 +54,7 @@ impl<'a> Model for Tokens<'a> {
 }
 
 impl<'a> Tokens<'a> {
-    /// The tokens of a text, whatever its length.
+    /// The tokens of a text of any length, because the parser enforces the limit.
     pub fn new(text: &'a [u8]) -> Self
         ensures read { result ≡ tokens_of (length text.now) 0 text.now }
         // without a fault, the last token is the end of the text
@@ -62,7 +62,7 @@ impl<'a> Tokens<'a> {
         // a text is read without fault exactly as the grammar of tokens spells it
         ensures spelled { (ts : List LocatedWord) →
             (AreTokensOf text.now ts ↔ (result ≡ ended (length text.now) ts)) }
-        // and with a fault exactly if, after these tokens, no token begins by the table of faults
+        // a text is read with a fault exactly if, after these tokens, no token begins by the table of faults
         ensures stopped { (ts : List LocatedWord) (e : ConfigFault) →
             (StopAt 0 0 text.now ts e ↔ (result ≡ stopped ts e)) }
     {
