@@ -22,7 +22,6 @@ use Rattle.dac_bytes.specs.Items.{with_front}
 use Rattle.dac_bytes.specs.laws.Items.{Fails-on}
 use Rattle.dac_bytes.specs.laws.Takes.{bind_ok, guard_ok, wanted_ok, ok_is}
 
--- further counters ascend
 further_rise : (count low : ℕ) (r : Rest) (x : List ℕ × Rest) → items_at further_at (λ n. n) count low r ≡ Ok x → (rises_on low x.0 ≡ true) × (length x.0 ≡ count)
 unfolding items_at further_at
 further_rise zero low r x e = subst (λ (x : List ℕ × Rest). (rises_on low x.0 ≡ true) × (length x.0 ≡ 0)) (ok_is ([], r) x e) (refl, refl)
@@ -109,7 +108,6 @@ front_none : {X : Type 0} (x : Field (List X)) → with_front [] x ≡ x
 front_none (Ok x) = refl
 front_none (Err e) = refl
 
--- before any row
 pub starts : (version : Version) (nodes count : ℕ) (r : Rest) (dots : Dots) → dots ≡ set.empty → with_front (rows_of dots) (items_at (row_at version nodes) (λ (row : Row). Some row.origin) (count - 0) None r) ≡ items_at (row_at version nodes) (λ (row : Row). Some row.origin) count None r
 starts version nodes count r dots is =
     let none : rows_of dots ≡ [] = ap rows_of is ∙ no_rows in

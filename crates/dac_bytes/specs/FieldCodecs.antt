@@ -15,16 +15,14 @@ use Rattle.dac_bytes.specs.Takes.{IsCodec, Passes}
 use Rattle.dac_bytes.specs.Versions.{highest_incarnation}
 
 pub record FieldCodecs (version : Version) (nodes : ℕ) : Type 0 where
-  -- numbers, each with the width in its name, and in a range if the name says so
+  -- numbers of the width in their name; `_in` restricts them to a range
   pub u8_in : (low high : ℕ) → high < 2 ^ 8 → IsCodec (range_at w8 low high) u8_bytes (λ n. (low ≤ n) × (n ≤ high))
   pub u16 : IsCodec (number_at w16) u16_bytes (λ n. n < 2 ^ 16)
   pub u32 : IsCodec (number_at w32) u32_bytes (λ n. n < 2 ^ 32)
   pub u64_in : (low high : ℕ) → high < 2 ^ 64 → IsCodec (range_at w64 low high) u64_bytes (λ n. (low ≤ n) × (n ≤ high))
   pub counter : IsCodec counter_at u64_bytes (λ n. (1 ≤ n) × (n ≤ MAX_COUNTER))
-  -- an incarnation, or 0
   pub incarnation_or_zero : IsCodec (incarnation_or_zero_at version) (incarnation_bytes version)
       (λ n. n ≤ highest_incarnation version)
-  -- nodes, origins and dots
   pub node : IsCodec (node_at nodes) (λ (node : NodeId). u8_bytes node.0) (λ node. node.0 < nodes)
   pub origin : IsCodec (origin_at version nodes) (origin_bytes version) (IsOrigin version nodes)
   pub dot : IsCodec (dot_at version nodes) (dot_bytes version) (IsDot version nodes)
@@ -36,5 +34,4 @@ pub record FieldCodecs (version : Version) (nodes : ℕ) : Type 0 where
   pub dot_above : (before : Option Dot)
       → IsCodec (dot_above_at version nodes before) (dot_bytes version)
       (Passes (IsDot version nodes) (is_above dot_cmp before))
-  -- a set of dots
   pub context : IsCodec (context_at version nodes) (context_bytes version) (IsContext version nodes)

@@ -20,7 +20,6 @@ fn write_numbers(mut writer: ByteWriter, numbers: &[u64]) -> Result<ByteWriter, 
     Ok(writer)
 }
 
-/// The row of an origin.
 #[tactic(auto, unfolding(crate::specs::Spelling::row_bytes))]
 fn write_row(
     writer: ByteWriter,

@@ -108,7 +108,6 @@ fn read_counted_rows<'a>(
     Ok((context, rest))
 }
 
-/// The rows of a context.
 #[tactic(auto, unfolding(crate::specs::Reading::rows_at))]
 fn read_rows<'a>(
     reader: ByteReader<'a>,

@@ -37,12 +37,12 @@ impl ByteWriter {
         }
     }
 
-    /// The allocator of the bytes.
+    /// The allocator of the bytes, for copies of the rows of a context.
     pub(crate) fn allocator(&self) -> Global {
         *self.bytes.allocator()
     }
 
-    /// The bytes written.
+    /// Returns the bytes written.
     pub fn into_bytes(self) -> Vec<u8>
         ensures { result.items ≡ self }
     {
@@ -159,7 +159,6 @@ impl ByteWriter {
     }
 }
 
-/// An origin in version one.
 #[tactic(auto, unfolding(crate::specs::Spelling::origin_bytes, crate::specs::Spelling::incarnation_bytes, crate::specs::Numbers::u8_bytes))]
 fn short_origin(origin: Origin) -> [u8; 5]
     ensures { result ≡ origin_bytes One origin }
@@ -169,7 +168,6 @@ fn short_origin(origin: Origin) -> [u8; 5]
     [node[0], inc[4], inc[5], inc[6], inc[7]]
 }
 
-/// An origin in version two.
 #[tactic(auto, unfolding(crate::specs::Spelling::origin_bytes, crate::specs::Spelling::incarnation_bytes, crate::specs::Numbers::u8_bytes))]
 fn long_origin(origin: Origin) -> [u8; 9]
     ensures { result ≡ origin_bytes Two origin }
@@ -181,7 +179,6 @@ fn long_origin(origin: Origin) -> [u8; 9]
     ]
 }
 
-/// A dot in version one.
 #[tactic(auto, unfolding(crate::specs::Spelling::dot_bytes, crate::specs::Spelling::origin_bytes, crate::specs::Spelling::incarnation_bytes, crate::specs::Numbers::u8_bytes, crate::specs::Numbers::u64_bytes))]
 fn short_dot(dot: Dot) -> [u8; 13]
     ensures { result ≡ dot_bytes One dot }
@@ -194,7 +191,6 @@ fn short_dot(dot: Dot) -> [u8; 13]
     ]
 }
 
-/// A dot in version two.
 #[tactic(auto, unfolding(crate::specs::Spelling::dot_bytes, crate::specs::Spelling::origin_bytes, crate::specs::Spelling::incarnation_bytes, crate::specs::Numbers::u8_bytes, crate::specs::Numbers::u64_bytes))]
 fn long_dot(dot: Dot) -> [u8; 17]
     ensures { result ≡ dot_bytes Two dot }

@@ -154,7 +154,6 @@ known text w is limits =
 
 -- ---- the canonical draft
 
--- the nodes in byte order
 abbrev sorted : Written → List (List ℕ)
 sorted w = in_byte_order w.nodes
 

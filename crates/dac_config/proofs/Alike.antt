@@ -5,11 +5,9 @@ use Rattle.std.specs.Global.{Vec}
 use Rattle.std.proofs.lemmas.Bool.{ltb-true, ltb-false}
 use Rattle.std.proofs.lemmas.List.{get_or-map}
 
--- the groups by their nodes
 abbrev pub nodes_of : List (Vec ℕ) → List (List ℕ)
 nodes_of groups = map (λ group. group.items) groups
 
--- the group at an index
 pub group_at : (groups : List (Vec ℕ)) (place : ℕ) (group : Vec ℕ) (d : List ℕ) → group ≡ get_or groups place group → place < length groups → get_or (nodes_of groups) place d ≡ group.items
 group_at groups place group d is within = get_or-map (λ (group : Vec ℕ). group.items) groups place group d within ∙ sym (ap (λ (group : Vec ℕ). group.items) is)
 

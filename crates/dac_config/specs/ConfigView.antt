@@ -15,11 +15,11 @@ use Rattle.dac_config.specs.Says.{IsTable}
 abbrev pub node_row : Node → NodeRow
 node_row node = record { name = node.name.items; mandatory = node.mandatory; optional = node.optional }
 
--- the groups of an application
+-- the groups of an application, by node numbers
 abbrev pub groups_in : App → List (List ℕ)
 groups_in app = map (λ group. group.items) app.groups.items
 
--- an application with its name
+-- an application as a row of the table
 abbrev pub named_row : List ℕ → App → AppRow
 named_row name app = record { name = name; timeout = app.timeout; groups = groups_in app; permission = app.permission }
 

@@ -48,7 +48,7 @@ pub record IsTableOf (w : Written) (table : Table) : Type 0 where
   pub apps : AllZip (IsApp w.permissions table.nodes) w.apps table.apps
   pub sync_wait : table.sync_wait ≡ w.sync_wait
 
--- the grammar gives a draft to the text, and the table is that of the draft
+-- the grammar assigns a draft to the text, and the table is that of the draft
 pub record IsConfigOf (text : List ℕ) (table : Table) : Type 0 where
   pub written : Written
   pub spelled : IsTextOf text written

@@ -36,20 +36,20 @@ node_count table = length table.nodes
 abbrev pub app_count : Table → ℕ
 app_count table = length table.apps
 
--- the name of a node
+-- the name of a node; empty if it doesn't exist
 abbrev pub node_name : Table → NodeId → List ℕ
 node_name table node = unwrap_or (option_map (λ row. row.name) (slice_get table.nodes node.0)) []
 
--- the name of an application
+-- the name of an application; empty if it doesn't exist
 abbrev pub app_name : Table → AppId → List ℕ
 app_name table app = unwrap_or (option_map (λ row. row.name) (slice_get table.apps app.0)) []
 
--- the node with this name
+-- the node with this name, if any
 abbrev pub node_named : Table → List ℕ → Option NodeId
 node_named table name =
     option_map (λ place. record { 0 = place }) (position (λ row. bytes_eq name row.name) table.nodes)
 
--- the application with this name
+-- the application with this name, if any
 abbrev pub app_named : Table → List ℕ → Option AppId
 app_named table name = option_map (λ place. record { 0 = place }) (position (λ row. bytes_eq name row.name) table.apps)
 

@@ -85,7 +85,7 @@ impl Config {
     ghost use Rattle.dac_config.specs.Says.{IsConfigOf};
     ghost use Rattle.dac_config.specs.Mark.{fnv1a};
 
-    /// The shared tables.
+    /// The tables, which copies share.
     fn tables(&self) -> &Tables
         ensures view { table_of result.now ≡ self.now }
         ensures kept { IsKept result.now }
@@ -114,7 +114,6 @@ impl Config {
         self.tables().apps.len() as u16
     }
 
-    /// The row of a node.
     fn node(&self, node: NodeId) -> &Node
         requires { node.0 < node_count self.now }
         ensures { slice_get self.now.nodes node.0 ≡ Some (node_row result.now) }

@@ -60,7 +60,6 @@ clash ws j k b c fits less =
     let g = c.first (of_name k fits (omega (arith, less))) in
     b.broken (record { more = g.more; sections = g.sections; file = g.file; keeps = keeps_fewer (Only j) (Before k) (λ other is. subst (λ (o : FaultKind). rank o < rank k) (sym is) less) g.sections g.keeps })
 
--- the kind with this rank
 abbrev of_rank : ℕ → FaultKind
 of_rank zero = kind.BadShape
 of_rank (suc zero) = kind.NameTooLong
@@ -241,7 +240,6 @@ well_within ws is =
 -- ---- two faults of a text
 
 module _ (text : List ℕ) (s : Stream) (spelled : (ts : List Located) → (AreTokensOf text ts ↔ (s ≡ ended_by (length text) ts))) (stops : (ts : List Located) (e : ConfigFault) → (StopAt 0 0 text ts e ↔ (s ≡ stopped ts e))) where
-  -- the cause is a token
   pub record ByToken (e : ConfigFault) : Type 0 where
     pub before : List Located
     pub t : Located

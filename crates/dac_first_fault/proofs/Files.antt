@@ -46,7 +46,6 @@ brings_by (Number negative digits) ws k breaks spoils = spoils tt
 brings_by Text ws k breaks spoils = spoils tt
 brings_by End ws k breaks spoils = spoils tt
 
--- quiet words contain no name
 quiet_name : (w : Word) → IsQuiet w → IsNoName w
 quiet_name (Name name) quiet = quiet
 quiet_name (Punctuation symbol) quiet = tt

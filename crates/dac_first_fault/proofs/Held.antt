@@ -152,7 +152,6 @@ module _ (bad : ℕ) (Bound : FaultKind → Type 0) where
       | inr q ↦ inr (kept_to ws q)
     ]
 
-  -- after other words
   module _ {X : Type 0} (via : Via X) (Is : List Word → X → Type 0) (a : List Word) where
     kept_behind : (ws : List Word) → Kept (λ vs x. Is (a ++ vs) x) ws → Kept Is (a ++ ws)
     kept_behind ws k = record {
@@ -295,7 +294,6 @@ module _ (bad : ℕ) (Bound : FaultKind → Type 0) where
           (list_held n (before ++ x.0 ∷ []) t (at last ts x.1.seen) alone e (subst Inv (sym k.2) (keep before s.seen x.0 inv k.1)))))
           (λ ts last e. record { own = []; whole = refl; is = close_one before s.seen own x k (at last ts x.1.seen) refl; short = e }))
 
-    -- a list in brackets
     abbrev pub IsHeldList : Seen → List Word → List A × State → Type 0
     IsHeldList seen own xs = IsListOf Is own xs.0 × AllMay step May [] seen xs.0 × (xs.1.seen ≡ steps step seen xs.0)
 

@@ -320,7 +320,6 @@ module _ (bad : ℕ) (Bound : FaultKind → Type 0) where
 
   -- ---- permissions
 
-  -- a permission's name
   abbrev IsNamely : Word → List ℕ → Type 0
   IsNamely w name = (w ≡ Name name) × (Bound NameTooLong → length name ≤ 255)
 

@@ -135,7 +135,6 @@ module _ (bad : ℕ) (Bound : FaultKind → Type 0) where
   abbrev Once : Bool → Type 0
   Once twice = Bound BadShape → twice ≡ false
 
-  -- how long a start waits
   module _ (Q : Type 0) (w : Word) (offset : ℕ) (spoils : (digits : List ℕ) → w ≡ Number false digits → 4294967296 ≤ value_from 0 digits → Stops bad Bound NumberTooLarge offset → Q) where
     wait_by : (v : Word) → w ≡ v → Shows bad Bound Q (λ wait. IsLooseWait Bound (v ∷ []) wait) (wait_of (record { word = v; at = offset }))
     unfolding wait_of

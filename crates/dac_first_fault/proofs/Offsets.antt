@@ -15,7 +15,6 @@ use Rattle.dac_first_fault.proofs.Past.{Unkept, Fine}
 use Rattle.dac_first_fault.proofs.Held.{Frees, Stops}
 use Rattle.dac_first_fault.proofs.Spared.{Strict}
 
--- this offset only
 abbrev pub At : ℕ → ℕ → Type 0
 At bad offset = offset ≡ bad
 

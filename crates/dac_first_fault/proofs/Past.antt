@@ -158,7 +158,7 @@ module _ (last : Result Located ConfigFault) (Bad : ℕ → Type 0) (Kept : Faul
             (subst (λ (l : List A). Met last Bad Kept l us after (comma_list read close n (before ++ x ∷ []) b.next (at last vs mid))) (append_assoc before (x ∷ []) (y ∷ ys))
             (list_met n (before ++ x ∷ []) b.next b.rest c us mid (y ∷ ys) shorter b.others (fine_rest Bad (t ∷ b.front) (b.comma ∷ b.next ∷ b.rest) parts).1 keep.1 e))))
 
-        -- a list, with the bound that the remaining tokens give
+        -- a list, within the bound of the remaining tokens
         pub whole_met : (t : Located) (ts : List Located) (c : Located) (us : List Located) (seen : Seen) (xs : List A) → Parted Is (words_of (t ∷ ts)) xs → Fine Bad (t ∷ ts) → AllMay step Keep [] seen xs → c.word ≡ Punctuation close
             → Met last Bad Kept xs us (steps step seen xs) (comma_list read close (room (at last (ts ++ c ∷ us) seen)) [] t (at last (ts ++ c ∷ us) seen))
         whole_met t ts c us seen xs p fine keep e = list_met (room (at last (ts ++ c ∷ us) seen)) [] t ts c us seen xs (omega (arith, length-append ts (c ∷ us))) p fine keep e
@@ -220,7 +220,6 @@ module _ (last : Result Located ConfigFault) (Bad : ℕ → Type 0) (Kept : Faul
         (said_then k x us after (name_of n.head) next (named n.head n.is (parts.0 name n.is))
         (met_is x us after (next k) (rest k (at last (c.tail ++ us) seen)) (ap (λ (r : Result State ConfigFault). r >>= rest k) (symbol_again last Comma c.head (c.tail ++ us) seen refl c.is)) (rested c.tail c.rest parts.1.1)))
 
-    -- a name and a value
     pub pair_met : (value : State → Result (A × State) ConfigFault) (IsValue : List Word → Type 0) → ((s : State) → rest k s ≡ closed value s) → ((vs us : List Located) → IsValue (words_of vs) → Fine Bad vs → Met last Bad Kept x us after (value (at last (vs ++ us) seen)))
         → (t : Located) (ts us : List Located) → IsPair name IsValue (words_of (t ∷ ts)) → Fine Bad (t ∷ ts) → Met last Bad Kept x us after (pair_at name_of rest t (at last (ts ++ us) seen))
     pair_met value IsValue closes valued t ts us is fine =

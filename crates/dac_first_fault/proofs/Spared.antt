@@ -59,7 +59,6 @@ module _ (Kept : FaultKind → Type 0) (free : (kind : FaultKind) → IsLimit ki
   pub sections_so : (sections : List Section) → Keeps Kept sections
   sections_so sections = all_so with_section (SectionKeeps Kept) section_so [] nothing sections
 
--- any sections keep them
 pub strictly_so : (sections : List Section) → Keeps Strict sections
 strictly_so sections = sections_so Strict no_limit sections
   where

@@ -94,7 +94,7 @@ texts_late : (us : List Located) (seen : Seen) → Passing Fits texts_at us seen
 texts_late [] seen = Open (texts_want seen)
 texts_late (t ∷ us) seen = texts_by t us seen (is_text t.word) refl (texts_late us seen)
 
--- ---- terms, parted by commas
+-- ---- terms, separated by commas
 
 term_is : (n : ℕ) (t : Located) (s : State) → term_at (suc n) t s ≡ term_by (term_at n) n t s
 unfolding term_at
@@ -214,7 +214,6 @@ module _ (close : Symbol) where
   terms_up k one zero jk us seen le = terms_step us seen (one us seen (omega arith)) (λ rest less. absurd (omega arith))
   terms_up k one (suc j) jk us seen le = terms_step us seen (one us seen (omega arith)) (λ rest less. terms_up k one j (omega arith) rest seen (omega arith))
 
-  -- the terms between brackets
   abbrev within : ℕ → State → Result (Located × State) ConfigFault
   within n s = terms_in (term_at n) close n s
 

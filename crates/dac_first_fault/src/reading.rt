@@ -22,12 +22,12 @@ use std::alloc::Global;
 /// The first fault, at the offset that [`parse_draft`] documents: it is the one that the law of [`first_fault`] admits
 /// of the text. `NoMemory` is no fault of a text, and has offset 0.
 pub fn read_draft(alloc: Global, text: &[u8]) -> Result<Draft<'_>, ConfigFault>
-    // A draft that is returned is one that the grammar gives to the text.
+    // The grammar assigns the returned draft to the text.
     ensures found { IfOk result (λ draft. IsTextOf text.now (draft_of draft)) }
     // A text in the grammar is read, unless memory runs out.
     ensures only { (draft : Written) → IsTextOf text.now draft
         → MatchResult result (λ d. draft_of d ≡ draft) (λ e. e.kind ≡ NoMemory) }
-    // A draft that is returned keeps the limits.
+    // The returned draft keeps the limits.
     ensures limits { IfOk result (λ draft. IsWithinLimits (draft_of draft)) }
     // The definition determines the fault, unless memory runs out.
     ensures exact { Gives draft_of result (draft_at text.now) }

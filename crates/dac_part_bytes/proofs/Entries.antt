@@ -23,7 +23,6 @@ is_true false h = absurd h
 none_some : {A : Type 0} (x : A) → None ≡ Some x → ⊥
 none_some {A} x e = false≢true (ap (λ (o : Option A). is_some o) e)
 
--- the keys of entries
 abbrev keys : {K X : Type 0} → List (K × X) → List K
 keys {K} {X} es = list_map (λ (e : K × X). e.0) es
 

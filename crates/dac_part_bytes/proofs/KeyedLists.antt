@@ -36,7 +36,6 @@ IsSome n = (1 ≤ n) × (n ≤ 2 ^ 32 - 1)
 abbrev pub AreDotsOfKey : Version → Table → Dots → List Dot → Type 0
 AreDotsOfKey version t known ds = IsSome (length ds) × AllByRecursion (IsKnownDot version t known) ds × IsRising dot_cmp (list_map (λ (d : Dot). d) ds)
 
--- a key with its dots
 abbrev pub IsKeyedDots : Version → Table → Dots → Key × Dots → Type 0
 IsKeyedDots version t known e = IsKey version t e.0 × AreDotsOfKey version t known (in_order e.1)
 

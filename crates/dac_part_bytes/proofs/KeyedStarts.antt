@@ -90,7 +90,6 @@ module _ (version : Version) (t : Table) (known : Dots) where
     few_at key None e = subst (λ (ds : List Dot). length ds < 2 ^ 32) no_dots (omega arith)
     few_at key (Some s) e = omega (arith, (at_key key s e).1.0.1)
 
-    -- its start wishes are well-formed
     pub starts_in_form : AreStartsInForm version t known (writes_of m)
     starts_in_form = record {
       each = λ w h. known_at w (find key_cmp w.key m) refl (sym (contains-writes_of m are_kept.in_order w) ∙ h);

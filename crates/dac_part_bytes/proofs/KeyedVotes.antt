@@ -85,7 +85,6 @@ module _ {K : Type 0} {R : K → K → Ordering} (total : IsTotalOrder R) (exact
     few_at key None e = omega arith
     few_at key (Some ps) e = omega (arith, (at_key key ps e).1.0.1)
 
-    -- its votes are well-formed
     pub votes_in_form : InForm (votes_of R m)
     votes_in_form = record {
       each = λ w h. known_at w (find R w.key m) refl (ap (λ (v : Option Flag). is_some v) (sym (get-votes_of total exact m are_kept.in_order w)) ∙ h);

@@ -43,7 +43,6 @@ use Rattle.dac_bytes.specs.declared.version.Version.TheVariants.{Two}
 
 -- ---- dots
 
--- the dot is known
 abbrev pub IsKnown : Dots → Dot → Type 0
 IsKnown known d = set.contains known d ≡ true
 

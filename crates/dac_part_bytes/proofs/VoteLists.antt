@@ -54,7 +54,6 @@ code_small Down Down = (omega arith, omega arith)
 abbrev IsSome : ℕ → Type 0
 IsSome n = (1 ≤ n) × (n ≤ 2 ^ 32 - 1)
 
--- a vote's dot
 abbrev dot_of : Dot × Flag → Dot
 dot_of p = p.0
 
@@ -62,7 +61,6 @@ dot_of p = p.0
 abbrev pub AreVotesOfKey : Version → Table → Dots → DotFlags → Type 0
 AreVotesOfKey version t known ps = IsSome (length ps) × AllByRecursion (λ (p : Dot × Flag). IsKnownDot version t known p.0) ps × IsRising dot_cmp (list_map (λ (p : Dot × Flag). p.0) ps)
 
--- a key with its votes
 abbrev pub IsKeyedVotes : {K : Type 0} → (K → Type 0) → Version → Table → Dots → K × DotFlags → Type 0
 IsKeyedVotes IsKeyOf version t known e = IsKeyOf e.0 × AreVotesOfKey version t known e.1
 

@@ -21,21 +21,17 @@ use Rattle.dac_bytes.specs.declared.version.Version.{Version}
 
 -- the life of a node is well-formed
 pub record IsLifeInForm (version : Version) (nodes : ℕ) (e : NodeId × Life) : Type 0 where
-  -- the node exists
   pub node : e.0.0 < nodes
-  -- its incarnation is in range
   pub inc : IsIncarnation version e.1.inc
 
 -- the lives of some nodes are well-formed
 pub record AreLivesInForm (version : Version) (nodes : ℕ) (lives : Lives) : Type 0 where
-  -- each of them is well-formed
   pub each : AllByRecursion (IsLifeInForm version nodes) (map.entries lives)
-  -- their number fits its field
   pub count : length (map.entries lives) < 2 ^ 8
 
 -- ---- claims
 
--- A manner is consistent: a normal start came from no node, and any other from an existing one.
+-- A manner is consistent: `Normal` has no previous node, and the others have an existing one.
 abbrev pub IsFromFor : ℕ → How → Option NodeId → Type 0
 IsFromFor nodes Normal from = from ≡ None
 IsFromFor nodes Failover from = (node : NodeId) × (from ≡ Some node) × (node.0 < nodes)
@@ -43,12 +39,11 @@ IsFromFor nodes Takeover from = (node : NodeId) × (from ≡ Some node) × (node
 
 -- the claim of an application is well-formed
 pub record IsClaimInForm (version : Version) (t : Table) (e : AppId × Claim) : Type 0 where
-  -- the application exists
   pub app : e.0.0 < app_count t
   -- its term can be issued
   pub first : 1 ≤ e.1.term
   pub last : e.1.term ≤ MAX_COUNTER
-  -- its holder is an incarnation of an existing node
+  -- the claiming incarnation is of an existing node
   pub origin : IsOrigin version (node_count t) e.1.origin
   -- that node is in the application's list
   pub listed : is_listed t e.0 e.1.origin.node ≡ true
@@ -57,7 +52,5 @@ pub record IsClaimInForm (version : Version) (t : Table) (e : AppId × Claim) : 
 
 -- the claims of some applications are well-formed
 pub record AreClaimsInForm (version : Version) (t : Table) (claims : Claims) : Type 0 where
-  -- each of them is well-formed
   pub each : AllByRecursion (IsClaimInForm version t) (map.entries claims)
-  -- their number fits its field
   pub count : length (map.entries claims) < 2 ^ 16

@@ -45,7 +45,7 @@ pub record IsKnownWrite {K : Type 0} (IsKeyOf : K → Type 0) (version : Version
   pub key : IsKeyOf w.key
   pub dot : IsKnownDot version t known w.dot
 
--- votes that are well-formed
+-- votes are well-formed
 pub record AreVotesInForm {K : Type 0} (R : K → K → Ordering) (IsKeyOf : K → Type 0) (version : Version) (t : Table)
     (known : Dots) (votes : Votes R) : Type 0 where
   -- each of them has an existing key and a known dot
@@ -64,7 +64,7 @@ abbrev pub AreDrainsInForm : Version → Table → Dots → Drains → Type 0
 AreDrainsInForm One t known drains = drains ≡ map.empty
 AreDrainsInForm Two t known drains = AreVotesInForm origin_cmp (IsOrigin Two (node_count t)) Two t known drains
 
--- start wishes that are well-formed
+-- start wishes are well-formed
 pub record AreStartsInForm (version : Version) (t : Table) (known : Dots) (writes : Writes) : Type 0 where
   -- each of them has a key of the configuration and a known dot
   pub each : (w : Write) → set.contains writes w ≡ true → IsKnownWrite (IsKey version t) version t known w

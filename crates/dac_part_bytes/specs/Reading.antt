@@ -49,7 +49,7 @@ key_of app origin = record { app = app; node = origin.node; inc = origin.inc }
 abbrev pub is_listed : Table → AppId → NodeId → Bool
 is_listed t app node = is_some (group_of t app node)
 
--- the fields of a key
+-- application, node and incarnation
 unfoldable pub key_fields_at : Version → Table → Rest → Field Key
 key_fields_at version t r = do
   app ← app_at (app_count t) r
@@ -113,7 +113,7 @@ unfoldable pub votes_by_key_at : {K : Type 0} → (Option K → Rest → Field K
 votes_by_key_at {K =
     K} key_above votes r = counted_at (number_at w32) (keyed_votes_at key_above votes) (λ (e : K × DotFlags). e.0) r
 
--- the votes, as a map
+-- the votes of all keys, as a map
 unfoldable pub all_votes_at : {K : Type 0} (R : K → K → Ordering) → (Option K → Rest → Field K)
     → (Rest → Field DotFlags) → Rest → Field (Votes R)
 all_votes_at R key_above votes r = do
@@ -124,7 +124,7 @@ all_votes_at R key_above votes r = do
 abbrev pub permits_of_key_at : Version → Table → Dots → Rest → Field DotFlags
 permits_of_key_at version t known = votes_of_key_at version (node_count t) known Up
 
--- the permits
+-- the permits of all keys
 abbrev pub all_permits_at : Version → Table → Dots → Rest → Field Permits
 all_permits_at version t known = all_votes_at key_cmp (key_above_at version t) (permits_of_key_at version t known)
 
@@ -207,7 +207,7 @@ how_of (suc zero) = Normal
 how_of (suc (suc zero)) = Failover
 how_of (suc (suc (suc n))) = Takeover
 
--- how an application came to its node
+-- how an application came to its node: a code from 1 to 3
 unfoldable pub how_at : Rest → Field How
 how_at r = do
   n ← range_at w8 1 3 r
@@ -219,7 +219,7 @@ from_code_at nodes r = do
   n ← number_at w8 r
   if nat_lt nodes n.0 then fault BadName r else Ok n
 
--- a normal start came from no node, and any other from some node
+-- whether the code fits: `Normal` has no previous node, and the others have one
 abbrev pub is_from_of : How → ℕ → Bool
 is_from_of Normal n = n == 0
 is_from_of Failover n = nat_lt 0 n
@@ -231,7 +231,7 @@ fitting_code_at nodes how r = do
   n ← from_code_at nodes r
   if is_from_of how n.0 then Ok n else fault BadNumber r
 
--- a node by code
+-- the node that an application was taken from, by code
 abbrev pub from_of : ℕ → Option NodeId
 from_of zero = None
 from_of (suc n) = Some (record { 0 = n })
@@ -249,14 +249,14 @@ manner_at nodes r = do
   from ← from_at nodes how.0 how.1
   Ok ((how.0, from.0), from.1)
 
--- the holder of an application, and how it came there
+-- the claiming incarnation, and how the application came there
 unfoldable pub claimer_at : Version → ℕ → Rest → Field (Origin × (How × Option NodeId))
 claimer_at version nodes r = do
   origin ← origin_at version nodes r
   manner ← manner_at nodes origin.1
   Ok ((origin.0, manner.0), manner.1)
 
--- a claim of its fields
+-- a claim, given its term and its other fields
 abbrev pub claim_of : ℕ → Origin × (How × Option NodeId) → Claim
 claim_of term claimer = record { term = term; origin = claimer.0; how = claimer.1.0; from = claimer.1.1 }
 

@@ -107,7 +107,7 @@ lives_bytes version lives = u8_bytes (length (map.entries lives)) ++ flat_map (l
 
 -- ---- claims
 
--- how an application came to its node: 1 for a normal start, 2 for a failover, 3 for a takeover
+-- how an application came to its node: 1 for normal, 2 for a failover, 3 for a takeover
 abbrev pub how_code : How → ℕ
 how_code Normal = 1
 how_code Failover = 2
@@ -122,7 +122,7 @@ from_code (Some node) = node.0 + 1
 unfoldable pub manner_bytes : How → Option NodeId → List ℕ
 manner_bytes how from = u8_bytes (how_code how) ++ u8_bytes (from_code from)
 
--- an application, the term of its claim, its holder, and how it came there
+-- an application, the term of its claim, the claiming incarnation, and how the application came there
 unfoldable pub claim_bytes : Version → AppId × Claim → List ℕ
 claim_bytes version e =
     app_bytes e.0 ++ u64_bytes e.1.term ++ origin_bytes version e.1.origin ++ manner_bytes e.1.how e.1.from

@@ -57,7 +57,6 @@ fn read_counted_lives<'a>(
     Ok((lives, rest))
 }
 
-/// All lives, without their law.
 #[tactic(auto, unfolding(crate::specs::Reading::all_lives_at, crate::specs::Reading::lives_in_order_at, dac_bytes::specs::Reading::counted_at))]
 fn read_all_lives<'a>(
     reader: ByteReader<'a>,
@@ -220,7 +219,6 @@ fn read_counted_claims<'a>(
     Ok((claims, rest))
 }
 
-/// All claims, without their law.
 #[tactic(auto, unfolding(crate::specs::Reading::all_claims_at, crate::specs::Reading::claims_in_order_at, dac_bytes::specs::Reading::counted_at))]
 fn read_all_claims<'a>(
     reader: ByteReader<'a>,
@@ -236,7 +234,7 @@ fn read_all_claims<'a>(
 }
 
 /// The claims: the number of claimed applications, and for each in ascending order the application, the term of its
-/// claim, its holder, and how it came there.
+/// claim, the claiming incarnation, and how the application came there.
 ///
 /// # Errors
 ///

@@ -120,7 +120,6 @@ fn read_starts_by_key<'a>(
     Ok(read)
 }
 
-/// The standing start wishes, without their law.
 #[tactic(auto, unfolding(crate::specs::Reading::all_starts_at))]
 fn read_all_starts<'a>(
     reader: ByteReader<'a>,

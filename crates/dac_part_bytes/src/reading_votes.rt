@@ -170,7 +170,6 @@ fn read_permits_by_key<'a>(
     Ok(read)
 }
 
-/// The standing permits, without their law.
 #[tactic(auto, unfolding(crate::specs::Reading::all_votes_at))]
 fn read_all_permits<'a>(
     reader: ByteReader<'a>,
@@ -287,7 +286,7 @@ fn read_drains_by_key<'a>(
     Ok(read)
 }
 
-/// The standing drains in version two, without their law.
+/// The standing drains in version two.
 #[tactic(auto, unfolding(crate::specs::Reading::all_votes_at))]
 fn read_all_drains<'a>(
     reader: ByteReader<'a>,
@@ -305,7 +304,6 @@ fn read_all_drains<'a>(
     Ok((Drains::new(causal), rest))
 }
 
-/// The standing drains in a version, without their law.
 fn read_drains_in<'a>(
     reader: ByteReader<'a>,
     alloc: Global,

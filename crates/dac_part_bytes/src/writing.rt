@@ -23,7 +23,6 @@ pub fn write_key(writer: ByteWriter, version: Version, key: Key) -> Result<ByteW
     }
 }
 
-/// A key in version one.
 #[tactic(auto, unfolding(crate::specs::Spelling::key_bytes, dac_bytes::specs::Spelling::origin_bytes, dac_bytes::specs::Spelling::incarnation_bytes, dac_bytes::specs::Numbers::u8_bytes, dac_bytes::specs::Numbers::u16_bytes))]
 fn short_key(key: Key) -> [u8; 7]
     ensures { result ≡ key_bytes One key }
@@ -34,7 +33,6 @@ fn short_key(key: Key) -> [u8; 7]
     [app[0], app[1], node[0], inc[4], inc[5], inc[6], inc[7]]
 }
 
-/// A key in version two.
 #[tactic(auto, unfolding(crate::specs::Spelling::key_bytes, dac_bytes::specs::Spelling::origin_bytes, dac_bytes::specs::Spelling::incarnation_bytes, dac_bytes::specs::Numbers::u8_bytes, dac_bytes::specs::Numbers::u16_bytes))]
 fn long_key(key: Key) -> [u8; 11]
     ensures { result ≡ key_bytes Two key }
@@ -97,7 +95,6 @@ fn write_votes(
     Ok(written)
 }
 
-/// A key and its permits.
 #[tactic(auto, unfolding(crate::specs::Spelling::keyed_votes_bytes))]
 fn write_permits(
     writer: ByteWriter,
@@ -315,7 +312,7 @@ fn write_claim(
 }
 
 /// The claims: the number of claimed applications, and for each in ascending order the application, the term of its
-/// claim, its holder, and how it came there.
+/// claim, the claiming incarnation, and how the application came there.
 #[tactic(auto, unfolding(crate::specs::Spelling::claims_bytes))]
 pub fn write_claims(
     writer: ByteWriter,

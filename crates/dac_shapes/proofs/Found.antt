@@ -227,7 +227,6 @@ module _ {A : Type 0} (Is : List Word → A → Type 0) (read : List A → Locat
 
 module _ {A : Type 0} (Is : List Word → A → Type 0) (read : List A → Located → State → Result (A × State) ConfigFault) (step : Seen → A → Seen) (May : List A → Seen → A → Type 0)
     (reads : (before : List A) (t : Located) (s : State) (x : A) (u : State) → EndsWell s → read before t s ≡ Ok (x, u) → Reads Is step (May before) t s x u) where
-  -- a list in brackets
   pub bracketed_found : (s : State) (xs : List A) (u : State) → EndsWell s → list_of read s ≡ Ok (xs, u) → Gets (IsListOf Is) (steps step) (AllMay step May []) s xs u
   unfolding list_of
   bracketed_found s xs u well e =

@@ -69,7 +69,7 @@ module _ {A : Type 0} (read : Reading A) (close : Symbol) where
   abbrev pub rest_from_element : ℕ → List A → A × State → Result (List A × State) ConfigFault
   rest_from_element n done one = more_at close one.1 >>= rest_from_mark n (done ++ one.0 ∷ [])
 
-  -- reading the rest of the list gives the whole result
+  -- the result of reading the rest of the list is the whole result
   pub record Goes (total : Result (List A × State) ConfigFault) (done : List A) (t : Located) (s : State) : Type 0 where
     pub n : ℕ
     pub enough : length s.left.tokens < n
@@ -125,7 +125,7 @@ when_false false x y z e is = e
 abbrev texts_from : ℕ → Located × State → Result (Located × State) ConfigFault
 texts_from n t = cond (is_text t.0.word) (texts_at n t.1) (Ok t)
 
--- skipping the remaining strings gives the whole result
+-- the result of skipping the remaining strings is the whole result
 pub record GoesTexts (total : Result (Located × State) ConfigFault) (s : State) : Type 0 where
   pub n : ℕ
   pub enough : length s.left.tokens < n
@@ -168,7 +168,7 @@ comma_no_end End e = absurd cc
 comma_no_end _ e = refl
 
 module _ (pass : Located → State → Result (Located × State) ConfigFault) (close : Symbol) where
-  -- skipping the remaining terms gives the whole result
+  -- the result of skipping the remaining terms is the whole result
   pub record GoesTerms (total : Result (Located × State) ConfigFault) (t : Located) (s : State) : Type 0 where
     pub n : ℕ
     pub enough : length s.left.tokens < n
@@ -243,7 +243,6 @@ module _ (pass : Located → State → Result (Located × State) ConfigFault) (c
 pub is_enough : {t : Located} {s : State} (left n : ℕ) → left < n → length s.left.tokens ≤ left → (is_end t.word ≡ false → length s.left.tokens < left) → IsEnough t s n
 is_enough left n lt le fewer = record { end = omega arith; token = λ no_end. (let less = fewer no_end in omega arith) }
 
--- one step opens a term
 pub opens : (n : ℕ) (t : Located) (s : State) → IsEnough t s n → (m : ℕ) × (is_end t.word ≡ false → length s.left.tokens < m) × (term_at n t s ≡ term_by (term_at m) m t s)
 unfolding term_at
 opens zero t s enough = absurd (let lt = enough.end in omega arith)

@@ -45,7 +45,7 @@ short_name_is t name e =
     let q = ok_is b.0 name p.1 in
     (atom_is t.word t.at b.0 b.1 ∙ ap Name q, omega (arith, ltb-false 255 (length b.0) p.0, ap length q))
 
--- what follows from a failed conjunction whose first part is negated
+-- a failed conjunction fails in its second part if the first holds
 unless_first : (a b : Bool) → (not a && b) ≡ false → a ≡ false → b ≡ false
 unless_first true b e f = absurd cc
 unless_first false b e f = e

@@ -17,7 +17,7 @@ pub record Seen : Type 0 where
   pub met : List (List ℕ)
   pub listed : List (List ℕ)
 
--- before any name
+-- no names, before a text is read
 abbrev pub nothing : Seen
 nothing = record { met = []; listed = [] }
 

@@ -55,7 +55,7 @@ is_text End = false
 
 -- ---- one token
 
--- the next token
+-- reads the next token
 abbrev pub token : State → Result (Located × State) ConfigFault
 token s = do
   t ← taken s.left
@@ -79,7 +79,7 @@ more_at close s = do
       else (if is_symbol close t.0.word then Ok (false, t.1)
       else fails BadShape t.0.at)
 
--- the name in a token
+-- the name in a token; any other token is a fault
 unfoldable pub atom_of : Located → Result (List ℕ) ConfigFault
 atom_of t = named t.word
   where
@@ -115,7 +115,7 @@ wait_of t = waits t.word
     waits Text = fails BadShape t.at
     waits End = fails BadShape t.at
 
--- `true` or `false`
+-- the flag in a token: `true` or `false`
 unfoldable pub flag_of : Located → Result Bool ConfigFault
 flag_of t = do
   name ← atom_of t

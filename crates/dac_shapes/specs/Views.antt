@@ -78,7 +78,7 @@ here p = (located_of p.token, parser_state p)
 abbrev pub from_here : {A : Type 0} → (Located → State → A) → Parser → A
 from_here read p = read (located_of p.token) (parser_state p)
 
--- the number of remaining tokens
+-- the number of remaining tokens, which decreases
 abbrev pub tokens_left : Parser → ℕ
 tokens_left p = length p.tokens.tokens
 

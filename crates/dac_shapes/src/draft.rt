@@ -29,12 +29,12 @@ pub struct DraftApp<'a> {
     pub groups: Vec<Vec<&'a [u8]>>,
 }
 
-/// Whether an application is permitted to run, as of the start (OTP's kernel parameter `permissions`).
+/// Whether an application is permitted to run (OTP's kernel parameter `permissions`).
 #[derive(Clone, Copy)]
 pub struct Permission<'a> {
     /// The application's name; `distributed` doesn't necessarily list it.
     pub name: &'a [u8],
-    /// Whether it is permitted.
+    /// Whether it is permitted at the start.
     pub value: bool,
 }
 

@@ -18,7 +18,6 @@ pub trait Elements<'a> {
 
     ghost said: { Self.Element → Said };
 
-    // the definition that `read` implements
     ghost read_at: { Reading Said };
 
     /// Reads the element that begins with the current token.

@@ -27,12 +27,12 @@ use std::alloc::Global;
 /// `NoMemory` has offset 0.
 #[tactic(auto, unfolding(crate::specs::Shape::draft_at))]
 pub fn parse_draft(alloc: Global, text: &[u8]) -> Result<Draft<'_>, ConfigFault>
-    // A draft that is returned is one that the grammar gives to the text.
+    // The grammar assigns the returned draft to the text.
     ensures found { IfOk result (λ draft. IsTextOf text.now (draft_of draft)) }
     // A text in the grammar is read, unless memory runs out.
     ensures only { (draft : Written) → IsTextOf text.now draft
         → MatchResult result (λ d. draft_of d ≡ draft) (λ e. e.kind ≡ NoMemory) }
-    // A draft that is returned keeps the limits.
+    // The returned draft keeps the limits.
     ensures limits { IfOk result (λ draft. IsWithinLimits (draft_of draft)) }
     // The definition determines the fault, unless memory runs out.
     ensures exact { Gives draft_of result (draft_at text.now) }

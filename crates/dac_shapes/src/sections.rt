@@ -54,7 +54,7 @@ impl<'a> Parser<'a> {
         }
     }
 
-    /// Reads a whole file.
+    /// Reads a whole file, up to the end of the text.
     #[tactic(auto, unfolding(crate::specs::Shape::file_at))]
     pub fn file(mut self) -> Result<Draft<'a>, ConfigFault>
         ensures { Gives draft_of result (file_at (parser_state self.entry)) }

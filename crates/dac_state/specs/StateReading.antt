@@ -15,7 +15,7 @@ use Rattle.dac_part_bytes.specs.Reading.{all_permits_at, all_starts_at, all_live
 use Rattle.dac_meaning.specs.StateValue.{StateValue}
 use Rattle.dac_bytes.specs.declared.version.Version.{Version}
 
--- the dots heard and the dots known, which must include them
+-- the dots heard, and the dots known, which must include them
 unfoldable pub dots_at : Version → ℕ → Rest → Field (Dots × Dots)
 dots_at version nodes r = do
   heard ← context_at version nodes r
@@ -29,7 +29,7 @@ standing_at version t known r = do
   starts ← all_starts_at version t known permits.1
   Ok ((permits.0, starts.0), starts.1)
 
--- lives, and claims
+-- the lives, and the claims
 unfoldable pub chains_at : Version → Table → Rest → Field (Lives × Claims)
 chains_at version t r = do
   lives ← all_lives_at version (node_count t) r

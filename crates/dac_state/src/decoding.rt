@@ -20,7 +20,7 @@ use dac_part_bytes::{Config, read_claims, read_drains, read_lives, read_permissi
 use dac_wishes::{Drains, Permissions, Wishes};
 use std::alloc::Global;
 
-/// The dots heard and the dots known.
+/// The dots heard and the dots known, which must include them.
 #[tactic(auto, unfolding(crate::specs::StateReading::dots_at))]
 fn read_dots<'a>(
     reader: ByteReader<'a>,
@@ -61,7 +61,6 @@ fn read_standing<'a>(
     Ok(((permissions, wishes), rest))
 }
 
-/// The lives and the claims.
 #[tactic(auto, unfolding(crate::specs::StateReading::chains_at))]
 fn read_chains<'a>(
     reader: ByteReader<'a>,
@@ -118,7 +117,6 @@ fn read_pieces<'a>(
     Ok(((standing, others), rest))
 }
 
-/// The parts of a state, in sequence.
 #[tactic(auto, unfolding(crate::specs::StateReading::parts_at))]
 fn read_parts<'a>(
     reader: ByteReader<'a>,
@@ -138,7 +136,6 @@ fn read_parts<'a>(
     Ok((parts, rest))
 }
 
-/// A state.
 fn read_next<'a>(
     reader: ByteReader<'a>,
     alloc: Global,
@@ -152,7 +149,7 @@ fn read_next<'a>(
     Ok((state, rest))
 }
 
-/// A state without further bytes.
+/// A state, unless bytes follow it.
 #[tactic(auto, unfolding(crate::specs::StateReading::state_at))]
 fn read_state(
     alloc: Global,

@@ -86,7 +86,7 @@ impl Parts {
         }
     }
 
-    /// The allocator of the parts.
+    /// The allocator of the parts, for joins and copies.
     pub(crate) fn allocator(&self) -> Global {
         self.alloc
     }
@@ -112,7 +112,7 @@ impl Parts {
         &self.permissions
     }
 
-    /// The standing start wishes.
+    /// The standing start wishes, whose context is that of the known dots.
     pub(crate) fn wishes(&self) -> &Wishes
         ensures { result.now ≡ wishes_of self.now }
     {

@@ -86,7 +86,6 @@ impl State {
         })
     }
 
-    /// The parts, wherever they are.
     fn parts(&self) -> &Parts
         ensures { result.now ≡ self.now }
     {
@@ -96,7 +95,7 @@ impl State {
         }
     }
 
-    /// The allocator of the state.
+    /// The allocator of the parts.
     pub(crate) fn allocator(&self) -> Global {
         self.parts().allocator()
     }
@@ -115,21 +114,21 @@ impl State {
         self.parts().known()
     }
 
-    /// The standing permits.
+    /// The standing permits, which no heard operation replaced, paired with the known dots.
     pub fn permissions(&self) -> &Permissions
         ensures { result.now ≡ permissions_of self.now }
     {
         self.parts().permissions()
     }
 
-    /// The standing start wishes.
+    /// The standing start wishes, which no heard operation replaced, paired with the known dots.
     pub fn wishes(&self) -> &Wishes
         ensures { result.now ≡ wishes_of self.now }
     {
         self.parts().wishes()
     }
 
-    /// The life of each node.
+    /// The life of each node: its latest incarnation heard of, and whether it is up.
     pub fn lives(&self) -> &Lives
         ensures { result.now ≡ self.now.lives }
     {
@@ -143,7 +142,7 @@ impl State {
         self.parts().claims()
     }
 
-    /// The standing drains.
+    /// The standing drains, which no heard operation replaced, paired with the known dots.
     pub fn drains(&self) -> &Drains
         ensures { result.now ≡ drains_of self.now }
     {

@@ -39,7 +39,6 @@ tells_break [] no_digit = (λ e. absurd cc, λ h. absurd h)
 tells_break (b ∷ []) no_digit = (λ e. grind (arith, nat_tests), λ h. grind (arith, nat_tests))
 tells_break (b ∷ c ∷ bs) no_digit = (λ e. grind (arith, nat_tests), λ h. grind (arith, nat_tests))
 
--- the last test of `class_of`
 abbrev is_refused : ℕ → Bool
 is_refused b =
     eqb b 60 || eqb b 35 || eqb b 36 || eqb b 43 || eqb b 126 || eqb b 124 || leb 128 b
@@ -80,7 +79,6 @@ unknown_class b un = rw (mark 91 OpenList refl, mark 93 CloseList refl, mark 123
     mark : (n : ℕ) (symbol : Symbol) → n ∷ [] ≡ bytes_of symbol → eqb b n ≡ false
     mark n symbol is = ne_eqb b n (λ e. un.no_mark symbol (ap (λ k. k ∷ []) e ∙ is))
 
--- the bytes of each class
 abbrev pub IsOf : Class → ℕ → Type 0
 IsOf (class.Bracket FullStop) b = ⊥
 IsOf (class.Bracket symbol) b = b ∷ [] ≡ bytes_of symbol

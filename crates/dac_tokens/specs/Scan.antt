@@ -126,7 +126,7 @@ number_at at negative bs =
 abbrev pub negative_at : ℕ → List ℕ → Result (Word × List ℕ) ConfigFault
 negative_at at bs = if stretch is_ascii_digit bs == 0 then bad_token at else number_at at true bs
 
--- the token at `at` that begins with the byte b of this class and goes on with bs
+-- the token at `at` whose first byte is b, of this class, and which continues in bs
 abbrev pub token_of : Class → ℕ → ℕ → List ℕ → Result (Word × List ℕ) ConfigFault
 token_of (class.Bracket symbol) at b bs = Ok (Punctuation symbol, bs)
 token_of class.Comma at b bs = Ok (Punctuation Comma, bs)

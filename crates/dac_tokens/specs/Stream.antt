@@ -58,7 +58,7 @@ and_then (Ok first) rest =
     if is_end first.0.word then record { tokens = []; last = Ok first.0 }
     else record { tokens = first.0 ∷ (rest first.1 first.2).tokens; last = (rest first.1 first.2).last }
 
--- at most n tokens
+-- at most n tokens; n bounds the recursion
 unfoldable pub tokens_within : ℕ → ℕ → ℕ → List ℕ → Stream
 tokens_within zero end depth bytes = record { tokens = []; last = Ok (record { word = End; at = end }) }
 tokens_within (suc n) end depth bytes = and_then (token_from end depth bytes) (tokens_within n end)

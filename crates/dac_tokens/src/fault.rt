@@ -90,7 +90,7 @@ impl FaultKind {
 #[derive(Clone, Copy, Debug, PartialEq, Eq, Error)]
 #[error("{kind} at {at}")]
 pub struct ConfigFault {
-    /// The kind of fault.
+    /// The kind, which determines its number and name.
     pub kind: FaultKind,
     /// Its offset, in bytes from the start of the text; 0 for `NoMemory`.
     pub at: usize,

@@ -20,7 +20,7 @@ pub enum Symbol {
     FullStop,
 }
 
-/// A token, which borrows its bytes from the text.
+/// A token, with bytes borrowed from the text.
 #[derive(Clone, Copy, Debug, PartialEq, Eq)]
 pub enum Token<'a> {
     /// A bracket, a comma or the full stop.
@@ -43,7 +43,7 @@ pub enum Token<'a> {
 /// A token with its offset.
 #[derive(Clone, Copy, Debug, PartialEq, Eq)]
 pub struct Located<'a> {
-    /// The token itself.
+    /// The kind of token, with its bytes.
     pub token: Token<'a>,
     /// The number of bytes before it; for `End`, the length of the text.
     pub at: usize,
@@ -71,6 +71,6 @@ pub enum Stretch {
     Digits,
     /// The bytes between the quotes of an atom.
     Name,
-    /// What stands between the quotes of an atom.
+    /// The bytes between the quotes of an atom.
     Quoted,
 }

@@ -53,12 +53,9 @@ IsBodyInForm version t Nothing = Unit {0}
 
 -- a message is well-formed
 pub record IsMessage (version : Version) (t : Table) (m : Message) : Type 0 where
-  -- an incarnation of an existing node
   pub from : IsOrigin version (node_count t) m.from
-  -- an existing node
   pub to : m.to.0 < node_count t
   pub only : IsOnly version (is_whole m.body) m.only
-  -- a delta count in range
   pub up_to : m.up_to ≤ MAX_COUNTER
   pub ack : IsAck version (node_count t) m.ack
   pub body : IsBodyInForm version t m.body
@@ -74,14 +71,12 @@ pub record AreOver (version : Version) (nodes : ℕ) (over : List Dot) : Type 0 
 -- a claim by a node in the application's list
 pub record IsClaimInForm (t : Table) (issuer : NodeId) (claimed : AppId) (number : ℕ) (how : How)
     (taken : Option NodeId) : Type 0 where
-  -- the application exists
   pub app : claimed.0 < app_count t
-  -- its term can be issued
+  -- the term can be issued
   pub first : 1 ≤ number
   pub last : number ≤ MAX_COUNTER
   -- the node is in the application's list
   pub listed : is_listed t claimed issuer ≡ true
-  -- the manner is consistent
   pub from : IsFromFor (node_count t) how taken
 
 -- the act, issued by a node, is well-formed
@@ -97,7 +92,6 @@ IsAct version t issuer (Claim app term how from) = IsClaimInForm t issuer app te
 
 -- an operation is well-formed
 pub record IsOperation (version : Version) (t : Table) (o : Operation) : Type 0 where
-  -- a dot in range
   pub dot : IsDot version (node_count t) o.dot
   -- a kind of act that the version has
   pub kind : IsKindIn version (kind_of_act o.act)

@@ -96,7 +96,7 @@ bound_at version nodes whole r = do
   counts ← counts_at version nodes only.1
   Ok ((only.0, counts.0), counts.1)
 
--- the head of these fields
+-- the head of a message, given its fields
 abbrev pub head_of : Origin × NodeId → Option ℕ × (ℕ × Option (Origin × ℕ)) → Head
 head_of route bound = record { from = route.0; to = route.1; only = bound.0; up_to = bound.1.0; ack = bound.1.1 }
 
@@ -141,7 +141,7 @@ drain_fields_at version t r = do
   valued ← valued_over_at version (node_count t) at.1
   Ok ((at.0, valued.0), valued.1)
 
--- the fields of a claim
+-- an application, a term, and how the application came to its node
 abbrev pub ClaimFields : Type 0
 ClaimFields = AppId × (ℕ × (How × Option NodeId))
 
@@ -187,7 +187,7 @@ act_fields_at version t issuer Claim r = do
   c ← listed_claim_at t issuer r
   Ok (ClaimAct c.0.0 c.0.1.0 c.0.1.1.0 c.0.1.1.1, c.1)
 
--- the kind of the act
+-- the kind of an act: a code up to the version's greatest
 unfoldable pub act_kind_at : Version → Rest → Field ActKind
 act_kind_at version r = do
   code ← range_at w8 1 (highest_act version) r
@@ -215,7 +215,7 @@ operation_at version t r = do
 
 -- ---- packets
 
--- the kind of the packet
+-- the kind of a packet: a code from 1 to 4
 unfoldable pub packet_kind_at : Rest → Field PacketKind
 packet_kind_at r = do
   code ← range_at w8 1 4 r

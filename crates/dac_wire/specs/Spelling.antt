@@ -38,7 +38,7 @@ version_byte Two = 2
 abbrev pub name_bytes : Version → List ℕ
 name_bytes version = magic ++ (version_byte version ∷ [])
 
--- the mark of a configuration
+-- the mark of a configuration: the hash of its canonical text
 abbrev pub mark_of : Table → ℕ
 mark_of t = fnv1a (canonical_text t)
 

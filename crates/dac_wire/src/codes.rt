@@ -7,7 +7,7 @@ use dac_bytes::Version;
 use dac_messages::Body;
 use dac_operations::Act;
 
-/// The kind of a packet.
+/// The kind of a packet: a message by its body, or a single operation.
 #[derive(Clone, Copy)]
 pub(crate) enum PacketKind {
     Whole,
@@ -42,7 +42,7 @@ pub(crate) fn packet_of_code(code: u8) -> PacketKind
     }
 }
 
-/// The code of a packet kind.
+/// The code of a packet's kind, 1 to 4.
 pub(crate) fn packet_code(kind: PacketKind) -> u8
     ensures { result ≡ packet_code kind }
 {
@@ -85,7 +85,7 @@ pub(crate) fn act_of_code(code: u8) -> ActKind
     }
 }
 
-/// The code of an act kind.
+/// The code of an act's kind, 1 to 7.
 pub(crate) fn act_code(kind: ActKind) -> u8
     ensures { result ≡ act_code kind }
 {

@@ -22,13 +22,11 @@ use dac_part_bytes::laws::parts_have_one_spelling;
 use dac_state::laws::states_have_one_spelling;
 use std::alloc::Global;
 
-/// The name of the format.
 const MAGIC: [u8; 3] = *b"DAC";
 
 /// The number of bytes before a packet's kind: the format's name, its version and the mark.
 const PREAMBLE: usize = 12;
 
-/// The byte of a version.
 fn version_byte(version: Version) -> u8
     ensures { result ≡ version_byte version }
 {

@@ -123,7 +123,6 @@ fn read_ack<'a>(
 /// The sender's delta count, and its acknowledgement.
 type Counts = (u64, Option<(Origin, u64)>);
 
-/// The sender's delta count, and its acknowledgement.
 #[tactic(auto, unfolding(crate::specs::Reading::counts_at))]
 fn read_counts<'a>(
     reader: ByteReader<'a>,
@@ -154,7 +153,6 @@ fn read_bound<'a>(
     Ok(((only, counts), rest))
 }
 
-/// A message without its state.
 #[tactic(auto, unfolding(crate::specs::Reading::head_at))]
 fn read_head<'a>(
     reader: ByteReader<'a>,
@@ -207,7 +205,6 @@ fn read_head_and_state<'a>(
     Ok(((head, state), rest))
 }
 
-/// The kind of the packet.
 #[tactic(auto, unfolding(crate::specs::Reading::packet_kind_at))]
 fn read_packet_kind<'a>(reader: ByteReader<'a>) -> Result<(PacketKind, ByteReader<'a>), ReadFault>
     ensures exact { result ≡ packet_kind_at reader.entry }

@@ -84,7 +84,6 @@ fn read_valued_over<'a>(
     Ok(((value_of_code(code), over), rest))
 }
 
-/// The fields of a permit.
 #[tactic(auto, unfolding(crate::specs::Reading::permit_fields_at))]
 fn read_permit_fields<'a>(
     reader: ByteReader<'a>,
@@ -99,7 +98,6 @@ fn read_permit_fields<'a>(
     Ok(((key, valued), rest))
 }
 
-/// The fields of a drain.
 #[tactic(auto, unfolding(crate::specs::Reading::drain_fields_at))]
 fn read_drain_fields<'a>(
     reader: ByteReader<'a>,
@@ -114,7 +112,7 @@ fn read_drain_fields<'a>(
     Ok(((at, valued), rest))
 }
 
-/// How an application came to its node, and from which node.
+/// How an application came to its node, and from which one.
 type Manner = (How, Option<NodeId>);
 
 /// A term, and how the application came to its node.
@@ -131,7 +129,6 @@ fn read_term_and_manner<'a>(
     Ok(((term, manner), rest))
 }
 
-/// The fields of a claim.
 #[tactic(auto, unfolding(crate::specs::Reading::claim_fields_at))]
 fn read_claim_fields<'a>(
     reader: ByteReader<'a>,
@@ -165,7 +162,6 @@ fn read_listed_claim<'a>(
     }
 }
 
-/// The kind of the act.
 #[tactic(auto, unfolding(crate::specs::Reading::act_kind_at))]
 fn read_act_kind<'a>(
     reader: ByteReader<'a>,

@@ -46,7 +46,6 @@ fn write_body(writer: ByteWriter, body: &Body) -> Result<ByteWriter, NoMemory>
     }
 }
 
-/// A message.
 #[tactic(auto, unfolding(crate::specs::Spelling::message_bytes))]
 fn write_message(writer: ByteWriter, message: &Message) -> Result<ByteWriter, NoMemory>
     ensures { IfOk result (λ written. written ≡ writer ++ message_bytes Two message.now) }
@@ -73,7 +72,6 @@ fn write_over(writer: ByteWriter, over: &[Dot]) -> Result<ByteWriter, NoMemory>
     Ok(written)
 }
 
-/// The fields of an act.
 #[tactic(auto, unfolding(crate::specs::Spelling::act_fields_bytes))]
 fn write_act_fields(writer: ByteWriter, act: &Act) -> Result<ByteWriter, NoMemory>
     ensures { IfOk result (λ written. written ≡ writer ++ act_fields_bytes Two act.now) }
@@ -124,7 +122,6 @@ fn write_act_fields(writer: ByteWriter, act: &Act) -> Result<ByteWriter, NoMemor
     }
 }
 
-/// An operation.
 #[tactic(auto, unfolding(crate::specs::Spelling::operation_bytes, crate::specs::Spelling::act_bytes))]
 fn write_operation(writer: ByteWriter, op: &Op) -> Result<ByteWriter, NoMemory>
     ensures { IfOk result (λ written. written ≡ writer ++ operation_bytes Two op.now) }

@@ -71,7 +71,6 @@ module _ {K X : Type 0} {R : K → K → Ordering} (o : IsTotalOrder R) (key : X
     below_none None = refl
     below_none (Some b) = refl
 
-    -- Q holds of each item
     pub chain_each : (xs : List X) (s : Option K) → Chain (IsNext R key Q) next s xs → AllByRecursion Q xs
     chain_each [] s c = tt
     chain_each (x ∷ xs) s c = (c.0.0, chain_each xs (next x) c.1)

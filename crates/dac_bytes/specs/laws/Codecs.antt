@@ -74,7 +74,6 @@ module _ {X : Type 0} (read : Rest → Field X) (text : X → List ℕ) (Is : X 
           (Again-both read next make (text b.0) (text_next b.0 b.1) b.0 b.1 (codec.again b.0 b.2) ((codec_next b.0 b.2).again b.1 b.3)));
     }
 
-  -- two fields, as a pair
   module _ {Y : Type 0} (next : X → Rest → Field Y) (text_next : X → Y → List ℕ) (IsNext : X → Y → Type 0) (codec_next : (x : X) → Is x → IsCodec (next x) (text_next x) (IsNext x)) where
     abbrev pub pair_bytes : X × Y → List ℕ
     pair_bytes p = text p.0 ++ text_next p.0 p.1

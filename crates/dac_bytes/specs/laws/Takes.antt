@@ -20,7 +20,6 @@ IsBytes-take n bytes h i =
       | inr le ↦ rw (get_or_past (take n bytes) i 0 (omega (arith, length-take n bytes))) (omega arith)
     ]
 
--- taking the first n bytes
 pub Takes-front : (n : ℕ) (r : Rest) → n ≤ length r.bytes → IsBytes r.bytes → Takes r (take n r.bytes) (record { at = r.at + n; bytes = drop n r.bytes })
 Takes-front n r long fits =
     record {
@@ -29,7 +28,6 @@ Takes-front n r long fits =
       fits = IsBytes-drop n r.bytes fits;
     }
 
--- taking no byte
 pub Takes-none : (r : Rest) → IsBytes r.bytes → Takes r [] r
 Takes-none r fits = record { parts = refl; offset = omega arith; fits = fits }
 

@@ -186,7 +186,7 @@ fn put_params<S: Sink>(sink: &mut S, config: &Config)
 impl Config {
     ghost use Rattle.dac_config.specs.Canonical.{canonical_text};
 
-    /// Writes the canonical text.
+    /// Writes the canonical text to a sink in pieces, so that a mark needs no memory.
     pub(super) fn put<S: Sink>(&self, sink: &mut S)
         ensures { Gains S.holds sink.old sink.new (canonical_text self.now) }
     {

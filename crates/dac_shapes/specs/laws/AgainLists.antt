@@ -156,12 +156,11 @@ module _ {A : Type 0} (last : Result Located ConfigFault) (Is : List Word → A 
       ∙ list_again n (before ++ x ∷ []) b.next b.rest c us (step seen x) (y ∷ ys) shorter b.others may.1 e
       ∙ ap (λ (l : List A). Ok (l, at last us (steps step (step seen x) (y ∷ ys)))) (append_assoc before (x ∷ []) (y ∷ ys))
 
-  -- a list, with the bound that the remaining tokens give
+  -- a list, within the bound of the remaining tokens
   pub whole_again : (t : Located) (ts : List Located) (c : Located) (us : List Located) (seen : Seen) (xs : List A) → Parted Is (words_of (t ∷ ts)) xs → AllMay step May [] seen xs → c.word ≡ Punctuation close
       → comma_list read close (room (at last (ts ++ c ∷ us) seen)) [] t (at last (ts ++ c ∷ us) seen) ≡ Ok (xs, at last us (steps step seen xs))
   whole_again t ts c us seen xs p may e = list_again (room (at last (ts ++ c ∷ us) seen)) [] t ts c us seen xs (omega (arith, length-append ts (c ∷ us))) p may e
 
--- tokens between two symbols
 pub record Inside (ts : List Located) (left : Word) (inner : List Word) (right : Word) : Type 0 where
   pub open_at : Located
   pub mid : List Located
@@ -233,7 +232,6 @@ module _ {K A : Type 0} (last : Result Located ConfigFault) (name_of : Located �
       let apart : ts ≡ n.head ∷ c.head ∷ c.tail = n.whole ∙ ap (λ (l : List Located). n.head ∷ l) c.whole in
       ap (λ (l : List Located). pair_at name_of rest t (at last (l ++ us) seen)) apart ∙ pair_steps t n.head c.head c.tail us b.0 n.is c.is (rested c.tail c.rest)
 
-  -- a name and a value
   pub pair_again : (value : State → Result (A × State) ConfigFault) (IsValue : List Word → Type 0) → ((s : State) → rest k s ≡ closed value s) → ((vs us : List Located) → IsValue (words_of vs) → value (at last (vs ++ us) seen) ≡ Ok (x, at last us after))
       → (t : Located) (ts us : List Located) → IsPair name IsValue (words_of (t ∷ ts)) → pair_at name_of rest t (at last (ts ++ us) seen) ≡ Ok (x, at last us after)
   pair_again value IsValue closes valued t ts us is =

@@ -19,7 +19,6 @@ use Rattle.dac_wire.specs.declared.codes.ActKind.TheVariants.{Up, Down, Permit, 
 use Rattle.dac_bytes.specs.declared.version.Version.{Version}
 use Rattle.dac_bytes.specs.declared.version.Version.TheVariants.{One, Two}
 
--- a number within bounds
 abbrev IsFrom : ℕ → ℕ → ℕ → Type 0
 IsFrom low high n = (low ≤ n) × (n ≤ high)
 

@@ -25,7 +25,6 @@ use Rattle.dac_wire.specs.declared.head.Head.{Head}
 use Rattle.dac_wire.specs.laws.CodeLaws.{only_number, only_is, only_fits, only_back}
 use Rattle.dac_bytes.specs.declared.version.Version.{Version}
 
--- a delta count
 abbrev AreDeltas : ℕ → Type 0
 AreDeltas n = n ≤ MAX_COUNTER
 

@@ -36,7 +36,6 @@ use Rattle.dac_wire.specs.laws.Fronts.{preamble_length, front_begins, front_long
 use Rattle.dac_wire.specs.laws.HeadLaws.{head_bytes, IsHead, head_codec}
 use Rattle.dac_bytes.specs.declared.version.Version.{Version}
 
--- the head of a message
 abbrev head_in : Message → Head
 head_in m = record { from = m.from; to = m.to; only = m.only; up_to = m.up_to; ack = m.ack }
 
