@@ -74,7 +74,7 @@ impl Error for ReadFaultKind {}
 /// The first fault of a sequence of bytes, from left to right. `Display` prints it as `NAME at P`.
 #[derive(Clone, Copy, Debug, PartialEq, Eq, Hash)]
 pub struct ReadFault {
-    /// The kind, which determines its number and name.
+    /// The kind of fault.
     pub kind: ReadFaultKind,
     /// The offset of a byte, from 0; 0 for `NoMemory`.
     pub at: usize,

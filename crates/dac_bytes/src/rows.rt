@@ -149,7 +149,7 @@ impl<'a> ByteReader<'a> {
     ) -> Result<(Context, ByteReader<'a>), ReadFault>
         // The definition determines the context or the fault, unless memory runs out.
         ensures exact { Gives (λ x. x) result (context_at version nodes self.entry) }
-        // A context that is returned has these bytes as its spelling, and its dots and counts are in range.
+        // The returned context has these bytes as its spelling, and its dots and counts are in range.
         ensures found { IsBytes self.entry.bytes
             → IfOk result (λ x. Takes self.entry (context_bytes version x.0) x.1
             × IsContext version nodes x.0) }

@@ -24,9 +24,9 @@ use std::alloc::Global;
 ///
 /// The first fault in text order, with its offset in bytes from 0, or `NoMemory` with offset 0.
 pub fn read_config(alloc: Global, text: &[u8]) -> Result<Config, ConfigFault>
-    // A configuration that is returned is one that the text spells.
+    // The text spells the returned configuration.
     ensures found { IfOk result (λ config. IsConfigOf text.now config) }
-    // A configuration that the text spells is returned, unless memory runs out.
+    // Any configuration that the text spells is returned, unless memory runs out.
     ensures only { (table : Table) → IsConfigOf text.now table
         → MatchResult result (λ config. config ≡ table) (λ fault. fault.kind ≡ NoMemory) }
     // The definition determines the fault, unless memory runs out.

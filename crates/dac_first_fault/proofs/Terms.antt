@@ -348,7 +348,7 @@ module _ {A : Type 0} (y : A) where
     end = λ i t is room. passing_is u (Ok t) us seen ∙ fin_end t (term (suc (suc (length (u ∷ us)))) (at (Ok t) (u ∷ us) seen)) is (w.end (suc (suc (length (u ∷ us)))) t is (omega arith));
   }
 
-  -- a term is skipped in any bound that suffices
+  -- a term has the same result within any bound that suffices
   passing_goes : (a : List Located) (l : Located) (rest : List Located) (last : Result Located ConfigFault) (seen : Seen) (r : Result (Located × State) ConfigFault) → ((n : ℕ) → length (a ++ l ∷ rest) ≤ n → term n (at last (a ++ l ∷ rest) seen) ≡ r) → passing (at last (a ++ l ∷ rest) seen) ≡ (r >>= fin)
   passing_goes [] l rest last seen r goes = passing_is l last rest seen ∙ ap (λ r. r >>= fin) (goes (suc (suc (length (l ∷ rest)))) (omega arith))
   passing_goes (u ∷ a) l rest last seen r goes = passing_is u last (a ++ l ∷ rest) seen ∙ ap (λ r. r >>= fin) (goes (suc (suc (length (u ∷ a ++ l ∷ rest)))) (omega arith))

@@ -39,7 +39,7 @@ pub record IsKnownDot (version : Version) (t : Table) (known : Dots) (d : Dot) :
   pub dot : IsDot version (node_count t) d
   pub among : set.contains known d ≡ true
 
--- an entry with an existing key and such a dot
+-- an entry with an existing key and a known dot in range
 pub record IsKnownWrite {K : Type 0} (IsKeyOf : K → Type 0) (version : Version) (t : Table) (known : Dots)
     (w : KeyedWrite K) : Type 0 where
   pub key : IsKeyOf w.key

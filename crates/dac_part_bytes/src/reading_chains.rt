@@ -87,7 +87,7 @@ pub fn read_lives<'a>(
 ) -> Result<(Lives, ByteReader<'a>), ReadFault>
     ensures exact { Gives (λ x. x) result
         (all_lives_at version (node_count config.now) reader.entry) }
-    // Lives that are returned are well-formed, with these bytes as their spelling.
+    // The returned lives are well-formed, with these bytes as their spelling.
     ensures found { IsFoundAs (λ x. x) (lives_bytes version)
         (AreLivesInForm version (node_count config.now)) reader.entry result }
     // Well-formed lives are read from their spelling, unless memory runs out.
@@ -250,7 +250,7 @@ pub fn read_claims<'a>(
     config: &Config,
 ) -> Result<(Claims, ByteReader<'a>), ReadFault>
     ensures exact { Gives (λ x. x) result (all_claims_at version config.now reader.entry) }
-    // Claims that are returned are well-formed, with these bytes as their spelling.
+    // The returned claims are well-formed, with these bytes as their spelling.
     ensures found { IsFoundAs (λ x. x) (claims_bytes version) (AreClaimsInForm version config.now)
         reader.entry result }
     // Well-formed claims are read from their spelling, unless memory runs out.

@@ -43,7 +43,7 @@ pub fn read_app<'a>(reader: ByteReader<'a>, apps: u16) -> Result<(AppId, ByteRea
     ensures exact { result ≡ app_at apps reader.entry }
     ensures real { IsOfBytes result }
     ensures below { IfOk result (λ x. x.0.0 < apps) }
-    // An application that is returned exists, with these bytes as its spelling.
+    // The returned application exists, with these bytes as its spelling.
     ensures found { IsFoundAs (λ x. x) app_bytes (λ app. app.0 < apps) reader.entry result }
     // An existing application is read from its spelling.
     ensures again { IsReadAgain (λ x. x) app_bytes (λ app. app.0 < apps) reader.entry result }
@@ -137,7 +137,7 @@ pub fn read_key<'a>(
 ) -> Result<(Key, ByteReader<'a>), ReadFault>
     ensures exact { result ≡ key_above_at version config.now before reader.entry }
     ensures real { IsOfBytes result }
-    // A key that is returned is well-formed, with these bytes as its spelling.
+    // The returned key is well-formed, with these bytes as its spelling.
     ensures found { IsFoundAs (λ x. x) (key_bytes version) (IsKeyAbove version config.now before)
         reader.entry result }
     // A well-formed key is read from its spelling.
@@ -345,7 +345,7 @@ pub fn read_manner<'a>(
 ) -> Result<((How, Option<NodeId>), ByteReader<'a>), ReadFault>
     ensures exact { result ≡ manner_at nodes reader.entry }
     ensures real { IsOfBytes result }
-    // A manner that is returned is consistent, with these bytes as its spelling.
+    // The returned manner is consistent, with these bytes as its spelling.
     ensures found { IsFoundAs (λ x. x) (λ m. manner_bytes m.0 m.1) (λ m. IsFromFor nodes m.0 m.1)
         reader.entry result }
     // A consistent manner is read from its spelling.

@@ -153,7 +153,7 @@ pub fn read_wishes<'a>(
     ensures exact { Gives (λ x. (x.0.standing, x.1)) result
         (all_starts_at version config.now known.now reader.entry) }
     ensures known { IfOk result (λ x. x.0.known ≡ known.now) }
-    // Wishes that are returned are well-formed, with these bytes as their spelling.
+    // The returned wishes are well-formed, with these bytes as their spelling.
     ensures found { IsFoundAs (λ x. (x.0.standing, x.1)) (starts_bytes version)
         (AreStartsInForm version config.now known.now) reader.entry result }
     // Well-formed wishes are read from their spelling, unless memory runs out.

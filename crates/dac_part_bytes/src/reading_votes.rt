@@ -208,7 +208,7 @@ pub fn read_permissions<'a>(
     ensures exact { Gives (λ x. (x.0.standing, x.1)) result
         (all_permits_at version config.now known.now reader.entry) }
     ensures known { IfOk result (λ x. x.0.known ≡ known.now) }
-    // Permits that are returned are well-formed, with these bytes as their spelling.
+    // The returned permits are well-formed, with these bytes as their spelling.
     ensures found { IsFoundAs (λ x. (x.0.standing, x.1)) (permits_bytes version)
         (ArePermitsInForm version config.now known.now) reader.entry result }
     // Well-formed permits are read from their spelling, unless memory runs out.
@@ -344,7 +344,7 @@ pub fn read_drains<'a>(
     ensures exact { Gives (λ x. (x.0.standing, x.1)) result
         (all_drains_at version config.now known.now reader.entry) }
     ensures known { IfOk result (λ x. x.0.known ≡ known.now) }
-    // Drains that are returned are well-formed, with these bytes as their spelling.
+    // The returned drains are well-formed, with these bytes as their spelling.
     ensures found { IsFoundAs (λ x. (x.0.standing, x.1)) (drains_bytes version)
         (AreDrainsInForm version config.now known.now) reader.entry result }
     // Well-formed drains are read from their spelling, unless memory runs out.

@@ -157,7 +157,7 @@ abbrev pub with_section : Seen → Section → Seen
 with_section seen (Kernel params) = steps with_param seen params
 with_section seen Section.Other = seen
 
--- a section `kernel` is allowed after these: it is the first one, and its parameters are allowed
+-- a section `kernel` is allowed after these: none of them is `kernel`, and its parameters are allowed
 pub record MayKernel (before : List Section) (seen : Seen) (kernel : List Param) : Type 0 where
   pub once : has_kernel before ≡ false
   pub params : AllMay with_param MayParam [] seen kernel

@@ -34,7 +34,7 @@ pub struct DraftApp<'a> {
 pub struct Permission<'a> {
     /// The application's name; `distributed` doesn't necessarily list it.
     pub name: &'a [u8],
-    /// Whether it is permitted at the start.
+    /// Whether it is permitted until a command changes this.
     pub value: bool,
 }
 

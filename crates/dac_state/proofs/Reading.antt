@@ -60,7 +60,7 @@ module _ (version : Version) (t : Table) (codec : IsCodec (parts_at version t) (
       ap (λ (bytes : List ℕ). parts_at version t (whole bytes) >>= λ s. cond (length s.1.bytes == 0) (Ok s.0) (fault Trailing s.1)) (text ∙ sym (append-nil (state_bytes version s)))
       ∙ ap (λ f. f >>= λ s. cond (length s.1.bytes == 0) (Ok s.0) (fault Trailing s.1)) (codec.again s is 0 [])
 
-  -- a state that is returned is well-formed, with these bytes as its spelling
+  -- the returned state is well-formed, with these bytes as its spelling
   pub state_found : IsBytes bytes → (result : Result StateValue ReadFault) → Gives (λ (s : StateValue). s) result (state_at version t bytes) → IfOk result (λ s. IsInForm version t s × (bytes ≡ state_bytes version s))
   state_found fits (Ok s) gives = found s fits gives
   state_found fits (Err e) gives = tt

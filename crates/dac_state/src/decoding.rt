@@ -200,7 +200,7 @@ impl State {
         config: &Config,
     ) -> Result<(Self, ByteReader<'a>), ReadFault>
         ensures exact { Gives (λ x. x) result (parts_at version config.now reader.entry) }
-        // A state that is returned is well-formed, with these bytes as its spelling.
+        // The returned state is well-formed, with these bytes as its spelling.
         ensures found { IsFoundAs (λ x. x) (state_bytes version) (IsInForm version config.now)
             reader.entry result }
         // A well-formed state is read from its spelling, unless memory runs out.
@@ -220,7 +220,7 @@ impl State {
     /// and `NotKnown`. `NotKnown` after the known dots means that a heard dot isn't among them. `Trailing` is at the
     /// first byte after the drains. `NoMemory` has offset 0 and carries no information about the bytes.
     pub fn decode(alloc: Global, config: &Config, bytes: &[u8]) -> Result<Self, ReadFault>
-        // A state that is returned is well-formed, with these bytes as its spelling.
+        // The returned state is well-formed, with these bytes as its spelling.
         ensures found { IfOk result (λ s. IsInForm Two config.now s × (bytes.now ≡ spelling_of s)) }
         // A well-formed state is read from its spelling, unless memory runs out.
         ensures only { (s : StateValue) → IsInForm Two config.now s → bytes.now ≡ spelling_of s
@@ -238,7 +238,7 @@ impl State {
     ///
     /// Those of [`State::decode`], with `Trailing` at the first byte after the claims.
     pub fn decode_1(alloc: Global, config: &Config, bytes: &[u8]) -> Result<Self, ReadFault>
-        // A state that is returned is well-formed, with these bytes as its spelling.
+        // The returned state is well-formed, with these bytes as its spelling.
         ensures found { IfOk result
             (λ s. IsInForm One config.now s × (bytes.now ≡ state_bytes One s)) }
         // A well-formed state is read from its spelling, unless memory runs out.

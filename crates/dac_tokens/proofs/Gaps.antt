@@ -108,7 +108,7 @@ no_gap (b ∷ bs) stops =
     let no_blank : is_blank b ≡ false = grind (arith, nat_tests) in
     rw (no_percent, no_blank) refl
 
--- a gap is skipped, unless it continues after its end
+-- a gap is skipped, if no gap begins after it
 pub gap_read : (gap rest : List ℕ) → IsGap gap → (Begins StartsGap rest → ⊥) → after_gap false (gap ++ rest) ≡ rest
 gap_read gap rest is_gap stops = gap_passed gap rest is_gap ∙ no_gap rest stops
 

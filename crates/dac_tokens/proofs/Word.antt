@@ -166,7 +166,7 @@ other_first : (b : ℕ) (bs : List ℕ) → (b ≡ 34 → ⊥) → two_quotes (b
 other_first b [] h = refl
 other_first b (c ∷ bs) h = ap (λ (t : Bool). t && eqb c 34) (ne_eqb b 34 h)
 
--- `two_quotes` fails after a text, if it fails without it whenever the text is empty
+-- two quotes don't begin a string's text, unless it is empty and they begin the rest
 no_quotes : (inner more : List ℕ) → IsStringText inner → (inner ≡ [] → two_quotes more ≡ false) → two_quotes (inner ++ more) ≡ false
 no_quotes _ more Empty h = h refl
 no_quotes _ more (Plain b inner no_end no_escape text) h = other_first b (inner ++ more) no_end

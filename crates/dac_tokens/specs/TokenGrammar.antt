@@ -24,7 +24,7 @@ pub data IsGap : List ℕ → Type 0 where
   Blank : (b : ℕ) (more : List ℕ) → IsBlank b → IsGap more → IsGap (b ∷ more)
   Comment : (line more : List ℕ) → IsLine line → IsGap more → IsGap (37 ∷ (line ++ 10 ∷ more))
 
--- the gap that can follow the last token: one that can end with a comment without line feed
+-- the gap that can follow the last token; its last comment can extend to the end of the text
 pub data IsLastGap (bytes : List ℕ) : Type 0 where
   Closed : IsGap bytes → IsLastGap bytes
   Open : (gap line : List ℕ) → bytes ≡ gap ++ 37 ∷ line → IsGap gap → IsLine line → IsLastGap bytes

@@ -90,7 +90,7 @@ impl FaultKind {
 #[derive(Clone, Copy, Debug, PartialEq, Eq, Error)]
 #[error("{kind} at {at}")]
 pub struct ConfigFault {
-    /// The kind, which determines its number and name.
+    /// The kind of fault.
     pub kind: FaultKind,
     /// Its offset, in bytes from the start of the text; 0 for `NoMemory`.
     pub at: usize,

@@ -69,7 +69,7 @@ pub enum Class {
 pub enum Stretch {
     /// The digits of a number.
     Digits,
-    /// The bytes between the quotes of an atom.
+    /// An atom without quotes.
     Name,
     /// The bytes between the quotes of an atom.
     Quoted,

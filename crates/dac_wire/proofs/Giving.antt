@@ -58,7 +58,7 @@ module _ (version : Version) (t : Table) (bytes : List ℕ) where
   gives_fields result is gives = subst (Gives result) (sym (ap (λ f. unless f (in_packet (fields_at version t (after PREAMBLE (whole bytes))))) is)) gives
 
   module _ (parts : PartCodecs version t) (states : IsCodec (parts_at version t) (state.state_bytes version) (IsInForm version t)) where
-    -- a packet that is returned is well-formed, with these bytes as its spelling
+    -- the returned packet is well-formed, with these bytes as its spelling
     pub found_fields : IsBytes bytes → front_fault version t bytes ≡ None → (result : Result Packet WireFault) → Gives result (in_packet (fields_at version t (after PREAMBLE (whole bytes))))
         → IfOk result (λ p. IsPacket version t p × (bytes ≡ packet_bytes version t p) × (length bytes ≤ MAX_MESSAGE))
     found_fields fits is (Ok p) gives = packet_found version t parts states bytes p fits is (given_ok (fields_at version t (after PREAMBLE (whole bytes))) p gives)

@@ -140,7 +140,7 @@ fn version_in(bytes: &[u8]) -> Version
 /// configuration `OtherConfig` at 4. Then fields are checked as they are read: the reading function `packet_at`
 /// determines the fault, with its offset from 0. `NoMemory` has offset 0 and carries no information about the bytes.
 pub fn decode(alloc: Global, config: &Config, bytes: &[u8]) -> Result<Packet, WireFault>
-    // A packet that is returned is well-formed for some version, with these bytes as its spelling.
+    // The returned packet is well-formed for some version, with these bytes as its spelling.
     ensures found { IfOk result (λ p. (version : Version) × IsPacket version config.now p
         × (bytes.now ≡ packet_bytes version config.now p) × (length bytes.now ≤ MAX_MESSAGE)) }
     // A well-formed packet is read from its spelling, unless memory runs out.

@@ -82,7 +82,7 @@ impl Error for WireFaultKind {}
 /// The first fault of a sequence of bytes, from left to right. `Display` prints it as `NAME at P`.
 #[derive(Clone, Copy, Debug, PartialEq, Eq, Hash)]
 pub struct WireFault {
-    /// The kind, which determines its number and name.
+    /// The kind of fault.
     pub kind: WireFaultKind,
     /// The offset of a byte, from 0; 0 for `NoMemory`.
     pub at: usize,

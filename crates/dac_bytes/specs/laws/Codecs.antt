@@ -6,7 +6,7 @@ use Rattle.dac_bytes.specs.Reading.{Rest, Field, ◌>>=◌}
 use Rattle.dac_bytes.specs.Takes.{IsCodec, Passes, Takes, Again}
 use Rattle.dac_bytes.specs.laws.Takes.{TakesAs-more, TakesAs-made, TakesAs-both, Again-made, Again-both, bind_ok}
 
--- a reader with equal results is a codec too
+-- a codec by a reader with equal results
 pub codec_alike : {X : Type 0} (read other : Rest → Field X) (text : X → List ℕ) (Is : X → Type 0) → ((r : Rest) → other r ≡ read r) → IsCodec read text Is → IsCodec other text Is
 codec_alike read other text Is alike codec = record {
   takes = λ r x fits e. codec.takes r x fits (sym (alike r) ∙ e);
@@ -19,7 +19,7 @@ bind_bind (Ok x) f g = refl
 bind_bind (Err e) f g = refl
 
 module _ {X : Type 0} (read : Rest → Field X) (text : X → List ℕ) (Is : X → Type 0) (codec : IsCodec read text Is) where
-  -- an equivalent form is a codec too
+  -- a codec for an equivalent form
   pub codec_same : (More : X → Type 0) → ((x : X) → Is x → More x) → ((x : X) → More x → Is x) → IsCodec read text More
   codec_same More to back = record { takes = TakesAs-more read text Is More codec.takes to; again = λ x is. codec.again x (back x is) }
 

@@ -62,7 +62,7 @@ done x = Ok x
 pub ok_is : {X : Type 0} (x y : X) → done x ≡ done y → x ≡ y
 ok_is x y e = cc
 
--- a weaker form of the values that are read
+-- a weaker property of the values that are read
 pub TakesAs-more : {X : Type 0} (read : Rest → Field X) (text : X → List ℕ) (Is More : X → Type 0) → TakesAs read text Is → ((x : X) → Is x → More x) → TakesAs read text More
 TakesAs-more read text Is More takes more r x fits e = let t = takes r x fits e in (t.0, more x.0 t.1)
 
