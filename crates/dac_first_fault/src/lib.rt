@@ -1,8 +1,8 @@
 //! The first fault of a configuration text, determined by a law that mentions no reader, and the reader of drafts that
 //! satisfies it.
 //!
-//! [`read_draft`] is the reader. It calls the parser of `dac_shapes`; its contract adds that a fault that it returns is
-//! the one that the law admits.
+//! [`read_draft`] is the reader, and the only function here that allocates. It calls the parser of `dac_shapes`; its
+//! contract adds that a fault that it returns is the one that the law admits.
 //!
 //! [`laws`] determines which fault a text has, if any. The cause is the text's length, an offset at which no token
 //! begins, the end of the text, the lack of applications, or one token. In this last case the fault is at the token, or

@@ -3,7 +3,7 @@
 //! [`parse_draft`] returns the contents of a text as a [`Draft`], or the first fault in text order. It promises that,
 //! unless memory runs out, a text is read exactly if it has at most 65,536 bytes, its tokens form a file by the grammar
 //! of OTP's `sys.config`, the file keeps the limits, and it lists at least one application. The draft is then the one
-//! that the text spells.
+//! that the text spells. No other function here allocates.
 //!
 //! Which fault is returned is defined by the function `draft_at`, which mirrors the parser. `dac_first_fault` has a law
 //! that determines the same fault without mentioning a reader.
