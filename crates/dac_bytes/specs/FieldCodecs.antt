@@ -1,4 +1,4 @@
--- The fields that are codecs, given a version and the number of nodes.
+-- The codecs of fields, given a version and the number of nodes.
 use Rattle.std.specs.Prelude.{ℕ, ◌<◌, ◌≤◌, ◌^◌, Option}
 use Rattle.std.specs.Int.{w8, w16, w32, w64}
 use Rattle.dac_base.specs.declared.NodeId.{NodeId}

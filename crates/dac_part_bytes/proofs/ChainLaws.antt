@@ -1,4 +1,4 @@
--- Lives and claims are codecs: a part that is read is well-formed, with these bytes as its spelling, and each
+-- The codecs of lives and claims: a part that is read is well-formed, with these bytes as its spelling, and each
 -- well-formed one is read from its spelling.
 use Rattle.std.specs.Prelude.{ℕ, ◌<◌, ◌≤◌, ◌^◌, length}
 use Rattle.std.specs.List.{AllByRecursion}

@@ -1,5 +1,4 @@
--- The fields of permits, drains and start wishes are codecs: keys and known dots. A value that is read is well-formed,
--- with these bytes as its spelling, and each well-formed one is read from its spelling.
+-- The codecs of keys and known dots, the fields of permits, drains and start wishes.
 use Rattle.std.specs.Prelude.{◌≡◌, ℕ, ◌^◌, ◌<◌, ◌≤◌, true, Option, refl}
 use Rattle.std.specs.FinSet as set
 use Rattle.dac_origins.specs.declared.dot.Dot.{Dot}

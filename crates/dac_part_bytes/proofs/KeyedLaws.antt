@@ -1,4 +1,4 @@
--- Permits, drains and start wishes are codecs: a part that is read is well-formed, with these bytes as its spelling,
+-- The codecs of permits, drains and start wishes: a part that is read is well-formed, with these bytes as its spelling,
 -- and each well-formed one is read from its spelling.
 use Rattle.std.specs.Prelude.{◌≡◌, ℕ, ◌+◌, ◌^◌, ◌≤◌, List, Option, Ok, refl}
 use Rattle.std.proofs.Common.{sym, ap, subst, arith}
@@ -42,7 +42,7 @@ use Rattle.dac_part_bytes.proofs.KeyedStarts as starts_parts
 
 module _ {K : Type 0} {R : K → K → Ordering} (total : IsTotalOrder R) (exact : CmpEqualImpliesEq R) (key_above : Option K → Rest → Field K) (key_text : K → List ℕ) (IsKeyOf : K → Type 0)
     (keys : (before : Option K) → IsCodec (key_above before) key_text (Passes IsKeyOf (is_above R before))) where
-  -- Votes are a codec if their keys are.
+  -- Votes have a codec if their keys have one.
   pub votes_codec : (version : Version) (t : Table) (known : Dots) (truth : Flag) → node_count t ≤ 2 ^ 8
       → IsCodec (all_votes_at R key_above (votes_of_key_at version (node_count t) known truth)) (votes_bytes R key_text version truth) (AreVotesInForm R IsKeyOf version t known)
   unfolding all_votes_at votes_bytes
@@ -68,7 +68,7 @@ module _ (t : Table) (known : Dots) (few_nodes : node_count t ≤ 2 ^ 8) where
         λ i. Ok (sym none i, record { at = start i; bytes = rest });
   }
 
-  -- Drains are a codec in each version.
+  -- Drains have a codec in each version.
   pub drains_codec : (version : Version) → FieldCodecs version (node_count t) → IsCodec (all_drains_at version t known) (drains_bytes version) (AreDrainsInForm version t known)
   drains_codec One fields = no_drains_codec
   drains_codec Two fields = votes_codec origins_total exact_origins (origin_above_at Two (node_count t)) (origin_bytes Two) (IsOrigin Two (node_count t)) fields.origin_above Two t known Down few_nodes

@@ -1,4 +1,4 @@
--- Start wishes by key are codecs, as the lists that are read.
+-- The codec of start wishes by key, as the lists that are read.
 use Rattle.std.specs.Prelude.{◌≡◌, ℕ, ◌-◌, ◌^◌, ◌<◌, ◌≤◌, List, ◌++◌, length, map as list_map, Option, refl}
 use Rattle.std.specs.List.{flat_map, AllByRecursion}
 use Rattle.std.specs.Int.{w32}

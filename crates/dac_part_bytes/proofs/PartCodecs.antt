@@ -1,4 +1,4 @@
--- Each field and each part is a codec, provided that node numbers fit one byte and application numbers two.
+-- Each field and each part has a codec, provided that node numbers fit one byte and application numbers two.
 use Rattle.std.specs.Prelude.{◌<◌, ◌≤◌, ◌^◌}
 use Rattle.std.proofs.Common.{arith}
 use Rattle.dac_config.specs.Table.{Table, node_count, app_count}

@@ -1,4 +1,4 @@
--- Votes by key are codecs, as the lists that are read.
+-- The codec of votes by key, as the lists that are read.
 use Rattle.std.specs.Prelude.{◌≡◌, ℕ, zero, suc, ◌-◌, ◌^◌, ◌<◌, ◌≤◌, List, ◌++◌, length, map as list_map, Option, refl}
 use Rattle.std.proofs.Common.{ap, arith}
 use Rattle.std.specs.declared.cmp.Ordering.{Ordering}

@@ -1,4 +1,4 @@
--- The fields and parts that are codecs, given a version and a configuration.
+-- The codecs of fields and parts, given a version and a configuration.
 use Rattle.std.specs.Prelude.{◌<◌, Option}
 use Rattle.dac_base.specs.declared.NodeId.{NodeId}
 use Rattle.dac_chains.specs.declared.claims.How.{How}

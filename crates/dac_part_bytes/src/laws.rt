@@ -7,7 +7,7 @@ ghost use Rattle.dac_part_bytes.specs.PartCodecs.{PartCodecs};
 use dac_bytes::laws::fields_have_one_spelling;
 use dac_config::Config;
 
-/// Fields and parts are codecs: a value that is read is well-formed and has the bytes read as its spelling, and each
+/// Fields and parts have codecs: a value that is read is well-formed and has the bytes read as its spelling, and each
 /// well-formed value is read from its spelling, whatever follows.
 pub fn parts_have_one_spelling(config: &Config)
     ensures { (version : Version) → PartCodecs version config.now }

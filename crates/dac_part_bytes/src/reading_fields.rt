@@ -249,7 +249,7 @@ fn read_how<'a>(reader: ByteReader<'a>) -> Result<(How, ByteReader<'a>), ReadFau
     Ok((how_of(code), rest))
 }
 
-/// The code of no node, or of one below `nodes`.
+/// The code of no node, or of a node whose number is below `nodes`.
 #[tactic(auto, unfolding(crate::specs::Reading::from_code_at))]
 fn read_from_code<'a>(reader: ByteReader<'a>, nodes: u8) -> Result<(u8, ByteReader<'a>), ReadFault>
     ensures exact { result ≡ from_code_at nodes reader.entry }

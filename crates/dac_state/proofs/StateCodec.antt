@@ -1,4 +1,4 @@
--- States are codecs if their parts are.
+-- States have a codec if their parts have one.
 use Rattle.std.specs.Prelude.{◌≡◌, ℕ, cond, List, ◌++◌, Ok, refl}
 use Rattle.std.specs.FinSet as set
 use Rattle.std.proofs.Common.{sym, ◌∙◌, append_assoc}

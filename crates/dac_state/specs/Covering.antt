@@ -4,7 +4,7 @@ use Rattle.dac_wishes.specs.declared.key.Key.{Key}
 use Rattle.dac_operations.specs.declared.act.Act.{Act}
 use Rattle.dac_operations.specs.declared.act.Act.TheVariants.{Start}
 
--- the key of an act that wishes a start
+-- the key that an act wishes to start, if any
 abbrev pub started_in : Act → Option Key
 started_in (Start key over) = Some key
 started_in _ = None

@@ -91,7 +91,7 @@ fn holds_claim(claims: &Claims, op: &Op) -> bool
     claims.covers(op.dot(), op.claim_act())
 }
 
-/// The key and value of an act that permits or forbids.
+/// The key and value of a permit; `None` for any other act.
 fn permit_in(act: &Act) -> Option<(Key, bool)>
     ensures { result ≡ permit_vote act.now }
 {
@@ -105,7 +105,7 @@ fn permit_in(act: &Act) -> Option<(Key, bool)>
     }
 }
 
-/// The key of an act that wishes a start.
+/// The key of a start wish; `None` for any other act.
 fn started_in(act: &Act) -> Option<Key>
     ensures { result ≡ started_in act.now }
 {
@@ -115,7 +115,7 @@ fn started_in(act: &Act) -> Option<Key>
     }
 }
 
-/// The incarnation and value of an act that begins or ends a drain.
+/// The incarnation and value of a drain; `None` for any other act.
 fn drain_in(act: &Act) -> Option<(Origin, bool)>
     ensures { result ≡ drain_vote act.now }
 {

@@ -17,7 +17,7 @@ pub(crate) enum Heard {
 }
 
 impl Heard {
-    /// The dots heard, given the dots known.
+    /// Stores the dots heard, given the dots known.
     pub(crate) fn of(heard: Context, known: &Context) -> Self
         requires { IsSubset heard known.now }
         ensures { heard_beside result known.now ≡ heard }

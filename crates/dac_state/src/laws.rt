@@ -10,8 +10,8 @@ ghost use Rattle.dac_state.specs.StateSpelling.{state_bytes};
 use dac_part_bytes::Config;
 use dac_part_bytes::laws::parts_have_one_spelling;
 
-/// States are codecs under a configuration, in each version: a state that is read is well-formed and has the bytes read
-/// as its spelling, and each well-formed state is read from its spelling, whatever follows.
+/// States have a codec under a configuration, in each version: a state that is read is well-formed and has the bytes
+/// read as its spelling, and each well-formed state is read from its spelling, whatever follows.
 pub fn states_have_one_spelling(config: &Config)
     ensures { (version : Version)
         → IsCodec (parts_at version config.now) (state_bytes version)

@@ -112,7 +112,7 @@ impl Parts {
         &self.permissions
     }
 
-    /// The standing start wishes, whose context is that of the known dots.
+    /// The standing start wishes, whose context is the known dots.
     pub(crate) fn wishes(&self) -> &Wishes
         ensures { result.now ≡ wishes_of self.now }
     {

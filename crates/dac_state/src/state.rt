@@ -25,8 +25,8 @@ use std::sync::Arc;
 /// unless the other side knows its dot and no longer contains it. Contracts see a state as a record of finite sets and
 /// maps, so that states with equal parts are equal.
 ///
-/// Parts are immutable and shared by copies, so that a copy costs as much as a pointer. Only a copy of the least state
-/// has parts of its own.
+/// Parts are immutable and shared by copies, so that a copy costs as much as a pointer. A copy of the least state has
+/// its own parts.
 pub struct State {
     kept: KeptParts,
 }
@@ -128,7 +128,7 @@ impl State {
         self.parts().wishes()
     }
 
-    /// The life of each node: its latest incarnation heard of, and whether it is up.
+    /// The life of each node: its latest reported incarnation, and whether it is up.
     pub fn lives(&self) -> &Lives
         ensures { result.now ≡ self.now.lives }
     {

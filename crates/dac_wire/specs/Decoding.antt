@@ -19,8 +19,8 @@ use Rattle.dac_wire.specs.Spelling.{magic, name_bytes, preamble_bytes}
 abbrev pub wrong : WireFaultKind → ℕ → Option WireFault
 wrong kind at = Some (record { kind = kind; at = at })
 
--- The first fault in the front of bytes of a version, if any: there are too many bytes, they don't begin with the
--- format's name or not with this version, or the mark is incomplete or another one.
+-- The first fault in the front of bytes of a version, if any: too many bytes, another format's name, another version,
+-- an incomplete mark, or another mark.
 unfoldable pub front_fault : Version → Table → List ℕ → Option WireFault
 front_fault version t bytes =
     if nat_lt MAX_MESSAGE (length bytes) then wrong TooLong MAX_MESSAGE

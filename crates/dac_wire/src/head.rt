@@ -8,9 +8,9 @@ use dac_origins::Origin;
 pub(crate) struct Head {
     /// The incarnation that sent it.
     pub from: Origin,
-    /// The node that it is for.
+    /// The receiving node.
     pub to: NodeId,
-    /// The only incarnation of that node that it is for, or `None` if it is for any.
+    /// The only incarnation of that node that can receive it; `None` if any can.
     pub only: Option<u64>,
     /// The sender's delta count.
     pub up_to: u64,

@@ -1,5 +1,5 @@
--- Contexts are codecs: a context that is read is in range and has these bytes as its spelling, and each one in range is
--- read from its spelling.
+-- The codec of contexts: a context that is read is in range and has these bytes as its spelling, and each one in range
+-- is read from its spelling.
 use Rattle.std.specs.Prelude.{◌≡◌, ℕ, ◌+◌, ◌-◌, ◌<◌, ◌≤◌, ◌^◌, true, false, cond, nat_lt, nat_eq, List, [], ◌∷◌, ◌++◌, length, Option, Some, None, Ok, refl}
 use Rattle.std.specs.List.{flat_map, AllByRecursion}
 use Rattle.std.specs.Int.{w16, w64}

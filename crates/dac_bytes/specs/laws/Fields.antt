@@ -1,4 +1,4 @@
--- Each field is a codec: a value that is read is in range and has these bytes as its spelling, and each one in range is
+-- The codecs of fields: a value that is read is in range and has these bytes as its spelling, and each one in range is
 -- read from its spelling.
 use Rattle.std.specs.Prelude.{◌≡◌, ℕ, ◌+◌, ◌^◌, ◌<◌, ◌≤◌, Bool, true, false, ◌||◌, ◌%◌, cond, List, [], ◌∷◌, ◌++◌, length, take, Option, Ok, nat_lt, refl}
 use Rattle.std.specs.Int.{Width, w8, w16, w32, w64, byte_len, from_be_bytes, to_be_bytes}

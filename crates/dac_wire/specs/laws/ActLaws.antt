@@ -1,4 +1,4 @@
--- Operations are codecs.
+-- The codec of operations.
 use Rattle.std.specs.Prelude.{◌≡◌, ℕ, ◌+◌, ◌<◌, ◌≤◌, ◌^◌, Bool, true, List, ◌++◌, Option, None, Some, is_none, Ok, refl}
 use Rattle.std.specs.Int.{w8, w16}
 use Rattle.std.proofs.Common.{sym, ap, subst, arith, append_assoc}

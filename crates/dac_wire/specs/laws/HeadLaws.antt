@@ -1,4 +1,4 @@
--- The heads of messages are codecs.
+-- The codec of the heads of messages.
 use Rattle.std.specs.Prelude.{◌≡◌, ℕ, zero, suc, ◌+◌, ◌<◌, ◌≤◌, Bool, List, [], ◌++◌, Option, None, Some, Ok, refl}
 use Rattle.std.specs.Int.{w8}
 use Rattle.std.proofs.Common.{sym, ap, subst, ◌∙◌, arith, append_assoc}
