@@ -86,7 +86,7 @@ name_bytes_quotable (b ∷ bs) all = All-cons IsQuotable b bs (quotable b (All-h
 bare_quotable : (name : List ℕ) → is_bare name ≡ true → All IsQuotable name
 bare_quotable name h = name_bytes_quotable name ((tells_bare name).0 h).goes_on
 
--- ---- what follows a name or a number
+-- ---- the bytes after a name or a number
 
 no_name_byte : (words : List Word) → BeginsApart words → Begins IsNameByte (spelled_words words ++ codes "\n") → ⊥
 no_name_byte (Punctuation FullStop ∷ words) apart h = omega (arith, h)

@@ -6,7 +6,7 @@
 //! configuration as a `Table`.
 //!
 //! Functions that don't return a `Result` allocate nothing. [`NoMemory`] is the only error of those that return
-//! `Result<_, NoMemory>`, and leaves their arguments unchanged unless a function says otherwise.
+//! `Result<_, NoMemory>`, and leaves their arguments unchanged unless a function documents otherwise.
 #![tactic(auto)]
 
 mod config;

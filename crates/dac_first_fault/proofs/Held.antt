@@ -30,7 +30,7 @@ IsQuiet (Punctuation Comma) = Unit {0}
 IsQuiet (Punctuation FullStop) = Unit {0}
 IsQuiet _ = ⊥
 
--- these words up to the last that isn't quiet begin such an item
+-- these words up to the last that isn't quiet begin an item of the kind `Is`
 pub record Kept {X : Type 0} (Is : List Word → X → Type 0) (ws : List Word) : Type 0 where
   pub named : List Word
   pub rest : List Word

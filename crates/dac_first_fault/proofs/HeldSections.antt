@@ -28,9 +28,9 @@ use Rattle.dac_first_fault.proofs.Held.{words, Held, all_kept, Stops, QuietBehin
 use Rattle.dac_first_fault.proofs.HeldReaders.{made_held, Good, good_nothing, good_steps, good_nodes, good_app, atom_shows, ms_shows, node_held, Any, app_held, permission_held}
 
 module _ (bad : ℕ) (Bound : FaultKind → Type 0) where
-  -- ---- a skipped term changes no names, and leaves tokens that are over
+  -- ---- a skipped term changes no names, and the remaining tokens satisfy `IsOver`
 
-  -- the names seen are unchanged, and the remaining tokens are over
+  -- the names seen are unchanged, and the remaining tokens satisfy `IsOver`
   abbrev Steady : Seen → State → Type 0
   Steady seen s = (s.seen ≡ seen) × IsOver bad Bound s
 

@@ -76,7 +76,7 @@ wait_is w offset (Ms n) is =
     rw (number, ms_is offset ms.0 (value_from 0 ms.1) n ms.3 ms.4 ms.5) refl
 
 module _ (last : Result Located ConfigFault) (Bad : ℕ → Type 0) (Kept : FaultKind → Type 0) where
-  -- a second one causes a fault at its name
+  -- a repeated parameter or section causes a fault at its name
   once_said : {K : Type 0} (k : K) (offset : ℕ) → (Bad offset → ⊥) → (c : Bool) → (Kept BadShape → c ≡ false) → Said Bad Kept k (cond c (fails BadShape offset) (Ok k))
   once_said k offset ok true once = (ok, λ kept. let wrong : true ≡ false = once kept in absurd cc)
   once_said k offset ok false once = refl

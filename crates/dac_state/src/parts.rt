@@ -140,7 +140,7 @@ impl Parts {
         &self.drains
     }
 
-    /// Tells proofs that these are the parts of a state. It does nothing at run time.
+    /// Provides the invariant to proofs. It does nothing at run time.
     pub(crate) fn tells_invariant(&self)
         ensures { IsState self.now }
     {
