@@ -1,5 +1,5 @@
--- The canonical text is written by words of the grammar, which can stand one after another; and what a text says can be
--- spelled by such words.
+-- The canonical text is spelled by words of the grammar that can follow each other; and drafts can be spelled by such
+-- words.
 use Rattle.std.proofs.Common.{◌≡◌, ◌⊎◌, inl, inr, ℕ, ◌+◌, ◌-◌, ◌*◌, ◌/◌, ◌%◌, ◌<◌, ◌≤◌, Bool, true, false, cond, not, ◌&&◌, List, [], ◌∷◌, ◌++◌, length, map, filter, All, codes, decimal, unwrap_or, option_map, slice_get, bytes_eq, refl, sym, ap, subst, ◌∙◌, arith, append_assoc, append-nil}
 use Rattle.std.specs.Bool.{Decides}
 use Rattle.std.specs.List.{list_all, AllByRecursion as Each}
@@ -42,13 +42,13 @@ abbrev located : ℕ → List Word → List Located
 located at [] = []
 located at (word ∷ words) = record { word = word; at = at } ∷ located (at + length (spelling_of word)) words
 
--- a mark stands first; a full stop ends the words
+-- the words begin with a symbol; a full stop is the last word
 abbrev BeginsApart : List Word → Type 0
 BeginsApart (Punctuation FullStop ∷ words) = words ≡ []
 BeginsApart (Punctuation _ ∷ words) = Unit {0}
 BeginsApart _ = ⊥
 
--- a word can be spelled where these words follow
+-- a word can be spelled if these words follow
 abbrev CanStand : Word → List Word → Type 0
 CanStand (Punctuation FullStop) after = after ≡ []
 CanStand (Punctuation _) after = Unit {0}
@@ -56,7 +56,8 @@ CanStand (Name name) after = All IsQuotable name × BeginsApart after
 CanStand (Number false digits) after = IsDigits digits × BeginsApart after
 CanStand _ after = ⊥
 
--- each of these words can stand where it stands, so many brackets are open before them, and never more than 64
+-- each of these words can be spelled before the next ones, and never more than 64 brackets are open, given those open
+-- before them
 abbrev Stand : ℕ → List Word → Type 0
 Stand depth [] = Unit {0}
 Stand depth (word ∷ words) = CanStand word words × (depth_behind depth word ≤ 64) × Stand (depth_behind depth word) words
@@ -85,7 +86,7 @@ name_bytes_quotable (b ∷ bs) all = All-cons IsQuotable b bs (quotable b (All-h
 bare_quotable : (name : List ℕ) → is_bare name ≡ true → All IsQuotable name
 bare_quotable name h = name_bytes_quotable name ((tells_bare name).0 h).goes_on
 
--- ---- what follows a name or a number
+-- ---- the bytes after a name or a number
 
 no_name_byte : (words : List Word) → BeginsApart words → Begins IsNameByte (spelled_words words ++ codes "\n") → ⊥
 no_name_byte (Punctuation FullStop ∷ words) apart h = omega (arith, h)
@@ -104,7 +105,7 @@ ends_number (Punctuation FullStop ∷ words) apart (inr (inr h)) = ends_behind_d
 ends_number (Punctuation _ ∷ words) apart h = omega (arith, h)
 ends_number _ apart h = apart
 
--- ---- each word is spelled so
+-- ---- the spelling of each word
 
 name_spelled : (name rest : List ℕ) → All IsQuotable name → (Begins IsNameByte rest → ⊥) → (c : Bool) → is_bare name ≡ c → Spells (Name name) (cond c name (39 ∷ (name ++ 39 ∷ []))) rest
 name_spelled name rest quotable ends true bare = inl (refl, (tells_bare name).0 bare, ends)
@@ -140,7 +141,7 @@ words_nested : (at depth : ℕ) (words : List Word) → Stand depth words → Ne
 words_nested at depth [] h = tt
 words_nested at depth (word ∷ words) h = (h.1, words_nested (at + length (spelling_of word)) (depth_behind depth word) words h.2)
 
--- words that can stand so are the tokens of their spelling and a line feed
+-- such words are the tokens of their spelling with a line feed
 words_read : (words : List Word) → Stand 0 words → AreTokensOf (spelled_words words ++ codes "\n") (located 0 words)
 words_read words h = record { spelled = words_spelled 0 0 words h; nested = words_nested 0 0 words h }
 
@@ -148,7 +149,7 @@ words_located : (at : ℕ) (words : List Word) → map (λ (t : Located). t.word
 words_located at [] = refl
 words_located at (word ∷ words) = ap (λ (ws : List Word). word ∷ ws) (words_located (at + length (spelling_of word)) words)
 
--- ---- what can be written
+-- ---- drafts that can be written
 
 pub record CanSpellGroup (group : List (List ℕ)) : Type 0 where
   pub some : 0 < length group
@@ -173,7 +174,7 @@ CanSpell (Optional names) = Each (All IsQuotable) names
 CanSpell (Timeout wait) = CanSpellWait wait
 CanSpell Param.Other = Unit {0}
 
--- ---- what a configuration says by names
+-- ---- a configuration with names
 
 abbrev pub name_at : List NodeRow → ℕ → List ℕ
 name_at nodes number = unwrap_or (option_map (λ node. node.name) (slice_get nodes number)) []
@@ -197,9 +198,9 @@ params_of table =
     Distributed (map (written_app table.nodes) table.apps) ∷ Permissions (written_bans table.apps) ∷ Mandatory (map (λ node. node.name) (filter (λ node. node.mandatory) table.nodes))
     ∷ Optional (map (λ node. node.name) (filter (λ node. node.optional) table.nodes)) ∷ wait_params table.sync_wait
 
--- ---- words that can stand one after another
+-- ---- words that can follow each other
 
--- wherever these words can follow a mark, they can follow words that open so many brackets
+-- before a symbol these words can be spelled if k more brackets can be open
 abbrev IsPiece : ℕ → List Word → Type 0
 IsPiece k words = (depth : ℕ) (rest : List Word) → depth + k ≤ 64 → BeginsApart rest → Stand depth rest → Stand depth (words ++ rest)
 
@@ -227,9 +228,9 @@ tuple_piece k words piece = λ depth rest le apart h. (
   subst (Stand (depth + 1)) (sym (append_assoc words (Punctuation CloseTuple ∷ []) rest)) (piece (depth + 1) (Punctuation CloseTuple ∷ rest) (omega (arith, le)) tt (tt, omega (arith, le), closed depth rest h)),
 )
 
--- ---- words that write a text
+-- ---- words that spell a text
 
--- some words of this shape are spelled as the text, and can stand where so many more brackets may be open
+-- some words of this shape spell the text, wherever k more brackets can be open
 record Writes (k : ℕ) (Is : List Word → Type 0) (text : List ℕ) : Type 0 where
   words : List Word
   is : Is words
@@ -341,7 +342,7 @@ names_write : (name : List ℕ) → All IsQuotable name → (nodes : List NodeRo
     → Writes 5 (IsPair name (λ words. IsListOf IsNode words (map (λ node. node.name) nodes))) (pair_text (name_text name) (list_text (map (λ node. name_text node.name) nodes)))
 names_write name quotable nodes can = pair_writes (listed_writes 3 IsNode (λ (node : NodeRow). node.name) (λ node. name_text node.name) (All IsQuotable) (λ node quotable. name_writes 3 node.name quotable) nodes can) name quotable
 
--- a parameter, with that of the wait behind it
+-- a parameter, followed by that of the wait
 wait_writes : (param : Param) (text : List ℕ) (wait : SyncWait) → Writes 5 (λ words. IsParam words param) text → Each CanSpell (wait_params wait)
     → Writes 5 (λ words. Parted IsParam words (param ∷ wait_params wait)) (text ++ parted_behind (codes ",") (wait_texts wait))
 wait_writes param text NoSync w can = alone w
@@ -370,7 +371,7 @@ file_written table can =
       subst (λ (ws : List Word). IsFile ws (Kernel (params_of table) ∷ [])) (sym (words_located 0 words)) (file.words, refl, file.is),
     )
 
--- ---- what a text says can be spelled: its names by their bytes, and its numbers below 2 ^ 32
+-- ---- a text's draft can be spelled: its names by their bytes, and its numbers below 2 ^ 32
 
 abbrev Quotes : Word → Type 0
 Quotes (Name name) = All IsQuotable name
@@ -404,7 +405,7 @@ some_of : {A : Type 0} (Is : List Word → A → Type 0) (words : List Word) (xs
 some_of Is words [] h = absurd h
 some_of Is words (x ∷ xs) h = omega arith
 
--- of a pair, its name and the words of its value
+-- the name of a pair, and the words of its value
 pair_spells : (name : List ℕ) (IsValue : List Word → Type 0) (words : List Word) → Each Quotes words → (h : IsPair name IsValue words) → All IsQuotable name × Each Quotes h.0
 pair_spells name IsValue words quotes h =
     let parts : Each Quotes (Punctuation OpenTuple ∷ Name name ∷ Punctuation Comma ∷ (h.0 ++ Punctuation CloseTuple ∷ [])) = subst (Each Quotes) h.1 quotes in
@@ -471,7 +472,7 @@ params_spell [] h = tt
 params_spell (Kernel params ∷ sections) h = each_append CanSpell params (params_in sections) h.0 (params_spell sections h.1)
 params_spell (Section.Other ∷ sections) h = params_spell sections h.1
 
--- what the tokens of a file say can be spelled
+-- the sections of a file can be spelled
 pub file_spells : (bytes : List ℕ) (tokens : List Located) (sections : List Section) → AreSpelled 0 bytes tokens → IsFile (map (λ t. t.word) tokens) sections → Each CanSpell (params_in sections)
 file_spells bytes tokens sections spelled h =
     let parts : Each Quotes (h.0 ++ Punctuation FullStop ∷ []) = subst (Each Quotes) h.1 (tokens_quote 0 bytes tokens spelled) in

@@ -46,7 +46,6 @@ brings_by (Number negative digits) ws k breaks spoils = spoils tt
 brings_by Text ws k breaks spoils = spoils tt
 brings_by End ws k breaks spoils = spoils tt
 
--- words that are quiet hold no name
 quiet_name : (w : Word) → IsQuiet w → IsNoName w
 quiet_name (Name name) quiet = quiet
 quiet_name (Punctuation symbol) quiet = tt
@@ -101,11 +100,11 @@ file_is s = refl
 abbrev Done : List Located → Type 0
 Done ts = (sections : List Section) × IsFile (words ts) sections × MaySections sections
 
--- what fault reading can have where the end is behind these tokens
+-- the possible faults if the text ends after these tokens
 abbrev AtEnd : List Located → ℕ → ConfigFault → Type 0
 AtEnd ts offset e = (e ≡ record { kind = BadShape; at = offset }) ⊎ ((e ≡ record { kind = NoDistributed; at = offset }) × Done ts)
 
--- what reading a file makes of these tokens
+-- the result of reading a file from these tokens
 data Judged (ts : List Located) : Type 0 where
   By : (a : List Located) (l : Located) (b : List Located) (e : ConfigFault) → ts ≡ a ++ l ∷ b → ((last : Result Located ConfigFault) (rest : List Located) → file_at (at last (a ++ l ∷ rest) nothing) ≡ Err e) → StandsAt a l e → ((p : ConfigFault) → file_at (at (Err p) a nothing) ≡ Err p) → Judged ts
   Unsettled : ((p : ConfigFault) → file_at (at (Err p) ts nothing) ≡ Err p) → ((t : Located) (e : ConfigFault) → t.word ≡ End → file_at (at (Ok t) ts nothing) ≡ Err e → AtEnd ts t.at e) → ((t : Located) (w : Written) → t.word ≡ End → file_at (at (Ok t) ts nothing) ≡ Ok w → Done ts) → Judged ts
@@ -158,7 +157,7 @@ module _ (ts : List Located) (k : Takes Always Plain (λ _. list_of section_at) 
   list_wants : (p : ConfigFault) → file_at (at (Err p) k.a nothing) ≡ Err p
   list_wants p = ap (λ (l : List Located). file_at (at (Err p) l nothing)) (sym (append-nil k.a)) ∙ goes (Err p) [] ∙ ap (λ r. r >>= judged k.x) (end_none p k.after)
 
-  -- what was read is a file that keeps the limits
+  -- the tokens read are a file that keeps the limits
   done : (c : Located) → is_symbol FullStop c.word ≡ true → Done (k.a ++ c ∷ [])
   done c is =
       let ts = k.a ++ c ∷ [] in
@@ -192,7 +191,7 @@ judged_by ts no_end (Asked w) = Unsettled (λ p. file_is (at (Err p) ts nothing)
 -- ---- a file that keeps the limits is read
 
 module _ (order : (sections : List Section) → (MaySections sections ↔ AreWithinLimits sections)) (nodes : (sections : List Section) → (steps with_section nothing sections).met ≡ nodes_in sections) where
-  -- tokens whose reader comes to their end are in order
+  -- if reading reaches the end of the tokens, they are a valid prefix
   well : (ts : List Located) → file_at (at (Err halt) ts nothing) ≡ Err halt → IsWell (words ts)
   well ts e =
       let b = file_begun ts e in
@@ -237,7 +236,7 @@ module _ (order : (sections : List Section) → (MaySections sections ↔ AreWit
       let read = within_judged (end_of (suc e.at)) (a ++ l ∷ rest) is.sections refl (subst (λ (m : List Word). IsFile m is.sections) (sym same) is.file) is.within in
       no_clash e (eqb (apps_in is.sections) 0) (written is.sections (nodes_in is.sections)) (sym read ∙ fault (Ok (end_of (suc e.at))) rest)
 
-  -- reading a file gives a fault that a name brings whose limit it doesn't keep, or that nobody is listed
+  -- reading a file fails only at a name that breaks a limit outside `Kept`, or because no application is listed
   file_read : (end : Located) (Bad : ℕ → Type 0) (Kept : FaultKind → Type 0) (ts : List Located) (sections : List Section) (e : ConfigFault) → end.word ≡ End → IsLooseFile Kept (words ts) sections → Keeps Kept sections → Fine Bad ts → file_at (at (Ok end) ts nothing) ≡ Err e
       → Unkept Bad Kept e.kind e.at ⊎ (e ≡ record { kind = NoDistributed; at = end.at })
   file_read end Bad Kept ts sections e w file keep fine h =
@@ -264,7 +263,7 @@ module _ (order : (sections : List Section) → (MaySections sections ↔ AreWit
   placed_fine bad [] = tt
   placed_fine bad (w ∷ ws) = (λ name is e. absurd (omega (arith, e)), placed_fine bad ws)
 
-  -- what reading makes of a file that goes on behind the token of the fault
+  -- the result of reading a file that continues after the token of the fault
   module _ (a : List Located) (l : Located) (e : ConfigFault) (fault : (last : Result Located ConfigFault) (rest : List Located) → file_at (at last (a ++ l ∷ rest) nothing) ≡ Err e) (Bad : ℕ → Type 0) (Kept : FaultKind → Type 0) where
     goes_on : (offset : ℕ) (more : List Word) (sections : List Section) → IsLooseFile Kept ((words a ++ l.word ∷ []) ++ more) sections → Keeps Kept sections → Fine Bad (a ++ l ∷ map (place_at offset) more) → Unkept Bad Kept e.kind e.at
     goes_on offset more sections file keep fine =
@@ -282,11 +281,11 @@ module _ (order : (sections : List Section) → (MaySections sections ↔ AreWit
       let all = fine_both (At l.at) a (l ∷ map (place_at (suc l.at)) more) fine (λ name is. absurd (subst IsNoName is no_name), placed_fine l.at more) in
       not_name a l e stands no_name (goes_on a l e fault (At l.at) Strict (suc l.at) more sections (file_loose Strict ((words a ++ l.word ∷ []) ++ more) sections file) (strictly_so sections) all)
 
-  -- no file that keeps the limit of the fault goes on with its token
+  -- no file that keeps the limit of the fault continues with its token
   none_keeps : (a : List Located) (l : Located) (e : ConfigFault) → ((last : Result Located ConfigFault) (rest : List Located) → file_at (at last (a ++ l ∷ rest) nothing) ≡ Err e) → CanBegin (Keeps (Only e.kind)) (words a ++ l.word ∷ []) → ⊥
   none_keeps a l e fault c = not_kept e.kind e.at (goes_on a l e fault Nowhere (Only e.kind) 0 c.more c.sections (file_loose (Only e.kind) ((words a ++ l.word ∷ []) ++ c.more) c.sections c.file) c.keeps (fine_nowhere (a ++ l ∷ map (place_at 0) c.more)))
 
-  -- where reading stopped by the last token, something begins with all of them
+  -- if reading stopped at the last token, some loose file begins with all tokens
   stopped_kept : (bad : ℕ) (Bound : FaultKind → Type 0) (a : List Located) (l : Located) (e : ConfigFault) → ((last : Result Located ConfigFault) (rest : List Located) → file_at (at last (a ++ l ∷ rest) nothing) ≡ Err e) → Lone bad Bound (a ++ l ∷ []) → Stops bad Bound e.kind e.at → (IsQuiet l.word → ⊥)
       → (more : List Word) × (sections : List Section) × IsLooseFile Bound ((words a ++ l.word ∷ []) ++ more) sections × Keeps Bound sections
   stopped_kept bad Bound a l e fault lone stops loud =
@@ -296,7 +295,7 @@ module _ (order : (sections : List Section) → (MaySections sections ↔ AreWit
       let all : words a ++ l.word ∷ [] ≡ k.named = sym same ∙ k.parts ∙ ap (λ (l : List Word). k.named ++ l) none ∙ append-nil k.named in
       (k.begun.more, k.begun.x, subst (λ (m : List Word). IsLooseFile Bound (m ++ k.begun.more) k.begun.x) (sym all) k.begun.is.0, k.begun.is.1)
 
-  -- a file that keeps the limits that count before it begins so
+  -- some file that keeps the limits that count before the fault's begins so
   first_kept : (a : List Located) (l : Located) (e : ConfigFault) → ((last : Result Located ConfigFault) (rest : List Located) → file_at (at last (a ++ l ∷ rest) nothing) ≡ Err e) → StandsAt a l e → Clear l.at a → IsOfName e.kind → CanBegin (Keeps (Before e.kind)) (words a ++ l.word ∷ [])
   first_kept a l e fault stands clear of =
       let n = name_of_it a l e stands of in
@@ -307,13 +306,13 @@ module _ (order : (sections : List Section) → (MaySections sections ↔ AreWit
   breaks : (a : List Located) (l : Located) (e : ConfigFault) → ((last : Result Located ConfigFault) (rest : List Located) → file_at (at last (a ++ l ∷ rest) nothing) ≡ Err e) → StandsAt a l e → Clear l.at a → Breaks (words a ++ l.word ∷ []) e.kind
   breaks a l e fault stands clear = record { broken = none_keeps a l e fault; first = first_kept a l e fault stands clear }
 
-  -- a fault of shape, with which no file goes on, however loose
+  -- after `BadShape` at a token that is no name, no loose file continues
   none_loosely : (a : List Located) (l : Located) (e : ConfigFault) → ((last : Result Located ConfigFault) (rest : List Located) → file_at (at last (a ++ l ∷ rest) nothing) ≡ Err e) → e ≡ record { kind = BadShape; at = l.at } → IsNoName l.word → Fine (At l.at) a → CanBeginLoosely (words a ++ l.word ∷ []) → ⊥
   none_loosely a l e fault is no_name fine c =
       let all = fine_both (At l.at) a (l ∷ map (place_at (suc l.at)) c.more) fine (λ name same. absurd (subst IsNoName same no_name), placed_fine l.at c.more) in
       (subst (λ (f : ConfigFault). Unkept (At l.at) NoKind f.kind f.at) is (goes_on a l e fault (At l.at) NoKind (suc l.at) c.more c.sections c.file (sections_so NoKind (λ kind limit no. no) c.sections) all)).0 refl
 
-  -- with what a token spoils that is no name a file goes on loosely
+  -- after any other fault at a token that is no name, some loose file continues
   spoilt_so : (bad : ℕ) (a : List Located) (l : Located) (e : ConfigFault) → ((last : Result Located ConfigFault) (rest : List Located) → file_at (at last (a ++ l ∷ rest) nothing) ≡ Err e) → Lone bad NoKind (a ++ l ∷ []) → Stops bad NoKind e.kind e.at → (IsQuiet l.word → ⊥) → CanBeginLoosely (words a ++ l.word ∷ [])
   spoilt_so bad a l e fault lone stops loud = let k = stopped_kept bad NoKind a l e fault lone stops loud in record { more = k.0; sections = k.1; file = k.2 }
 
@@ -351,7 +350,7 @@ module _ (order : (sections : List Section) → (MaySections sections ↔ AreWit
         subst (λ (f : ConfigFault). Spoils (words a ++ l.word ∷ []) f.kind) (sym k)
         (empty_told e front o fault parts (subst (λ (u : Word). QuietBehind u (l ∷ [])) (sym w) (All-nil IsQuiet)) (subst (λ (f : ConfigFault). Stops o.at NoKind f.kind f.at) (sym k) (refl, λ no. no)) (λ quiet. subst IsQuiet v quiet))
 
-  -- with the token of the fault, words aren't in order
+  -- with the token of the fault the prefix isn't valid
   not_well : (a : List Located) (l : Located) (e : ConfigFault) → ((last : Result Located ConfigFault) (rest : List Located) → file_at (at last (a ++ l ∷ rest) nothing) ≡ Err e) → StandsAt a l e → Fine (At l.at) a → IsWell (words a ++ l.word ∷ []) → ⊥
   not_well a l e fault stands fine w = elim (name_or_not l.word) [
     | inl is ↦
@@ -417,7 +416,7 @@ module _ (order : (sections : List Section) → (MaySections sections ↔ AreWit
     pub file_fault : (e : ConfigFault) → file_at (at s.last s.tokens nothing) ≡ Err e → IsFaultOf text e
     file_fault e h = fault_by e h (judged_by s.tokens (no_end_by s.last refl) (sections_reader s.tokens nothing))
 
-    -- tokens that are read whole are in order, and a file that keeps the limits
+    -- tokens that are read to the end are a valid prefix, and a file that keeps the limits
     abbrev Whole : Type 0
     Whole = ((e : ConfigFault) → s.last ≡ Err e → ⊥) × IsWell (words s.tokens) × Done s.tokens
 
@@ -432,7 +431,7 @@ module _ (order : (sections : List Section) → (MaySections sections ↔ AreWit
     pub whole_read : (w : Written) → file_at (at s.last s.tokens nothing) ≡ Ok w → Whole
     whole_read w h = whole_by w h (judged_by s.tokens (no_end_by s.last refl) (sections_reader s.tokens nothing))
 
-    -- if none is listed, there is a fault
+    -- if no application is listed, there is a fault
     pub listed_read : (is : IsFileWithinLimits (words s.tokens)) → apps_in is.sections ≡ 0 → s.last ≡ Ok (end_of (length text)) → (w : Written) → file_at (at s.last s.tokens nothing) ≡ Ok w → ⊥
     listed_read is none last w h =
         let end = end_of (length text) in

@@ -65,7 +65,7 @@ how_again how =
     subst (λ (h : How). Again how_at (how_bytes how) h) (code_of_how how)
     (Again-made (λ r. range_at w8 1 3 r) how_of (how_bytes how) (how_code how) (u8_in_again 1 3 (omega arith) (how_code how) (code_from how) (code_to how)))
 
--- ---- where it came from
+-- ---- the node that it came from
 
 abbrev from_bytes : Option NodeId → List ℕ
 from_bytes from = u8_bytes (from_code from)
@@ -84,7 +84,7 @@ some_from : (nodes n : ℕ) → n ≤ nodes → 0 < n → (node : NodeId) × (fr
 some_from nodes zero le some = absurd (omega arith)
 some_from nodes (suc n) le some = (record { 0 = n }, refl, omega arith)
 
--- a code that fits is that of a node that fits
+-- a consistent code is that of a consistent node
 fits_from : (nodes : ℕ) (how : How) (n : ℕ) → n ≤ nodes → is_from_of how n ≡ true → IsFromFor nodes how (from_of n)
 fits_from nodes Normal n le fits = ap from_of (eqb-true n 0 fits)
 fits_from nodes Failover n le fits = some_from nodes n le (ltb-true 0 n fits)
@@ -96,7 +96,7 @@ some_code nodes from is =
     let below = is.2 in
     (omega arith, lt-ltb 0 (from_code from) (omega arith))
 
--- a node that fits has a code that fits
+-- a consistent node has a consistent code
 fits_code : (nodes : ℕ) (how : How) (from : Option NodeId) → IsFromFor nodes how from → (from_code from ≤ nodes) × (is_from_of how (from_code from) ≡ true)
 fits_code nodes Normal from is = let same : from_code from ≡ 0 = ap from_code is in (omega arith, ap (λ n. is_from_of Normal n) same)
 fits_code nodes Failover from is = some_code nodes from is
@@ -225,7 +225,8 @@ module _ (version : Version) (t : Table) where
   has_all : (e : AppId × Claim) → HasFields e × (is_claimer_listed e ≡ true) → IsClaimInForm version t e
   has_all e is = record { app = is.0.0; first = is.0.1.0.0; last = is.0.1.0.1; origin = is.0.1.1.0; listed = is.1; from = is.0.1.1.1 }
 
-  -- What is read is spelled so, and is the claim of an application above the one before.
+  -- A claim that is read is well-formed, with these bytes as its spelling, and its application is greater than the
+  -- previous one.
   pub claim_takes : (before : Option AppId) → TakesAs (claim_at version t before) (claim_bytes version) (IsNext app_cmp (λ (e : AppId × Claim). e.0) (IsClaimInForm version t) before)
   unfolding claim_at
   claim_takes before =
@@ -242,7 +243,7 @@ module _ (version : Version) (t : Table) where
         (Again-both (app_at (app_count t)) (λ _ r. term_and_claimer_at version (node_count t) r) (λ app claim. (app, claim)) (app_bytes e.0) (term_and_claimer_bytes version c) e.0 c
         (app_again (app_count t) apps_fit e.0 is.app) (term_and_claimer_again version (node_count t) nodes_fit c ((is.first, is.last), (is.origin, is.from))))
 
-    -- And it is read again.
+    -- A well-formed claim is read from its spelling.
     pub claim_again : (before : Option AppId) (e : AppId × Claim) → IsNext app_cmp (λ (e : AppId × Claim). e.0) (IsClaimInForm version t) before e → Again (claim_at version t before) (claim_bytes version e) e
     unfolding claim_at listed_claim_at
     claim_again before e is =

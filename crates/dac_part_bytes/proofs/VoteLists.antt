@@ -1,4 +1,4 @@
--- Votes by key, as the lists that are read, and their spellings are one to one.
+-- The codec of votes by key, as the lists that are read.
 use Rattle.std.specs.Prelude.{◌≡◌, ℕ, zero, suc, ◌-◌, ◌^◌, ◌<◌, ◌≤◌, List, ◌++◌, length, map as list_map, Option, refl}
 use Rattle.std.proofs.Common.{ap, arith}
 use Rattle.std.specs.declared.cmp.Ordering.{Ordering}
@@ -26,7 +26,7 @@ use Rattle.dac_part_bytes.specs.Reading.{known_dot_at, some_at, said_flag, vote_
 use Rattle.dac_part_bytes.specs.Spelling.{said_code, vote_bytes, votes_of_key_bytes, keyed_votes_bytes}
 use Rattle.dac_part_bytes.proofs.KeyFields.{IsDotAbove, known_dot_takes, known_dot_again}
 
--- ---- what a vote says
+-- ---- the value of a vote
 
 code_again : (truth : Flag) (n : ℕ) → n ≤ 1 → n ≡ said_code truth (said_flag truth n)
 code_again Up zero h = refl
@@ -50,27 +50,25 @@ code_small Down Down = (omega arith, omega arith)
 
 -- ---- the votes of a key
 
--- some, and a number that fits its field
+-- at least one, and a number that fits its field
 abbrev IsSome : ℕ → Type 0
 IsSome n = (1 ≤ n) × (n ≤ 2 ^ 32 - 1)
 
--- a vote's dot
 abbrev dot_of : Dot × Flag → Dot
 dot_of p = p.0
 
--- the votes of a key: some, by known dots that rise
+-- the votes of a key: at least one, with known ascending dots
 abbrev pub AreVotesOfKey : Version → Table → Dots → DotFlags → Type 0
 AreVotesOfKey version t known ps = IsSome (length ps) × AllByRecursion (λ (p : Dot × Flag). IsKnownDot version t known p.0) ps × IsRising dot_cmp (list_map (λ (p : Dot × Flag). p.0) ps)
 
--- a key with its votes
 abbrev pub IsKeyedVotes : {K : Type 0} → (K → Type 0) → Version → Table → Dots → K × DotFlags → Type 0
 IsKeyedVotes IsKeyOf version t known e = IsKeyOf e.0 × AreVotesOfKey version t known e.1
 
--- keys that rise, each with its votes
+-- ascending keys, each with its votes
 abbrev pub AreVotesByKey : {K : Type 0} → (K → K → Ordering) → (K → Type 0) → Version → Table → Dots → List (K × DotFlags) → Type 0
 AreVotesByKey {K = K} R IsKeyOf version t known m = (length m < 2 ^ 32) × AllByRecursion (IsKeyedVotes IsKeyOf version t known) m × IsRising R (list_map (λ (e : K × DotFlags). e.0) m)
 
--- how many keys have votes, and the votes of each
+-- the number of keys with votes, and the votes of each
 abbrev pub votes_list_bytes : {K : Type 0} → (K → List ℕ) → Version → Flag → List (K × DotFlags) → List ℕ
 votes_list_bytes key_text version truth m = u32_bytes (length m) ++ flat_map (keyed_votes_bytes key_text version truth) m
 
@@ -78,7 +76,7 @@ module _ (version : Version) (t : Table) (known : Dots) (truth : Flag) (few_node
   abbrev nodes : ℕ
   nodes = node_count t
 
-  -- the vote of a known dot above the one before it
+  -- the vote of a known dot greater than the previous one
   abbrev IsVoteAbove : Option Dot → Dot × Flag → Type 0
   IsVoteAbove = IsNext dot_cmp dot_of (λ (p : Dot × Flag). IsKnownDot version t known p.0)
 

@@ -1,4 +1,4 @@
--- The dots heard, as they are kept beside the dots known.
+-- The dots heard, stored relative to the dots known.
 use Rattle.dac_origins.specs.Dots.{Dots}
 use Rattle.dac_state.specs.declared.heard.Heard.{Heard}
 use Rattle.dac_state.specs.declared.heard.Heard.TheVariants.{All, These}

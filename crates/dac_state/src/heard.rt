@@ -1,4 +1,4 @@
-//! The dots heard, as they are kept beside the dots known.
+//! The dots heard, stored relative to the dots known.
 ghost use Rattle.std.specs.Prelude.{◌≡◌, ◌↔◌, IsTrue, IfOk};
 ghost use Rattle.std.specs.FinSet as set;
 ghost use Rattle.dac_origins.specs.Dots.{IsSubset};
@@ -7,17 +7,17 @@ ghost use Rattle.dac_state.specs.Heard.{heard_beside};
 use dac_base::NoMemory;
 use dac_dots::{Context, SharedContext};
 
-/// The dots heard, which are some of the dots known.
+/// The dots heard, a subset of the dots known.
 #[derive(Drop)]
 pub(crate) enum Heard {
-    /// All that are known.
+    /// All known dots were heard.
     All,
-    /// These.
+    /// Only these dots were heard.
     These(Context),
 }
 
 impl Heard {
-    /// These dots. It takes no memory.
+    /// Stores the dots heard, given the dots known.
     pub(crate) fn of(heard: Context, known: &Context) -> Self
         requires { IsSubset heard known.now }
         ensures { heard_beside result known.now ≡ heard }
@@ -29,7 +29,7 @@ impl Heard {
         }
     }
 
-    /// The dots heard.
+    /// The dots heard, given the dots known.
     pub(crate) fn beside<'a>(&'a self, known: &'a Context) -> &'a Context
         ensures { result.now ≡ heard_beside self.now known.now }
     {
@@ -39,7 +39,7 @@ impl Heard {
         }
     }
 
-    /// Whether all dots known are among these, among which are the dots heard.
+    /// Whether all known dots are among `dots`, which include the heard ones.
     fn knows_no_more(&self, known: &Context, dots: &Context) -> bool
         requires { IsSubset (heard_beside self.now known.now) dots.now }
         ensures { IsTrue result → IsSubset known.now dots.now }
@@ -50,7 +50,7 @@ impl Heard {
         }
     }
 
-    /// Whether all dots that either side knows are among these, among which are those that either heard.
+    /// Whether all dots known on either side are among `dots`, which include those heard on either side.
     fn both_know_no_more(
         &self,
         known: &Context,
@@ -65,8 +65,8 @@ impl Heard {
         self.knows_no_more(known, dots) && other.knows_no_more(other_known, dots)
     }
 
-    /// The dots that either side knows, and those that either heard. Mostly they are the same, and no other union is
-    /// made. [`NoMemory`] is the only error.
+    /// The dots known on either side, and those heard on either side. Mostly both unions are equal, and then only one
+    /// is made.
     pub(crate) fn join(
         &self,
         known: &Context,
@@ -90,7 +90,7 @@ impl Heard {
         Ok((shared, Heard::These(heard)))
     }
 
-    /// Whether each of these dots was heard, all of which are known.
+    /// Whether all of `dots`, which are known, were heard.
     fn has(&self, known: &Context, dots: &Context) -> bool
         requires { IsSubset dots.now known.now }
         ensures { IsTrue result ↔ IsSubset dots.now (heard_beside self.now known.now) }
@@ -101,7 +101,7 @@ impl Heard {
         }
     }
 
-    /// Whether the other side knows all dots that this one knows, and heard all that this one heard.
+    /// Whether the other side knows all dots known here, and heard all dots heard here.
     pub(crate) fn leq(&self, known: &Context, other: &Self, other_known: &Context) -> bool
         requires { IsSubset (heard_beside self.now known.now) known.now }
         ensures { IsTrue result
@@ -115,7 +115,7 @@ impl Heard {
         other.has(other_known, self.beside(known))
     }
 
-    /// Whether both sides heard the same dots, where both know these.
+    /// Whether both sides heard the same dots, given that both know the same.
     pub(crate) fn equal(&self, other: &Self, known: &Context) -> bool
         requires mine { IsSubset (heard_beside self.now known.now) known.now }
         requires theirs { IsSubset (heard_beside other.now known.now) known.now }
@@ -125,7 +125,7 @@ impl Heard {
         self.has(known, other.beside(known)) && other.has(known, self.beside(known))
     }
 
-    /// Equal dots. They share memory that never changes.
+    /// A copy, which shares immutable memory.
     pub(crate) fn copy(&self) -> Result<Self, NoMemory>
         ensures { IfOk result (λ copied. copied ≡ self.now) }
     {

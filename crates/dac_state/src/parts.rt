@@ -13,7 +13,7 @@ use dac_wishes::{Drains, Permissions, Wishes};
 use std::alloc::Global;
 use std::marker::Model;
 
-/// The parts of a state. Permissions, wishes and drains know the same dots, and share them where they can.
+/// The parts of a state. Permissions, wishes and drains know the same dots, and share their memory if possible.
 #[derive(Drop)]
 pub(crate) struct Parts {
     alloc: Global,
@@ -42,7 +42,7 @@ impl Model for Parts {
 }
 
 impl Parts {
-    /// These parts. It takes no memory.
+    /// The parts of a state, with the dots heard as a context.
     pub(crate) fn new(
         alloc: Global,
         heard: Context,
@@ -59,7 +59,7 @@ impl Parts {
         Parts::beside(alloc, heard, permissions, wishes, lives, claims, drains)
     }
 
-    /// These parts, where the dots heard are kept beside those that the wishes know. It takes no memory.
+    /// The parts of a state, with the dots heard relative to the wishes' known dots.
     pub(crate) fn beside(
         alloc: Global,
         heard: Heard,
@@ -86,7 +86,7 @@ impl Parts {
         }
     }
 
-    /// Where their memory comes from.
+    /// The allocator of the parts, for joins and copies.
     pub(crate) fn allocator(&self) -> Global {
         self.alloc
     }
@@ -98,21 +98,21 @@ impl Parts {
         self.heard.beside(self.wishes.context())
     }
 
-    /// The dots of the operations heard, and those that one of them replaces.
+    /// The dots of the operations heard, and those that they replaced.
     pub(crate) fn known(&self) -> &Context
         ensures { result.now ≡ self.now.known }
     {
         self.wishes.context()
     }
 
-    /// The permits that stand.
+    /// The standing permits.
     pub(crate) fn permissions(&self) -> &Permissions
         ensures { result.now ≡ permissions_of self.now }
     {
         &self.permissions
     }
 
-    /// The start wishes that stand.
+    /// The standing start wishes, whose context is the known dots.
     pub(crate) fn wishes(&self) -> &Wishes
         ensures { result.now ≡ wishes_of self.now }
     {
@@ -133,21 +133,21 @@ impl Parts {
         &self.claims
     }
 
-    /// The drains that stand.
+    /// The standing drains.
     pub(crate) fn drains(&self) -> &Drains
         ensures { result.now ≡ drains_of self.now }
     {
         &self.drains
     }
 
-    /// They are those of a state. This only tells proofs so, and does nothing when it runs.
+    /// Provides the invariant to proofs. It does nothing at run time.
     pub(crate) fn tells_invariant(&self)
         ensures { IsState self.now }
     {
         let _heard = &self.heard;
     }
 
-    /// The parts joined with others.
+    /// The join of all parts.
     pub(crate) fn join(&self, other: &Self) -> Result<Self, NoMemory>
         ensures { IfOk result (λ joined. joined ≡ join self.now other.now) }
     {
@@ -170,7 +170,7 @@ impl Parts {
         })
     }
 
-    /// Whether each is below the other's.
+    /// Whether each part is below the other's.
     pub(crate) fn leq(&self, other: &Self) -> bool
         ensures { IsTrue result ↔ IsBelow self.now other.now }
     {
@@ -190,7 +190,8 @@ impl Parts {
         self.claims.leq(&other.claims) && self.drains.leq_beside(&other.drains)
     }
 
-    /// Whether each is equal to the other's. The dots known differ most often, and the wishes stand beside them.
+    /// Whether the parts are equal. The wishes come first, because the known dots are paired with them and differ most
+    /// often.
     pub(crate) fn equal(&self, other: &Self) -> bool
         ensures { IsTrue result ↔ (self.now ≡ other.now) }
     {
@@ -212,7 +213,7 @@ impl Parts {
         self.drains.leq_beside(&other.drains) && other.drains.leq_beside(&self.drains)
     }
 
-    /// Equal parts. They may share memory that never changes.
+    /// A copy, which can share immutable memory.
     pub(crate) fn copy(&self) -> Result<Self, NoMemory>
         ensures { IfOk result (λ copied. copied ≡ self.now) }
     {

@@ -1,4 +1,4 @@
--- Operations in form and their spellings are one to one.
+-- The codec of operations.
 use Rattle.std.specs.Prelude.{◌≡◌, ℕ, ◌+◌, ◌<◌, ◌≤◌, ◌^◌, Bool, true, List, ◌++◌, Option, None, Some, is_none, Ok, refl}
 use Rattle.std.specs.Int.{w8, w16}
 use Rattle.std.proofs.Common.{sym, ap, subst, arith, append_assoc}
@@ -66,7 +66,7 @@ module _ (version : Version) (nodes : ℕ) (fields : FieldCodecs version nodes) 
       (counted_codec dots_total itself (IsDot version nodes) (dot_above_at version nodes) (number_at w16) u16_bytes (dot_bytes version) IsCount fields.u16 fields.dot_above)
       (AreOver version nodes) over_is dots_are
 
-  -- ---- what a permit says
+  -- ---- the value of a permit
 
   abbrev value_bytes : Bool → List ℕ
   value_bytes value = u8_bytes (value_code value)
@@ -112,7 +112,7 @@ module _ (version : Version) (t : Table) (parts : PartCodecs version t) where
   abbrev fields : FieldCodecs version nodes
   fields = parts.fields
 
-  -- a key alone
+  -- a key without a previous one
   key_codec : IsCodec (key_above_at version t None) (key_bytes version) (IsKey version t)
   key_codec = codec_same (key_above_at version t None) (key_bytes version) (IsKeyAbove version t None) (parts.key None) (IsKey version t) (λ key is. is.0) (λ key is. (is, refl))
 
@@ -257,7 +257,8 @@ module _ (version : Version) (t : Table) (parts : PartCodecs version t) where
   abbrev is_sound : Operation → Bool
   is_sound o = is_none (fault_of o.dot o.act)
 
-  -- What is read as an operation is its one spelling and in form, and one in form is read from its spelling.
+  -- An operation that is read is well-formed, with these bytes as its spelling, and each well-formed one is read from
+  -- its spelling.
   pub operation_codec : IsCodec (operation_at version t) (operation_bytes version) (IsOperation version t)
   unfolding operation_at
   operation_codec =

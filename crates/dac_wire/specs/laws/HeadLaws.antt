@@ -1,4 +1,4 @@
--- The heads of messages and their spellings are one to one.
+-- The codec of the heads of messages.
 use Rattle.std.specs.Prelude.{◌≡◌, ℕ, zero, suc, ◌+◌, ◌<◌, ◌≤◌, Bool, List, [], ◌++◌, Option, None, Some, Ok, refl}
 use Rattle.std.specs.Int.{w8}
 use Rattle.std.proofs.Common.{sym, ap, subst, ◌∙◌, arith, append_assoc}
@@ -25,15 +25,14 @@ use Rattle.dac_wire.specs.declared.head.Head.{Head}
 use Rattle.dac_wire.specs.laws.CodeLaws.{only_number, only_is, only_fits, only_back}
 use Rattle.dac_bytes.specs.declared.version.Version.{Version}
 
--- a number of deltas
 abbrev AreDeltas : ℕ → Type 0
 AreDeltas n = n ≤ MAX_COUNTER
 
--- all of a message but what it brings
+-- a message without its state
 abbrev pub head_bytes : Version → Head → List ℕ
 head_bytes version h = origin_bytes version h.from ++ u8_bytes h.to.0 ++ incarnation_bytes version (only_code h.only) ++ u64_bytes h.up_to ++ ack_bytes version h.ack
 
--- a head that can be read
+-- a head is well-formed
 pub record IsHead (version : Version) (nodes : ℕ) (whole : Bool) (h : Head) : Type 0 where
   pub from : IsOrigin version nodes h.from
   pub to : h.to.0 < nodes
@@ -45,7 +44,7 @@ regroup : (a b c d e : List ℕ) → (a ++ b) ++ (c ++ (d ++ e)) ≡ (((a ++ b) 
 regroup a b c d e = sym (simp append_assoc)
 
 module _ (version : Version) (nodes : ℕ) (fields : FieldCodecs version nodes) where
-  -- ---- the incarnation that it is for
+  -- ---- the incarnation that the message is for
 
   abbrev only_bytes : Option ℕ → List ℕ
   only_bytes only = incarnation_bytes version (only_code only)
@@ -65,9 +64,9 @@ module _ (version : Version) (nodes : ℕ) (fields : FieldCodecs version nodes) 
       codec_made (only_code_at version whole) (incarnation_bytes version) (Passes IsCode (is_only_of whole)) (only_code_codec whole) only_of_code only_bytes (IsOnly version whole)
       (λ n is. (ap (incarnation_bytes version) (only_number n), only_is version whole n is.0 is.1)) (λ only is. (only_code only, only_fits version whole only is, only_back version whole only is))
 
-  -- ---- what was got
+  -- ---- the acknowledgement
 
-  -- what was got, after its code
+  -- the acknowledgement after its code
   abbrev got_bytes : Option (Origin × ℕ) → List ℕ
   got_bytes None = []
   got_bytes (Some got) = origin_bytes version got.0 ++ u64_bytes got.1
@@ -82,7 +81,7 @@ module _ (version : Version) (nodes : ℕ) (fields : FieldCodecs version nodes) 
   unfolding got_at
   got_codec = codec_pair (origin_at version nodes) (origin_bytes version) (IsOrigin version nodes) fields.origin (λ _ r. deltas_at r) (λ _. u64_bytes) (λ _. AreDeltas) (λ _ _. deltas_codec)
 
-  -- what was got by its code
+  -- the acknowledgement that fits a code
   abbrev IsAckOf : ℕ → Option (Origin × ℕ) → Type 0
   IsAckOf n ack = (ack_code ack ≡ n) × IsAck version nodes ack
 
@@ -121,7 +120,7 @@ module _ (version : Version) (nodes : ℕ) (fields : FieldCodecs version nodes) 
       (λ _ ack. ack) (ack_bytes version) (IsAck version nodes)
       (λ n ack _ is. (ap (λ n. u8_bytes n ++ got_bytes ack) (sym is.0) ∙ ack_spelled ack, is.1)) (λ ack is. (ack_code ack, ack, ack_fits ack, (refl, is), refl))
 
-  -- ---- all but what it brings
+  -- ---- the message without its state
 
   abbrev Counts : Type 0
   Counts = ℕ × Option (Origin × ℕ)
