@@ -1,5 +1,5 @@
--- What a verdict leaves alone is said by how the application stands and by which nodes are eligible, and by no load.
--- This is so for every configuration and every state.
+-- The standing and the eligible nodes decide whether a verdict leaves an application alone, for every configuration and
+-- every state; loads don't matter.
 use Rattle.std.specs.Prelude.{◌≡◌, ◌↔◌, ℕ, true, false, cond, Option, None, Some, refl}
 use Rattle.std.proofs.Common.{sym, ap, subst, ◌∙◌}
 use Rattle.std.proofs.lemmas.Bool.{false_from_ne_true}

@@ -1,4 +1,4 @@
--- The tests of who may run an application and where one runs, in words, for every configuration and every state.
+-- The tests of eligibility and of running agree with the definitions in words, for every configuration and every state.
 use Rattle.std.specs.Prelude.{◌≡◌, ◌↔◌, ℕ, true, false, cond, ◌&&◌, ◌==◌, Option, None, Some, refl}
 use Rattle.std.proofs.Common.{Bool, ap, sym, subst, ◌∙◌}
 use Rattle.std.specs.Option.{is_some, option_map_or, option_and_then}
