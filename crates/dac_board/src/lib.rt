@@ -6,7 +6,7 @@
 //! these evaluations. Contracts say which states a board shows under a configuration; for these it returns the verdicts
 //! and the loads of `dac_placement`.
 //!
-//! Only [`Board::new`] and [`Board::copy`] allocate. Their only error is [`NoMemory`], which leaves their arguments
+//! Only [`Board::new`] and [`Board::copy`] allocate. Their only error is `NoMemory`, which leaves their arguments
 //! unchanged.
 #![tactic(auto)]
 

@@ -7,7 +7,7 @@
 //! Because each controller ticks at its own moments, controllers that heard the same operations can have different
 //! waits.
 //!
-//! Only [`Waits::new`] and [`Waits::copy`] allocate. Their only error is [`NoMemory`], which leaves their arguments
+//! Only [`Waits::new`] and [`Waits::copy`] allocate. Their only error is `NoMemory`, which leaves their arguments
 //! unchanged.
 #![tactic(auto)]
 
