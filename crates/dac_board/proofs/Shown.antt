@@ -25,7 +25,7 @@ use Rattle.dac_placement.specs.laws.FirstChoice.{first_below, first_parts}
 use Rattle.dac_board.proofs.Filling.{length_filled, filled_at, alike_below}
 
 module _ (table : Table) (s : StateValue) where
-  -- ---- where an application runs
+  -- ---- running at a node
 
   module _ (app : AppId) (node : NodeId) where
     abbrev wanted : ℕ → Bool

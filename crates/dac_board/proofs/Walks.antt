@@ -84,7 +84,7 @@ module _ {E : Type 0} where
   none_left now None first e = first
   none_left now (Some b) first e = absurd (true≢false e)
 
--- ---- what stands at a key, by the entries
+-- ---- reads at a key, from the entries
 
 module _ {K : Type 0} {R : K → K → Ordering} (total : IsTotalOrder R) (exact : CmpEqualImpliesEq R) where
   votes_found : (votes : Votes R) (key : K) → store_at [] (find R key (votes_by_key R votes)) ≡ votes_at R key votes

@@ -1,5 +1,5 @@
--- Boards. A board stores the standing of each application at its holder and the nodes that may run it. It shows a state
--- if these are what the definitions of placement say of that state; then it has the state's verdicts and loads.
+-- Boards. A board stores the standing of each application at its holder and its eligible nodes. It shows a state if
+-- these are what the definitions of placement say of that state; then it has the state's verdicts and loads.
 use Rattle.std.specs.Prelude.{◌≡◌, ℕ, Bool, true, false, List, map as list_map, Option, None, if◌then◌else◌}
 use Rattle.std.specs.Option.{option_map}
 use Rattle.dac_base.specs.declared.NodeId.{NodeId}
@@ -11,7 +11,7 @@ use Rattle.dac_placement.specs.declared.standing.Standing.TheVariants.{Unclaimed
 use Rattle.dac_placement.specs.Placement.{is_eligible, standing_of, apps_of, nodes_of}
 use Rattle.dac_board.specs.declared.spot.Spot.{Spot}
 
--- one application: node by node the group of each that may run it, its standing, and the group of the holder if it is
+-- one application: node by node the group of each eligible one, its standing, and the group of the holder if it is
 -- upheld
 pub record RowValue : Type 0 where
   pub spots : List (Option Spot)
@@ -23,7 +23,7 @@ pub record BoardValue : Type 0 where
   pub rows : List RowValue
   pub looked : ℕ
 
--- the node with its group, if it may run the application
+-- the node with its group, if it is eligible
 abbrev pub spot_of : Table → StateValue → AppId → NodeId → Option Spot
 spot_of table s app node =
     if is_eligible table s app node then option_map (λ group. record { group = group; node = node }) (group_of table app node)

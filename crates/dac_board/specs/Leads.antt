@@ -14,7 +14,7 @@ beside lead spot =
     else if spot.group == lead.spot.group then record { spot = lead.spot; alone = false }
     else lead
 
--- the lead after a later node, if that one may run the application
+-- the lead after a later node, if that one is eligible
 abbrev pub lead_with : Option Lead → Option Spot → Option Lead
 lead_with lead None = lead
 lead_with None (Some spot) = Some (record { spot = spot; alone = true })

@@ -43,7 +43,7 @@ abbrev pub load_on : List RowValue → AppId → NodeId → ℕ
 load_on rows app node =
     length (filter (λ other. not (other.0 == app.0) && row_runs node (row_at rows other)) (apps_on rows))
 
--- the rank of a node that may run the application
+-- the rank of an eligible node
 abbrev pub rank_on : List RowValue → AppId → Option Spot → Option Rank
 rank_on rows app spot =
     option_map (λ (p : Spot). record { group = p.group; load = load_on rows app p.node; node = p.node }) spot

@@ -23,9 +23,9 @@ use std::marker::Model;
 
 /// The verdicts and loads of a state, maintained while the state grows.
 ///
-/// A board stores which nodes may run each application and its standing at its holder. When the state merges a delta,
-/// the board re-evaluates only the pairs of an application and a node that the delta touches. Contracts say which
-/// states a board shows under a configuration; for these it returns the verdicts and the loads.
+/// A board stores which nodes are eligible for each application and its standing at its holder. When the state merges a
+/// delta, the board re-evaluates only the pairs of an application and a node that the delta touches. Contracts say
+/// which states a board shows under a configuration; for these it returns the verdicts and the loads.
 #[derive(Drop)]
 pub struct Board {
     rows: Vec<Row>,
@@ -94,7 +94,7 @@ impl Board {
 
     /// Updates the board, which shows `old`, after `old` was joined with `delta`, which gave `new`. If `old` is below
     /// `new`, `new` itself can be passed for `delta`. It walks once through both states' standing operations, and
-    /// evaluates each pair of an application and a node that the change touches once.
+    /// evaluates each touched pair of an application and a node once.
     pub fn absorb(&mut self, config: &Config, old: &State, new: &State, delta: &State)
         ensures shows { Shows config.now self.old old.now → new.now ≡ join old.now delta.now
             → Shows config.now self.new new.now }
@@ -162,7 +162,7 @@ fn load_on(rows: &[Row], app: AppId, node: NodeId) -> u32
     load
 }
 
-/// The rank of a node that may run the application.
+/// The rank of an eligible node.
 fn rank_on(rows: &[Row], app: AppId, spot: Option<Spot>) -> Option<Rank>
     requires { length rows.now < 2 ^ 16 }
     ensures { result ≡ rank_on rows.now app spot }
@@ -189,8 +189,8 @@ fn first_on(rows: &[Row], app: AppId, spots: &[Option<Spot>]) -> Option<Rank>
     first
 }
 
-/// The verdict of an application, by its row and those of the others. Loads are computed only if two nodes that may run
-/// it share the first group and the verdict depends on which one is first.
+/// The verdict of an application, by its row and those of the others. Loads are computed only if two eligible nodes
+/// share the first group and the verdict depends on which one is first.
 fn verdict_on(rows: &[Row], app: AppId) -> Verdict
     requires { length rows.now < 2 ^ 16 }
     ensures { result ≡ row_verdict rows.now app }

@@ -9,8 +9,8 @@ use crate::leading::{Lead, leader};
 use crate::spot::Spot;
 use dac_placement::{Rank, Standing, Verdict};
 
-/// The verdict of an application of this standing, with its holder in this group and these nodes that may run it, if
-/// any first choice in the leading group gives the same verdict.
+/// The verdict of an application of this standing, with its holder in this group and these eligible nodes, if any first
+/// choice in the leading group gives the same verdict.
 pub(crate) fn settled_verdict(
     standing: Standing,
     group: Option<u16>,

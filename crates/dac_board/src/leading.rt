@@ -7,12 +7,12 @@ ghost use Rattle.dac_board.specs.Leads.{Leads, beside, lead_with};
 
 use crate::spot::Spot;
 
-/// A node that may run an application, such that none of an earlier group may.
+/// An eligible node such that no eligible node is of an earlier group.
 #[derive(Clone, Copy, Debug, PartialEq, Eq)]
 pub(crate) struct Lead {
     /// The first such node of its group by name.
     pub spot: Spot,
-    /// Whether no other node that may run the application is of its group.
+    /// Whether no other eligible node is of its group.
     pub alone: bool,
 }
 
@@ -27,7 +27,7 @@ pub(crate) fn leader(spots: &[Option<Spot>]) -> Option<Lead>
     lead
 }
 
-/// The lead after a later node, if that one may run the application.
+/// The lead after a later node, if that one is eligible.
 fn lead_with(lead: Option<Lead>, spot: Option<Spot>) -> Option<Lead>
     ensures { result ≡ lead_with lead spot }
 {
@@ -38,7 +38,7 @@ fn lead_with(lead: Option<Lead>, spot: Option<Spot>) -> Option<Lead>
     }
 }
 
-/// The lead after a later node that may run the application.
+/// The lead after a later eligible node.
 fn beside(lead: Lead, spot: Spot) -> Lead
     ensures { result ≡ beside lead spot }
 {

@@ -1,4 +1,4 @@
-//! The applications and nodes that a change of state may affect.
+//! The applications and nodes that a change of state can affect.
 ghost use Rattle.std.specs.Prelude.{◌≡◌, ◌<◌, ◌+◌, ℕ, get_or, true, false, length};
 ghost use Rattle.dac_base.specs.declared.AppId.{AppId as App};
 ghost use Rattle.dac_base.specs.declared.limits.TheConstants.{MAX_APPS as MOST_APPS, MAX_NODES as MOST_NODES};
@@ -25,9 +25,9 @@ pub(crate) struct Grown<'a> {
     pub(crate) old: &'a State,
     /// The state now.
     pub(crate) new: &'a State,
-    /// By the number of a node, whether its life or the drains at its live incarnation may differ.
+    /// By the number of a node, whether its life or the drains at its live incarnation can differ.
     pub(crate) nodes: &'a [bool; MAX_NODES],
-    /// A bit for each node at which permits or starts of one application may differ.
+    /// A bit for each node at which permits or starts of one application can differ.
     pub(crate) pairs: u64,
     /// All lives and drains are unchanged.
     pub(crate) is_still: bool,
@@ -35,7 +35,7 @@ pub(crate) struct Grown<'a> {
     pub(crate) is_claimed_alike: bool,
 }
 
-/// The nodes that a change of state may affect. Every other node has an unchanged life, and the same drains stand at
+/// The nodes that a change of state can affect. Every other node has an unchanged life, and the same drains stand at
 /// its live incarnation. Only the first `count` nodes are compared, and none if all lives and drains are unchanged.
 pub(crate) fn nodes_moved(
     old: &State,
@@ -97,7 +97,7 @@ pub(crate) fn is_claimed_anew(old: &State, new: &State, app: AppId) -> bool
     }
 }
 
-/// The pairs of an application and a node whose permits or starts may differ, as a bit for each node. At every other
+/// The pairs of an application and a node whose permits or starts can differ, as a bit for each node. At every other
 /// pair the same permits and starts stand in both states. It walks once through both.
 pub(crate) fn moved_by(old: &State, new: &State) -> [u64; MAX_APPS]
     ensures { (app : App) (node : Node) → app.0 < MOST_APPS

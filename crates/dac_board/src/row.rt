@@ -19,7 +19,7 @@ use dac_placement::{Standing, State, Verdict, standing_of};
 use std::alloc::Global;
 use std::marker::Model;
 
-/// One application: which nodes may run it, node by node, its standing, and the holder's group if the holder is upheld.
+/// One application: its eligible nodes, node by node, its standing, and the holder's group if the holder is upheld.
 #[derive(Drop)]
 pub(crate) struct Row {
     spots: Vec<Option<Spot>>,
@@ -110,7 +110,7 @@ impl Row {
         self.settled = settled_verdict(self.standing, self.group, &self.spots);
     }
 
-    /// Which nodes may run the application, node by node.
+    /// The eligible nodes, node by node; `None` for any other.
     pub(crate) fn spots(&self) -> &[Option<Spot>]
         ensures { result.now ≡ self.now.spots }
     {

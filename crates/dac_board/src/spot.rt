@@ -1,4 +1,4 @@
-//! A node that may run an application, with its group.
+//! Eligible nodes with their groups.
 ghost use Rattle.std.specs.Prelude.{◌≡◌, ◌<◌, ◌≤◌, ◌+◌};
 ghost use Rattle.dac_config.specs.Table.{app_count};
 ghost use Rattle.dac_board.specs.Boards.{spot_of};
@@ -7,7 +7,7 @@ use dac_base::{AppId, NodeId};
 use dac_config::Config;
 use dac_placement::{State, eligible};
 
-/// A node that may run an application.
+/// A node that is eligible for an application.
 #[derive(Clone, Copy, Debug, PartialEq, Eq)]
 pub(crate) struct Spot {
     /// The node's group in the application's list, from 0.
@@ -16,8 +16,8 @@ pub(crate) struct Spot {
     pub node: NodeId,
 }
 
-/// The node's spot, if it may run the application. Each evaluation of a listed node adds one to `looked`, which
-/// saturates; a node outside the application's list isn't evaluated.
+/// The node's spot, if it is eligible. Each evaluation of a listed node adds one to `looked`, which saturates; a node
+/// outside the application's list isn't evaluated.
 pub(crate) fn look(
     config: &Config,
     state: &State,

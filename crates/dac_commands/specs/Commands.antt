@@ -1,4 +1,4 @@
--- Reads of a state for a command, and the operation that the command issues.
+-- The parts of a state that commands use, and the operation that a command issues.
 use Rattle.std.specs.Prelude.{◌≡◌, ℕ, ◌+◌, true, cond, List, [], ◌∷◌, map as list_map, max, Option, unwrap_or}
 use Rattle.std.specs.Option.{option_map_or}
 use Rattle.std.specs.FinSet as set
@@ -28,7 +28,7 @@ use Rattle.dac_placement.specs.Placement.{runner_of}
 use Rattle.dac_events.specs.declared.Command.{Command}
 use Rattle.dac_events.specs.declared.Command.TheVariants.{Down, Permit, Start, Stop, Drain, Takeover}
 
--- ---- reads of a state
+-- ---- parts of a state
 -- the state knows the dot of the incarnation's own boot
 abbrev pub KnowsItself : Origin → StateValue → Type 0
 KnowsItself origin s = set.contains s.known (dot origin 1) ≡ true

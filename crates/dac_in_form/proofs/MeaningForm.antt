@@ -148,7 +148,7 @@ stands : (o : Option Flag) → is_some o ≡ true → (f : Flag) × (o ≡ Some 
 stands None h = absurd (true≢false (sym h))
 stands (Some f) h = (f, refl)
 
--- the greatest value satisfies what each value does
+-- a property of each value holds of the greatest
 greatest_is : {X : Type 0} (cmp : X → X → Ordering) (P : X → Type 0) (o : Option X) (x : X) → IsGreatest cmp P o → o ≡ Some x → P x
 greatest_is cmp P None x g e = none_some e
 greatest_is cmp P (Some v) x g e = subst P (ap (λ o. unwrap_or o v) e) g.0

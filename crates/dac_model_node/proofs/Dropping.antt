@@ -38,7 +38,7 @@ below_base old had count k there = (by_old (nat_lt k old) refl, from)
     from (inr (inl h)) = omega (arith, h)
     from (inr (inr h)) = omega (arith, h, there)
 
--- ---- what all other nodes have
+-- ---- deltas that all other nodes have
 
 abbrev zeroth : NodeId
 zeroth = record { 0 = 0 }

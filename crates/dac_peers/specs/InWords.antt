@@ -12,7 +12,7 @@ use Rattle.dac_messages.specs.declared.message.Message.{Message}
 use Rattle.dac_peers.specs.declared.positions.Position.{Position}
 use Rattle.dac_peers.specs.Peers.{PeersValue, no_peers, begins, ack_for, is_up_to_date, shipped_to, heard_from, acked_by_all}
 
--- ---- what a node has acknowledged
+-- ---- acknowledgements of one node
 -- the node's present incarnation, that of its greatest life, acknowledged n deltas
 pub record HasAcked (p : PeersValue) (s : StateValue) (node : NodeId) (n : ℕ) : Type 0 where
   pub life : Life
@@ -54,7 +54,7 @@ abbrev pub UpToDateHaveAll : Type 0
 UpToDateHaveAll = (p : PeersValue) (s : StateValue) (base count : ℕ) (to : NodeId)
     → (is_up_to_date p s base count to ≡ true) ↔ ((n : ℕ) × (HasAcked p s to n × (count ≤ n) × (base ≤ n) × ¬ (IsOwed p to)))
 
--- ---- what all nodes have acknowledged
+-- ---- acknowledgements of all nodes
 -- the node acknowledged n deltas, or none and n is 0
 abbrev pub IsNumberOf : PeersValue → StateValue → NodeId → ℕ → Type 0
 IsNumberOf p s node n = HasAcked p s node n ⊎ ((n ≡ 0) × ((m : ℕ) → ¬ (HasAcked p s node m)))
@@ -75,7 +75,7 @@ abbrev pub AllHaveTheLeast : Type 0
 AllHaveTheLeast = (p : PeersValue) (s : StateValue) (nodes : ℕ) (own : NodeId)
     → IsLeastOfAll p s nodes own (acked_by_all p s nodes own)
 
--- ---- what was got
+-- ---- positions got
 -- the first position isn't after the second: its incarnation is smaller, or it is the same and the number isn't greater
 abbrev pub IsUpTo : Position → Position → Type 0
 IsUpTo a b = (a.inc < b.inc) ⊎ ((a.inc ≡ b.inc) × (a.number ≤ b.number))
@@ -102,7 +102,7 @@ pub record IsOnward (p : PeersValue) (m : Message) (after : PeersValue) : Type 0
 abbrev pub GotGoesOnward : Type 0
 GotGoesOnward = (own : Origin) (count : ℕ) (p : PeersValue) (m : Message) → IsOnward p m (heard_from own count p m)
 
--- ---- what was acknowledged
+-- ---- acknowledged numbers
 -- by this message the origin acknowledges n deltas of the own origin, which has at least as many
 pub record Acknowledges (own : Origin) (count : ℕ) (m : Message) (origin : Origin) (n : ℕ) : Type 0 where
   pub sender : origin ≡ m.from
@@ -123,7 +123,7 @@ abbrev pub AckedIsGreatest : Type 0
 AckedIsGreatest =
     (own : Origin) (count : ℕ) (p : PeersValue) (m : Message) → IsAcked own count p m (heard_from own count p m)
 
--- ---- to whom a reply is due
+-- ---- replies due
 -- after a message, a reply is due to the nodes before, and to the sender of a state
 abbrev pub HeardAreOwed : Type 0
 HeardAreOwed = (own : Origin) (count : ℕ) (p : PeersValue) (m : Message) (node : NodeId)
@@ -138,7 +138,7 @@ pub record IsShipped (p : PeersValue) (to : NodeId) (after : PeersValue) : Type 
 abbrev pub ShippedAreNotOwed : Type 0
 ShippedAreNotOwed = (p : PeersValue) (to : NodeId) → IsShipped p to (shipped_to p to)
 
--- ---- how much is acknowledged
+-- ---- acknowledgements are of deltas that exist
 -- no incarnation acknowledged more deltas than there are
 abbrev pub AcknowledgesAtMost : ℕ → PeersValue → Type 0
 AcknowledgesAtMost count p = (origin : Origin) (n : ℕ) → map.get p.acked origin ≡ Some n → n ≤ count

@@ -39,7 +39,7 @@ coded_peers =
 abbrev pub no_peers : PeersValue
 no_peers = record { acked = map.empty; got = map.empty; owed = set.empty }
 
--- ---- what was acknowledged
+-- ---- acknowledged numbers
 -- how many deltas this incarnation of a node acknowledged, if any
 abbrev pub acked_by : PeersValue → NodeId → Life → Option Position
 acked_by p node life = option_map (λ (n : ℕ). record { inc = life.inc; number = n })
@@ -111,7 +111,7 @@ heard_from own count p m =
     let after = got_by p m.from m.up_to m.body in
     record { acked = acked_after own count p.acked m.from m.ack; got = after.got; owed = after.owed }
 
--- ---- what all nodes have acknowledged
+-- ---- acknowledgements of all nodes
 -- the nodes below a number, without the own one, in order
 abbrev pub others : ℕ → NodeId → List NodeId
 others zero own = []

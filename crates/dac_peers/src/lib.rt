@@ -1,4 +1,4 @@
-//! The peer table of a controller, which determines what it ships to whom.
+//! The peer table of a controller, which determines its messages to each peer.
 //!
 //! A controller numbers its own deltas. Each message carries its sender's delta count and a cumulative acknowledgement
 //! of the receiver's deltas. [`Peers`] records both by incarnation, because a node that lost its memory has

@@ -25,7 +25,7 @@ use Rattle.dac_placement.specs.declared.verdicts.Verdict.{Verdict}
 use Rattle.dac_placement.specs.declared.verdicts.Verdict.TheVariants.{Start, Failover, Halted, Move, Takeover, Kept, Nobody}
 use Rattle.dac_placement.specs.Ranks.{Rank, rank_cmp}
 
--- ---- who may run an application
+-- ---- eligibility
 
 -- an application at an incarnation of a node
 abbrev pub key_at : AppId → NodeId → ℕ → Key
@@ -63,8 +63,8 @@ IsAllowedAt table s key = IsPermittedAt table s key × ¬ (IsDrainedAt s key.nod
 abbrev pub is_allowed_at : Table → StateValue → Key → Bool
 is_allowed_at table s key = is_permitted_at table s key && not (is_drained_at s key.node key.inc)
 
--- The node may run the application: the application's list names it, and it is live at an incarnation that isn't
--- drained, and at which the application is permitted and started
+-- The node is eligible for the application: the application's list names it, and it is live at an incarnation that
+-- isn't drained, and at which the application is permitted and started
 pub record IsEligible (table : Table) (s : StateValue) (app : AppId) (node : NodeId) : Type 0 where
   pub listed : IsSome (group_of table app node)
   pub inc : ℕ
@@ -82,7 +82,7 @@ is_eligible table s app node =
 abbrev pub EachEligible : Table → StateValue → AppId → (NodeId → Type 0) → Type 0
 EachEligible table s app P = (node : NodeId) → node.0 < node_count table → IsEligible table s app node → P node
 
--- ---- who runs it
+-- ---- holders and runners
 
 -- the holder of an application: the origin of its greatest claim
 abbrev pub holder_of : StateValue → AppId → Option Origin
@@ -144,7 +144,7 @@ pub record IsLoad (table : Table) (s : StateValue) (app : AppId) (node : NodeId)
       → IsOneOf other apps ↔ ((other.0 < app_count table) × ¬ (other ≡ app) × RunsAt table s other node)
   pub count : n ≡ length apps
 
--- ---- who is first
+-- ---- the first choice
 
 -- m's group is earlier in the application's list than n's; a node outside the list has none
 pub record IsEarlier (table : Table) (app : AppId) (m n : NodeId) : Type 0 where

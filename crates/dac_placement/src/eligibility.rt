@@ -1,4 +1,4 @@
-//! Which nodes may run an application.
+//! Eligibility: which nodes can run an application.
 ghost use Rattle.std.specs.Prelude.{◌≡◌, ◌↔◌, ◌<◌, ◌&&◌, IsTrue};
 ghost use Rattle.dac_config.specs.Table.{app_count};
 ghost use Rattle.dac_placement.specs.Placement.{IsEligible, is_eligible, IsPermittedAt, is_permitted_at, IsDrainedAt, is_drained_at, IsAllowedAt, is_allowed_at, IsStartedAt, is_started_at};
@@ -7,9 +7,9 @@ use dac_base::{AppId, NodeId};
 use dac_config::Config;
 use dac_state::{Key, State};
 
-/// Whether a node may run an application: the application's list names it, and it is live at an incarnation that isn't
-/// drained, and at which the application is permitted and started. After OTP's kernel manual, parameters `distributed`
-/// and `permissions`, and application(3), `permit` and `start`.
+/// Whether a node is eligible for an application: the application's list names it, and it is live at an incarnation
+/// that isn't drained, and at which the application is permitted and started. After OTP's kernel manual, parameters
+/// `distributed` and `permissions`, and application(3), `permit` and `start`.
 pub fn eligible(config: &Config, state: &State, app: AppId, node: NodeId) -> bool
     requires { app.0 < app_count config.now }
     ensures value { result ≡ is_eligible config.now state.now app node }

@@ -14,8 +14,8 @@ use dac_base::{AppId, NodeId};
 use dac_config::Config;
 use dac_state::State;
 
-/// The rank of a node among those that may run an application. The fields are in the order in which they decide, and
-/// the least rank wins.
+/// The rank of an eligible node for an application. The fields are in the order in which they decide, and the least
+/// rank wins.
 #[derive(Clone, Copy, Debug, PartialEq, Eq, PartialOrd, Ord)]
 pub struct Rank {
     /// The node's group in the application's list, from 0.

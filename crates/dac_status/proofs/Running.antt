@@ -37,7 +37,7 @@ by_tests true false true = refl
 by_tests true false false = refl
 by_tests false drained started = refl
 
--- ---- where an application runs
+-- ---- running at a node
 
 abbrev is_there : Option NodeId → NodeId → Bool
 is_there runner node = option_map_or (λ (at : NodeId). at.0 == node.0) runner false
@@ -89,7 +89,7 @@ module _ (table : Table) (s : StateValue) (app : AppId) where
       ∙ (λ i. cond (is_some (sym of_group i) && sym of_mark i) (made node (sym of_load i) (sym of_group i)) None)
       ∙ ap (λ b. cond b (made node (load_of table s app node) (group_of table app node)) None) (sym (may_by_mark node))
 
-  -- a node that may not run the application has no rank, so that no load is computed
+  -- an ineligible node has no rank, so that no load is computed
   pub no_rank : (node : NodeId) (ok : Bool) (group : Option ℕ) → is_ok (mark_of table s app node) ≡ ok → group_of table app node ≡ group → (is_some group && ok) ≡ false → None ≡ rank_of table s app node
   no_rank node ok group of_mark of_group fails =
       ap (λ b. cond b (made node (load_of table s app node) (group_of table app node)) None)

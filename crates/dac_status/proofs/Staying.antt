@@ -75,7 +75,7 @@ module _ (table : Table) (s : StateValue) (app : AppId) where
       ∙ ap (λ b. cond (not b) Lost (standing node permitted drained started)) up
       ∙ upheld_if_ok node permitted drained started fine
 
-  -- an upheld application stays if no node of an earlier group may run it
+  -- an upheld application stays if no eligible node is of an earlier group
   pub stays : (holder : NodeId) → standing_of table s app ≡ Upheld holder → EachEligible table s app (λ m. ¬ IsEarlier table app m holder) → Kept holder ≡ verdict_of table s app
   stays holder upheld none =
       let first = first_choice table s app in

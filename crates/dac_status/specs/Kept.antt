@@ -1,4 +1,4 @@
--- The nodes that may keep an application, by their marks, and the node at which each application runs.
+-- Eligible nodes by their marks, and the node at which each application runs.
 use Rattle.std.specs.Prelude.{Bool, true, false, List, map as list_map, Option, None}
 use Rattle.std.specs.FinMap as map
 use Rattle.dac_base.specs.declared.limits.TheConstants.{MAX_APPS}
@@ -13,7 +13,7 @@ use Rattle.dac_status.specs.declared.marks.Mark.TheVariants.{Down, Barred, Drain
 use Rattle.dac_status.specs.declared.summary.AppSummary.{AppSummary}
 use Rattle.dac_status.specs.Summaries.{marks_of, no_app, placed}
 
--- a node of this mark may run the application if its list names the node
+-- a node of this mark is eligible, if the application's list names it
 abbrev pub is_ok : Mark → Bool
 is_ok Down = false
 is_ok Barred = false

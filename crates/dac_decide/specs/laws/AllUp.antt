@@ -24,7 +24,7 @@ use Rattle.dac_decide.specs.StartGate.{IsUpNow, AllUp, is_awaited, IsTimeLeft, I
 abbrev pub numbered : ℕ → NodeId
 numbered n = record { 0 = n }
 
--- ---- one node after another
+-- ---- a loop over nodes
 
 -- the first n nodes pass a test
 abbrev pub all_first : (NodeId → Bool) → ℕ → Bool

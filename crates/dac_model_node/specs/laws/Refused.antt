@@ -277,7 +277,7 @@ answered_by : (t : Table) (v : NodeValue) (e : Event) (why : Refusal) (r : Optio
 answered_by t v e why None none is = inr (is, free_is t v e none)
 answered_by t v e why (Some least) some is = inl (subst (IsRefused t v e) (sym is) (refused_is t v e least some))
 
--- the refusal if the table is asked first, and memory last
+-- the refusal if all causes are checked before memory
 pub answered_is : (t : Table) (v : NodeValue) (e : Event) (why : Refusal) → why ≡ unwrap_or (refusal_of t v e) NoMemory → IsAnsweredBy t v e why
 answered_is t v e why is = answered_by t v e why (refusal_of t v e) refl is
 

@@ -21,7 +21,7 @@ use Rattle.dac_model_node.specs.EventRefusals.{needed, too_few_left}
 use Rattle.dac_model_node.specs.NodeValue.{RunningValue}
 use Rattle.dac_model_node.specs.Refused.{LeavesFewer, LacksFor}
 
--- ---- where an application runs
+-- ---- running at a node
 
 module _ (t : Table) (s : StateValue) (app : AppId) where
   pub not_running_is : (not (is_some (runner_of t s app)) ≡ true) ↔ ((node : NodeId) → ¬ RunsAt t s app node)

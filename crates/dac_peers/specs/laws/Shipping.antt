@@ -64,7 +64,7 @@ module _ (p : PeersValue) (s : StateValue) (to : NodeId) (position : Position) w
 pub begins_where_acked : BeginsWhereAcked
 begins_where_acked p s base to position = (begins_is p s to position base, begins_has p s to position base)
 
--- ---- what was got
+-- ---- positions got
 module _ (node : NodeId) (origin : Origin) (n : ℕ) where
   abbrev read : Option Position → Option (Origin × ℕ)
   read got = option_map (λ (g : Position). (record { node = node; inc = g.inc }, g.number)) got

@@ -15,7 +15,7 @@ use Rattle.dac_placement.specs.laws.FirstChoice.{numbered}
 use Rattle.dac_placement.specs.laws.FirstNode.{first_to, none_first}
 
 module _ (table : Table) (s : StateValue) (app : AppId) where
-  -- ---- one node more
+  -- ---- one more node
 
   one_group : {g h : ℕ} → ◌≡◌ {A = Option ℕ} (Some g) (Some h) → g ≡ h
   one_group e = cc

@@ -14,7 +14,7 @@ use Rattle.dac_base.specs.laws.Ids.{nodes_total}
 use Rattle.dac_lattice.specs.Lattices.{join_options}
 use Rattle.dac_placement.specs.Ranks.{Rank, rank_cmp}
 
--- ---- one more of them
+-- ---- one more rank
 
 none_right : {A : Type 0} (f : A → A → A) (o : Option A) → join_options f o None ≡ o
 none_right f None = refl
@@ -80,7 +80,7 @@ up_to_parts a b e = elim (then_parts a.group b.group _ e) [
   )
 ]
 
--- ---- the least of those at the first n places
+-- ---- the least rank of the first n places
 
 module _ (at : ℕ → Option Rank) where
   -- there is none at these places, or this is one of them and no other comes first

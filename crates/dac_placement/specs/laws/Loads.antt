@@ -118,7 +118,7 @@ load_is table s app node =
       count = refl;
     }
 
--- ---- there is one load
+-- ---- the load is unique
 
 -- a list without one of its applications
 record Split (a : AppId) (ys : List AppId) : Type 0 where
