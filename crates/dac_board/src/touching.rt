@@ -7,8 +7,8 @@ use dac_base::{AppId, NodeId};
 use dac_config::Config;
 use dac_state::{Key, State};
 
-/// Whether the application's list names the node, and the node's life differs between two states, or the permits,
-/// starts or drains that stand at its live incarnation.
+/// Whether the application's list names the node, and its life, or the permits, starts or drains that stand at its live
+/// incarnation, differ between two states.
 pub(crate) fn is_touched(
     config: &Config,
     old: &State,

@@ -37,7 +37,7 @@ not_live s node = not (is_some (live s node))
 abbrev pub not_wished : StateValue → Key → Bool
 not_wished s key = not (is_wished key (wishes_of s))
 
--- an operation can't replace as many dots
+-- an operation can't replace this many dots
 abbrev pub too_many : ℕ → Bool
 too_many count = nat_lt MAX_REPLACED count
 

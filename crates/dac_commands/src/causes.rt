@@ -135,7 +135,7 @@ fn refusal_to_issue(own: Origin, state: &State, count: usize) -> Option<Refusal>
     None
 }
 
-/// Whether an operation can't replace as many dots.
+/// Whether an operation can't replace this many dots.
 fn is_too_many(count: usize) -> bool
     ensures { result ≡ too_many count }
 {

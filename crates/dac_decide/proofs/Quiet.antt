@@ -1,4 +1,4 @@
--- A note changes nothing if no claim is noted and none is lost in its state.
+-- A note changes nothing if no timer runs and no claim is lost in its state.
 use Rattle.std.proofs.Common.{◌≡◌, ℕ, zero, suc, add-one, ◌+◌, ◌<◌, true, false, Bool, not, List, [], ◌∷◌, ◌++◌, Option, Some, None, subst, refl, sym, ap, ◌∙◌, arith}
 use Rattle.std.specs.Prelude.{nat_lt, is_some, option_map, if◌then◌else◌}
 use Rattle.std.specs.Option.{option_map_or, option_and_then}
@@ -53,7 +53,7 @@ one_below P n before here k lt = elim (nat_lt k n) as (λ b. nat_lt k n ≡ b �
   | false ↦ λ e. let same : n ≡ k = omega (arith, lt, ltb-false k n e) in subst P same here
 ] refl
 
--- a note changes nothing of an application if none was noted and its claim isn't lost
+-- a note changes nothing of an application that has no timer and whose claim isn't lost
 one_stays : (notes : List Note) (note : Note) (app : AppId) → noted_of app notes ≡ None → lost_in note.state app ≡ None → noted_of app notes ≡ noted_of app (note ∷ notes)
 one_stays notes note app none lost = none ∙ sym (λ i. noted_next (none i) (lost i) note.moment)
 

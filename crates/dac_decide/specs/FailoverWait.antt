@@ -87,25 +87,25 @@ lost_in s app = option_and_then (lost_if s) (map.get s.claims app)
 abbrev pub is_same : Claim → Claim → Bool
 is_same a b = is_eq (claim_cmp a b)
 
--- the note of a lost claim: unchanged if the same claim was noted before, and otherwise it begins now
+-- the timer of a lost claim: unchanged if it is of the same claim, and otherwise started now
 abbrev pub since_of : Option Noted → ℕ → Claim → Noted
 since_of None now claim = record { claim = claim; since = now }
 since_of (Some before) now claim = if is_same before.claim claim then before else record { claim = claim; since = now }
 
--- the note of an application after one more tick, given the one before and the lost claim, if any
+-- the timer of an application after one more tick, given the one before and the lost claim, if any
 abbrev pub noted_next : Option Noted → Option Claim → ℕ → Option Noted
 noted_next before lost now = option_map (since_of before now) lost
 
--- the note of an application after these ticks: its lost claim, and since when
+-- the timer of an application after these notes: its lost claim, and since when
 abbrev pub noted_of : AppId → List Note → Option Noted
 noted_of app [] = None
 noted_of app (note ∷ older) = noted_next (noted_of app older) (lost_in note.state app) note.moment
 
--- the note of each application after these ticks
+-- the timer of each application after these notes
 abbrev pub waits_of : Table → List Note → List (Option Noted)
 waits_of table notes = list_map (λ app. noted_of app notes) (apps_of table)
 
--- the note of an application in these waits
+-- the timer of an application in these waits
 abbrev pub noted_at : List (Option Noted) → AppId → Option Noted
 noted_at waits app = get_or waits app.0 None
 
@@ -113,17 +113,17 @@ noted_at waits app = get_or waits app.0 None
 abbrev pub is_held_at : StateValue → AppId → NodeId → Bool
 is_held_at s app node = option_map_or (λ (claim : Claim). claim.origin.node.0 == node.0) (map.get s.claims app) false
 
--- this lost claim is the one noted, and `wait` milliseconds have passed since
+-- the timer is of this lost claim, and `wait` milliseconds have passed since it started
 abbrev pub is_over_at : ℕ → ℕ → Option Claim → Option Noted → Bool
 is_over_at wait now None noted = false
 is_over_at wait now (Some claim) None = false
 is_over_at wait now (Some claim) (Some noted) = is_same noted.claim claim && nat_le (noted.since + wait) now
 
--- the application's lost claim is the one noted, and its timeout has passed since
+-- the timer is of the application's lost claim, and the timeout has passed since it started
 abbrev pub is_wait_over : Table → StateValue → AppId → Option Noted → ℕ → Bool
 is_wait_over table s app noted now = is_over_at (timeout_of table app) now (lost_in s app) noted
 
--- `IsDueBy` as a test, given the application's note
+-- `IsDueBy` as a test, given the application's timer
 abbrev pub is_due_by : Table → Option Noted → StateValue → AppId → ℕ → Verdict → Bool
 is_due_by table noted s app now (Start n) = true
 is_due_by table noted s app now (Failover n) = is_held_at s app n || is_wait_over table s app noted now
@@ -133,7 +133,7 @@ is_due_by table noted s app now (Takeover n) = true
 is_due_by table noted s app now (Kept n) = false
 is_due_by table noted s app now Nobody = false
 
--- `IsDue` as a test, given the application's note
+-- `IsDue` as a test, given the application's timer
 abbrev pub is_due_with : Table → Option Noted → StateValue → AppId → ℕ → Bool
 is_due_with table noted s app now = is_due_by table noted s app now (verdict_of table s app)
 
@@ -141,7 +141,7 @@ is_due_with table noted s app now = is_due_by table noted s app now (verdict_of 
 abbrev pub is_due : Table → List Note → StateValue → AppId → ℕ → Bool
 is_due table notes s app now = is_due_with table (noted_of app notes) s app now
 
--- ---- notes are data
+-- ---- timers are data
 abbrev pub coded_noted : Coded Noted
 coded_noted = code_by (Claim × ℕ) (coded× coded_claim coded_ℕ) (λ n. (n.claim, n.since))
     (λ p. record { claim = p.0; since = p.1 }) (λ _. refl)

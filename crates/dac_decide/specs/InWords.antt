@@ -24,7 +24,7 @@ abbrev pub LostFailsOver : Type 0
 LostFailsOver = (table : Table) (s : StateValue) (app : AppId) (n : NodeId)
     → IsVerdict table s app (Failover n) ↔ (((claim : Claim) × IsLost s app claim) × IsFirst table s app n)
 
--- the noted claim, and since when
+-- an application's timer: its claim, and since when
 abbrev pub RowsInWords : Type 0
 RowsInWords = (app : AppId) (notes : List Note) (claim : Claim) (since : ℕ)
     → (noted_of app notes ≡ Some (record { claim = claim; since = since })) ↔ IsNotedSince notes app claim since
@@ -34,11 +34,11 @@ abbrev pub DueInWords : Type 0
 DueInWords = (table : Table) (notes : List Note) (s : StateValue) (app : AppId) (now : ℕ)
     → (is_due table notes s app now ≡ true) ↔ IsDue table notes s app now
 
--- whether a booted node waits, opens or gives up
+-- the state of a booted node's start gate
 abbrev pub OpeningInWords : Type 0
 OpeningInWords = (table : Table) (s : StateValue) (elapsed : ℕ) → IsOpening table s elapsed (opening_of table s elapsed)
 
--- waits have one place for each application, which holds what the notes say of it
+-- waits have one place for each application, with its timer after these notes
 abbrev pub NotesAreKept : Type 0
 NotesAreKept = (table : Table) (notes : List Note)
     → (length (waits_of table notes) ≡ app_count table)

@@ -6,7 +6,7 @@ use Rattle.dac_placement.specs.StateValue.{StateValue}
 use Rattle.dac_decide.specs.declared.waits.Noted.{Noted}
 use Rattle.dac_decide.specs.FailoverWait.{noted_at, lost_in}
 
--- no lost claim of the application is noted, and its greatest claim isn't lost
+-- the application has no timer, and its greatest claim isn't lost
 pub record IsQuiet (waits : List (Option Noted)) (s : StateValue) (app : AppId) : Type 0 where
   pub noted : noted_at waits app ≡ None
   pub lost : lost_in s app ≡ None

@@ -3,9 +3,9 @@ ghost use Rattle.dac_decide.specs.InWords.{DueInWords, LostFailsOver, LostInWord
 
 /// Waits and the start gate compute the definitions in words, for every list of notes and every state, even one that no
 /// operation produced: lost claims, since when consecutive notes found them lost, due verdicts, and the state of the
-/// gate. Waits store what the notes say of each application. The last clauses are guarantees for operators: with a
-/// start-gate timeout, a booted node doesn't open while a mandatory node isn't live, and no failover to another node
-/// happens before its application's timeout.
+/// gate. Waits store each application's timer. The last clauses are guarantees for operators: with a start-gate
+/// timeout, the gate doesn't open while a mandatory node isn't live, and no failover to another node happens before its
+/// application's timeout.
 pub fn waits_in_words()
     ensures lost { LostInWords }
     ensures fails_over { LostFailsOver }

@@ -15,7 +15,7 @@ use dac_placement::{State, Verdict, holder, is_up, verdict};
 use std::alloc::Global;
 use std::marker::Model;
 
-/// A claim that was found lost, and since when.
+/// A failover timer: a claim that was found lost, and since when.
 #[derive(Clone, Copy, Debug, PartialEq, Eq)]
 pub(crate) struct Noted {
     /// The lost claim.
@@ -28,14 +28,14 @@ impl Noted {
     ghost use Rattle.std.specs.Prelude.{◌+◌, nat_le};
     ghost use Rattle.dac_decide.specs.FailoverWait.{is_same};
 
-    /// Whether this is the noted claim.
+    /// Whether the timer is of this claim.
     fn is_of(self, claim: Claim) -> bool
         ensures { result ≡ is_same self.claim claim }
     {
         self.claim == claim
     }
 
-    /// Whether `wait` milliseconds have passed since the claim was first found lost.
+    /// Whether `wait` milliseconds have passed since the timer started.
     fn has_waited(self, wait: u64, now: u64) -> bool
         ensures { result ≡ nat_le (self.since + wait) now }
     {
@@ -98,7 +98,7 @@ impl Waits {
         }
     }
 
-    /// Whether no claim is noted and none is lost in the board's state, so that a note of this state changes nothing.
+    /// Whether no timer runs and no claim is lost in the board's state, so that a note of this state changes nothing.
     pub fn are_quiet(&self, config: &Config, board: &Board) -> bool
         ensures cases { (s : StateValue) → Shows config.now board.now s
             → IsTrue result ↔ AreQuiet config.now self.now s }
@@ -154,7 +154,7 @@ impl Waits {
         }
     }
 
-    /// The note of an application.
+    /// The timer of an application, if it has one.
     fn noted_of(&self, app: AppId) -> Option<Noted>
         ensures { result ≡ noted_at self.now app }
     {
@@ -186,7 +186,7 @@ fn lost_claim(state: &State, app: AppId) -> Option<Claim>
     }
 }
 
-/// The note of an application, given the one before and the lost claim, if any.
+/// The timer of an application, given the one before and the lost claim, if any.
 fn noted_next(before: Option<Noted>, lost: Option<Claim>, now: u64) -> Option<Noted>
     ensures { result ≡ noted_next before lost now }
 {
@@ -196,7 +196,7 @@ fn noted_next(before: Option<Noted>, lost: Option<Claim>, now: u64) -> Option<No
     }
 }
 
-/// The note of a lost claim, given the application's note before.
+/// The timer of a lost claim, given the application's timer before.
 fn since_of(before: Option<Noted>, now: u64, claim: Claim) -> Noted
     ensures { result ≡ since_of before now claim }
 {
@@ -216,7 +216,7 @@ fn is_held_at(state: &State, app: AppId, node: NodeId) -> bool
     }
 }
 
-/// Whether the application's lost claim is the one noted, and its timeout has passed.
+/// Whether the timer is of the application's lost claim, and the timeout has passed.
 fn is_wait_over(config: &Config, state: &State, app: AppId, noted: Option<Noted>, now: u64) -> bool
     requires { app.0 < app_count config.now }
     ensures { result ≡ is_wait_over config.now state.now app noted now }
@@ -225,7 +225,7 @@ fn is_wait_over(config: &Config, state: &State, app: AppId, noted: Option<Noted>
     is_over_at(wait, now, lost_claim(state, app), noted)
 }
 
-/// Whether this lost claim is the one noted, and `wait` milliseconds have passed since.
+/// Whether the timer is of this lost claim, and `wait` milliseconds have passed.
 fn is_over_at(wait: u64, now: u64, lost: Option<Claim>, noted: Option<Noted>) -> bool
     ensures { result ≡ is_over_at wait now lost noted }
 {

@@ -12,10 +12,10 @@ mod world_fault;
 
 use dac_base::{AppId, NodeId};
 
-/// A command of an operator to a controller. Any controller accepts any command but a takeover. A command names the
-/// node that it is about and holds for that node's live incarnation, so that a reboot returns to the configuration.
-/// Permits, starts and stops are after `application:permit/2`, `application:start/1` and `application:stop/1` of
-/// Erlang/OTP, which hold for the node where they run. A drain is this project's own.
+/// A command of an operator to a controller. A takeover is given at the node that takes over. Any other command can be
+/// given at any controller, and holds for the live incarnation of the node that it names, so that a reboot returns to
+/// the configuration. Permits, starts and stops are after `application:permit/2`, `application:start/1` and
+/// `application:stop/1` of Erlang/OTP, which hold for the node where they run. A drain is this project's own.
 #[derive(Clone, Copy, Debug, PartialEq, Eq)]
 pub enum Command {
     /// The node is down: its live incarnation has ended. (OTP learns this from its distribution; here a failure
@@ -84,11 +84,11 @@ pub enum What {
         /// The receiver.
         to: NodeId,
     },
-    /// The node receives the message of this number; messages count from 1 in the order of their ships. It can come
-    /// late, twice or never.
+    /// The node receives the message of this number; messages count from 1 in the order in which they were shipped. It
+    /// can come late, twice or never.
     Deliver(u64),
-    /// The node receives a single operation by its number; operations count from 1 in the order of their issue. It can
-    /// come late, twice or never, and before those that its issuer had heard.
+    /// The node receives a single operation by its number; operations count from 1 in the order in which they were
+    /// issued. It can come late, twice or never, and before those that its issuer had heard.
     Hand(u64),
 }
 

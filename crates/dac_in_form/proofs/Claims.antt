@@ -1,4 +1,5 @@
--- The claims of a tick are in form, because a candidate is in the application's list, and a former holder is a node.
+-- The claims of a tick are in form, because a candidate is in the application's list, and a former holder is in the
+-- configuration.
 use Rattle.std.proofs.Common.{◌≡◌, ℕ, ◌<◌, true, false, nat_eq, List, [], ◌∷◌, Option, Some, refl, sym, ap, subst, ◌∙◌, inl, inr, true≢false, eq-eqb}
 use Rattle.std.specs.FinMap as map
 use Rattle.std.proofs.lemmas.Map.Views.{exact_unsigned_eq}

@@ -18,8 +18,8 @@ use Rattle.dac_model_node.specs.Step.{model_step}
 abbrev pub HoldsState : ModelNode → Type 0
 HoldsState d = IfSome d.running (λ (r : ModelRunning). IsState (joined r.log))
 
--- The tick claims nothing, and passes over only some of these applications, or it is refused because counters are used
--- up.
+-- The tick claims nothing, and passes over only some of these applications, or it is refused because too few counters
+-- are left.
 abbrev pub ClaimsNothing : List AppId → Result Reply Refusal → Type 0
 ClaimsNothing passed answer = (answer ≡ Err DotsUsedUp)
     ⊎ ((later : List AppId)

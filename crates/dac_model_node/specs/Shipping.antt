@@ -37,7 +37,7 @@ IsBody t r to only (Interval s) = (p : Position)
 IsBody t r to only Nothing =
     (p : Position) × (IsPosition (running_shown t r) to p × ((only ≡ Some p.inc) × (length r.log ≤ p.number)))
 
--- the acknowledgement is the position last got from the node, if any
+-- the acknowledgement is the latest position got from the node, if any
 abbrev pub IsAckShipped : ModelRunning → NodeId → Option (Origin × ℕ) → Type 0
 IsAckShipped r node None = map.get r.peers.got node ≡ None
 IsAckShipped r node (Some ack) =

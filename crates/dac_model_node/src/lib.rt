@@ -2,7 +2,7 @@
 //! determines which events it refuses and what an accepted event does.
 //!
 //! Nothing here runs. The crate has definitions, and their laws as clauses of functions that do nothing. The program's
-//! controller is proved against them, and so is a whole world of such nodes.
+//! controller is proved against them, and the convergence of a world of such nodes is proved from them.
 #![tactic(auto)]
 
 pub use dac_commands;

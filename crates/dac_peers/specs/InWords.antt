@@ -43,7 +43,7 @@ abbrev pub BeginsWhereAcked : Type 0
 BeginsWhereAcked = (p : PeersValue) (s : StateValue) (base : ℕ) (to : NodeId) (position : Position)
     → (begins p s base to ≡ Some position) ↔ IsBegin p s base to position
 
--- the acknowledgement for a node is the position last got from it
+-- the acknowledgement for a node is the latest position got from it
 abbrev pub AcksAreGot : Type 0
 AcksAreGot = (p : PeersValue) (node : NodeId) (origin : Origin) (n : ℕ)
     → (ack_for p node ≡ Some (origin, n)) ↔ ((origin.node ≡ node) × (map.get p.got node ≡ Some (record { inc = origin.inc; number = n })))

@@ -59,7 +59,7 @@ kept_from base (Some p) = cond (nat_le base p.number) (Some p) None
 abbrev pub begins : PeersValue → StateValue → ℕ → NodeId → Option Position
 begins p s base to = kept_from base (acked_at p s to)
 
--- the acknowledgement for a node: the position last got from it
+-- the acknowledgement for a node: the latest position got from it
 abbrev pub ack_for : PeersValue → NodeId → Option (Origin × ℕ)
 ack_for p node = option_map (λ (g : Position). (record { node = node; inc = g.inc }, g.number)) (map.get p.got node)
 

@@ -4,7 +4,7 @@ ghost use Rattle.dac_peers.specs.InWords.{NothingIsKept, BeginsWhereAcked, AcksA
 /// The peer table in words.
 ///
 /// The new table is empty. An interval for a node begins after the deltas that its present incarnation acknowledged, if
-/// the log has all later ones. The acknowledgement for a node is the position last got from it. Nothing needs to be
+/// the log has all later ones. The acknowledgement for a node is the latest position got from it. Nothing needs to be
 /// shipped to a node that has acknowledged everything, unless a reply to it is due.
 ///
 /// What all nodes have acknowledged is the least of what each other node did as its present incarnation. Positions got

@@ -116,7 +116,8 @@ impl Lists {
         self.owed.contains(node)
     }
 
-    /// Applies a pending change. A part whose allocation fails stays pending, so that the whole is unchanged.
+    /// Applies a pending change. A part whose allocation fails stays pending, so that lists and change together mean
+    /// the same.
     pub(crate) fn settle(&mut self, pending: &mut Pending) -> Result<(), NoMemory>
         ensures same { done self.new pending.new ≡ done self.old pending.old }
         ensures done { OnOk result (done self.new pending.new ≡ self.new) }

@@ -1,5 +1,5 @@
--- The computed functions of placement agree with the definitions in words, for every configuration and every state,
--- even one that no operation produced.
+-- The functions of placement, such as `is_eligible`, agree with the definitions in words, such as `IsEligible`, for
+-- every configuration and every state, even one that no operation produced.
 use Rattle.std.specs.Prelude.{◌≡◌, ◌↔◌, ℕ, ◌<◌, ◌≤◌, true, false, List, length, None, Some, IsSome, MatchOption}
 use Rattle.dac_origins.specs.declared.dot.Origin.{Origin}
 use Rattle.dac_chains.specs.Lives.{IsLive}

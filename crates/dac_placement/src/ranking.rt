@@ -67,7 +67,7 @@ fn rank_in(config: &Config, state: &State, app: AppId, group: u16, node: NodeId)
     Some(Rank { group, load, node })
 }
 
-/// The lesser rank, or the one that is there.
+/// The lesser of two ranks, or the only one.
 pub fn lesser(first: Option<Rank>, other: Option<Rank>) -> Option<Rank>
     ensures { result ≡ join_options (ord_min rank_cmp) first other }
 {

@@ -1,4 +1,4 @@
--- Waits store what the notes say of each application of the configuration.
+-- Waits store the timer of each application of the configuration.
 use Rattle.std.proofs.Common.{◌≡◌, ℕ, ◌+◌, ◌<◌, List, [], ◌∷◌, ◌++◌, Option, None, length, map, get_or, ap, ◌∙◌, arith}
 use Rattle.std.specs.List.{range_with_len}
 use Rattle.std.proofs.lemmas.List.{length-map, map-append, get_or-map}
@@ -11,7 +11,7 @@ use Rattle.dac_decide.specs.FailoverWait.{Note, noted_of, waits_of, noted_at}
 abbrev pub numbered : ℕ → AppId
 numbered n = record { 0 = n }
 
--- the notes of n applications, beginning with number a
+-- the timers of n applications, beginning with number a
 abbrev pub kept_of : List Note → ℕ → ℕ → List (Option Noted)
 kept_of notes a n = map (λ app. noted_of app notes) (map numbered (range_with_len a n))
 

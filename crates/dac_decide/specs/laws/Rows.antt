@@ -1,4 +1,4 @@
--- The note of an application is the unbroken run of newest notes that found one claim lost.
+-- The timer of an application starts with the unbroken run of newest notes that found one claim lost.
 use Rattle.std.proofs.Common.{◌≡◌, ℕ, true, false, cond, List, [], ◌∷◌, ◌++◌, Option, Some, None, refl, sym, ap, ap₂, subst, ◌∙◌, arith}
 use Rattle.std.specs.Option.{is_some}
 use Rattle.std.specs.List.{All}
@@ -17,7 +17,7 @@ module _ (app : AppId) where
   one : {a b : Noted} → ◌≡◌ {A = Option Noted} (Some a) (Some b) → a ≡ b
   one e = cc
 
-  -- the next note is of the lost claim
+  -- the next timer is of the lost claim
   since_claim : (before : Option Noted) (now : ℕ) (claim : Claim) → (since_of before now claim).claim ≡ claim
   since_claim None now claim = refl
   since_claim (Some b) now claim = elim (is_same b.claim claim) as (λ t. is_same b.claim claim ≡ t → (cond t b (noted claim now)).claim ≡ claim) [
@@ -29,7 +29,7 @@ module _ (app : AppId) where
   next_claim before None now n e = absurd (false≢true (ap is_some e))
   next_claim before (Some claim) now n e = ap (λ c. Some c) (sym (since_claim before now claim) ∙ ap (λ (x : Noted). x.claim) (one e))
 
-  -- the noted claim is lost by the newest note, and a claim lost by that is noted
+  -- the timer's claim is lost by the newest note, and a claim lost by that has a timer
   pub newest_lost : (notes : List Note) (n : Noted) → noted_of app notes ≡ Some n → IsLostByNewest notes app n.claim
   newest_lost [] n e = false≢true (ap is_some e)
   newest_lost (note ∷ older) n e = lost_to note.state app n.claim (next_claim (noted_of app older) (lost_in note.state app) note.moment n e)
@@ -40,7 +40,7 @@ module _ (app : AppId) where
       let n = since_of (noted_of app older) note.moment claim in
       (n, ap (λ lost. noted_next (noted_of app older) lost note.moment) (to_lost note.state app claim h), since_claim (noted_of app older) note.moment claim)
 
-  -- ---- from the note to the run
+  -- ---- from the timer to the run
 
   abbrev Since : List Note → Noted → Type 0
   Since notes n = IsNotedSince notes app n.claim n.since
@@ -94,9 +94,9 @@ module _ (app : AppId) where
       let next : since_of (noted_of app older) note.moment n.claim ≡ n = one (sym (ap (λ lost. noted_next (noted_of app older) lost note.moment) found) ∙ e) in
       subst (Since (note ∷ older)) next (next_since note older n.claim (lost_to note.state app n.claim found) (noted_to older) (noted_of app older) refl)
 
-  -- ---- from the run to the note
+  -- ---- from the run to the timer
 
-  -- a claim that wasn't noted before begins a run
+  -- a claim that the note before didn't find lost begins a run
   begins_at : (claim : Claim) (now : ℕ) (before : Option Noted) (older : List Note) → noted_of app older ≡ before → ¬ IsLostByNewest older app claim → since_of before now claim ≡ noted claim now
   begins_at claim now None older e begins = refl
   begins_at claim now (Some b) older e begins = elim (is_same b.claim claim) as (λ t. is_same b.claim claim ≡ t → cond t b (noted claim now) ≡ noted claim now) [

@@ -398,7 +398,7 @@ module _ (t : Table) (own : Origin) (notes : List Note) (now : ℕ) (s : StateVa
       past : (i : ℕ) → i < i → ⊥
       past i h = omega arith
 
-  -- the second tick notes nothing else of an application that the first tick left alone
+  -- an application that the first tick left alone has the same timer at the second
   same_noted : (i : ℕ) → i < N → map.get s.claims (numbered i) ≡ map.get end.claims (numbered i) → noted_at waits (numbered i) ≡ noted_at waits_then (numbered i)
   same_noted i lt same =
       let app = numbered i in

@@ -108,7 +108,7 @@ module _ (t : Table) (own : Origin) (s : StateValue) (app : AppId) (left : used_
 
 module _ (t : Table) (own : Origin) (notes : List Note) (now : ℕ) where
   module _ (s : StateValue) (app : AppId) (listed : app.0 < app_count t) where
-    -- the notes of the waits decide what is due
+    -- the waits decide whether a verdict is due
     due_is : is_due_by t (noted_at (waits_of t notes) app) s app now (verdict_of t s app) ≡ is_due_by t (noted_of app notes) s app now (verdict_of t s app)
     due_is = ap (λ noted. is_due_by t noted s app now (verdict_of t s app)) (kept_is t notes app listed)
 
