@@ -1,4 +1,4 @@
--- The least rank is of the lead's group, and if groups alone settle the verdict, each rank of that group gives the same
+-- The least rank is in the lead's group, and if groups alone settle the verdict, each rank of that group gives the same
 -- one.
 use Rattle.std.proofs.Common.{◌≡◌, ℕ, ◌+◌, ◌<◌, Bool, true, false, cond, List, [], ◌∷◌, ◌++◌, length, take, get_or, Option, Some, None, refl, sym, ap, subst, ◌∙◌, arith, take-suc, add-one}
 use Rattle.std.specs.Prelude.{◌==◌, nat_lt}

@@ -76,7 +76,7 @@ module _ (table : Table) (s : StateValue) where
   runs_if_held app node None = refl
   runs_if_held app node (Some o) = runs_by_holder app node o (is_up s o) refl
 
-  -- a row runs at a node exactly if its application does
+  -- a row runs at a node exactly when its application does
   pub runs_same : (app : AppId) (node : NodeId) → row_runs node (row_of table s app) ≡ runs_at table s app node
   runs_same app node = sym (runs_if_held app node (holder_of s app))
 

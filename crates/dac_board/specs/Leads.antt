@@ -20,7 +20,7 @@ lead_with lead None = lead
 lead_with None (Some spot) = Some (record { spot = spot; alone = true })
 lead_with (Some lead) (Some spot) = Some (beside lead spot)
 
--- the first choice is of the lead's group, and is the lead's node if that one is alone
+-- the first choice is in the lead's group, and is the lead's node if that one is alone
 pub record IsLead (lead : Lead) (choice : Option Rank) : Type 0 where
   pub rank : Rank
   pub first : choice ≡ Some rank
@@ -32,7 +32,7 @@ abbrev pub Leads : Option Lead → Option Rank → Type 0
 Leads None first = first ≡ None
 Leads (Some lead) first = IsLead lead first
 
--- whether any first choice in the leading group gives the same verdict: the application is stopped, its holder is of no
+-- whether any first choice in the leading group gives the same verdict: the application is stopped, its holder is in no
 -- later group, or one node leads alone
 abbrev pub is_settled : Standing → Option ℕ → Lead → Bool
 is_settled (Stopped holder) group lead = true

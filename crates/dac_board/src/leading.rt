@@ -7,12 +7,12 @@ ghost use Rattle.dac_board.specs.Leads.{Leads, beside, lead_with};
 
 use crate::spot::Spot;
 
-/// An eligible node such that no eligible node is of an earlier group.
+/// An eligible node such that no eligible node is in an earlier group.
 #[derive(Clone, Copy, Debug, PartialEq, Eq)]
 pub(crate) struct Lead {
-    /// The first such node of its group by name.
+    /// The first such node in its group by name.
     pub spot: Spot,
-    /// Whether no other eligible node is of its group.
+    /// Whether no other eligible node is in its group.
     pub alone: bool,
 }
 

@@ -86,7 +86,7 @@ causes_to_take t own s app =
     (no_app t app, UnknownApp) ∷ (unlisted t app own.node, NotInList) ∷ (not (is_eligible t s app own.node), NotEligible) ∷ (not (is_some (runner_of t s app)), NotRunning)
     ∷ (runs_at t s app own.node, AlreadyHolder) ∷ (runs_earlier t s app own.node, LowerPriority) ∷ causes_to_claim own s app
 
--- causes to refuse a command, other than that the own incarnation was declared down
+-- causes to refuse a command, other than that its incarnation was declared down
 abbrev pub causes_of : Table → Origin → StateValue → Command → List (Bool × Refusal)
 causes_of t own s (Down node) = (no_node t node, UnknownNode) ∷ (nat_eq node.0 own.node.0, OnSelf) ∷
     (not_live s node, NotLive) ∷ (used_up s own, DotsUsedUp) ∷ []

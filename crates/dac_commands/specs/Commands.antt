@@ -82,7 +82,7 @@ claim_act s app how from = Claims app (next_term s app) how from
 abbrev pub next_operation : StateValue → Origin → Act → Operation
 next_operation s own act = operation (dot own (greatest_counter own s.known + 1)) act
 
--- The act of a command. A Down is of the live incarnation, and a takeover claims from the node where the application
+-- The act of a command. A Down names the live incarnation, and a takeover claims from the node where the application
 -- runs. The others replace exactly what stands of their kind at the key, or for a drain at the live incarnation.
 abbrev pub act_of : Table → StateValue → Command → Act
 act_of t s (Down node) = Downs node (live_or_none s node)

@@ -14,7 +14,7 @@ use dac_placement::{State, is_up};
 
 /// Why a controller refuses a command, if it does: the cause of the least number that holds, for the incarnation `own`
 /// with this state. A takeover requires that the controller's node is eligible, and that the application runs at
-/// another node, which isn't of an earlier group (after `application:takeover/2` of Erlang/OTP).
+/// another node, which isn't in an earlier group (after `application:takeover/2` of Erlang/OTP).
 pub fn refusal_of(config: &Config, own: Origin, state: &State, command: Command) -> Option<Refusal>
     ensures { result ≡ refusal_of_command config.now own state.now command }
 {

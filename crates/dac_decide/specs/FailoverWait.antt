@@ -54,7 +54,7 @@ pub record IsWaitOver (table : Table) (notes : List Note) (s : StateValue) (app 
   pub noted : IsNotedSince notes app claim since
   pub over : since + timeout_of table app ≤ now
 
--- the application's greatest claim is of this node
+-- the application's greatest claim was made by this node
 abbrev pub IsHeldAt : StateValue → AppId → NodeId → Type 0
 IsHeldAt s app node = (claim : Claim) × (map.get s.claims app ≡ Some claim) × (claim.origin.node ≡ node)
 
@@ -87,7 +87,7 @@ lost_in s app = option_and_then (lost_if s) (map.get s.claims app)
 abbrev pub is_same : Claim → Claim → Bool
 is_same a b = is_eq (claim_cmp a b)
 
--- the timer of a lost claim: unchanged if it is of the same claim, and otherwise started now
+-- the timer of a lost claim: unchanged if it is for the same claim, and otherwise started now
 abbrev pub since_of : Option Noted → ℕ → Claim → Noted
 since_of None now claim = record { claim = claim; since = now }
 since_of (Some before) now claim = if is_same before.claim claim then before else record { claim = claim; since = now }
@@ -113,13 +113,13 @@ noted_at waits app = get_or waits app.0 None
 abbrev pub is_held_at : StateValue → AppId → NodeId → Bool
 is_held_at s app node = option_map_or (λ (claim : Claim). claim.origin.node.0 == node.0) (map.get s.claims app) false
 
--- the timer is of this lost claim, and `wait` milliseconds have passed since it started
+-- the timer is for this lost claim, and `wait` milliseconds have passed since it started
 abbrev pub is_over_at : ℕ → ℕ → Option Claim → Option Noted → Bool
 is_over_at wait now None noted = false
 is_over_at wait now (Some claim) None = false
 is_over_at wait now (Some claim) (Some noted) = is_same noted.claim claim && nat_le (noted.since + wait) now
 
--- the timer is of the application's lost claim, and the timeout has passed since it started
+-- the timer is for the application's lost claim, and the timeout has passed since it started
 abbrev pub is_wait_over : Table → StateValue → AppId → Option Noted → ℕ → Bool
 is_wait_over table s app noted now = is_over_at (timeout_of table app) now (lost_in s app) noted
 

@@ -18,8 +18,8 @@ use Rattle.dac_decide.specs.StartGate.{IsOpening, opening_of}
 abbrev pub LostInWords : Type 0
 LostInWords = (s : StateValue) (app : AppId) (claim : Claim) → (lost_in s app ≡ Some claim) ↔ IsLost s app claim
 
--- The verdict is a failover exactly if the application's greatest claim is lost and there is a first choice. So a start
--- never replaces a failover and its wait.
+-- The verdict is a failover exactly when the application's greatest claim is lost and there is a first choice. So a
+-- start never replaces a failover and its wait.
 abbrev pub LostFailsOver : Type 0
 LostFailsOver = (table : Table) (s : StateValue) (app : AppId) (n : NodeId)
     → IsVerdict table s app (Failover n) ↔ (((claim : Claim) × IsLost s app claim) × IsFirst table s app n)

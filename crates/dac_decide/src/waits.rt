@@ -28,7 +28,7 @@ impl Noted {
     ghost use Rattle.std.specs.Prelude.{◌+◌, nat_le};
     ghost use Rattle.dac_decide.specs.FailoverWait.{is_same};
 
-    /// Whether the timer is of this claim.
+    /// Whether the timer is for this claim.
     fn is_of(self, claim: Claim) -> bool
         ensures { result ≡ is_same self.claim claim }
     {
@@ -206,7 +206,7 @@ fn since_of(before: Option<Noted>, now: u64, claim: Claim) -> Noted
     }
 }
 
-/// Whether the application's greatest claim is of this node.
+/// Whether the application's greatest claim was made by this node.
 fn is_held_at(state: &State, app: AppId, node: NodeId) -> bool
     ensures { result ≡ is_held_at state.now app node }
 {
@@ -216,7 +216,7 @@ fn is_held_at(state: &State, app: AppId, node: NodeId) -> bool
     }
 }
 
-/// Whether the timer is of the application's lost claim, and the timeout has passed.
+/// Whether the timer is for the application's lost claim, and the timeout has passed.
 fn is_wait_over(config: &Config, state: &State, app: AppId, noted: Option<Noted>, now: u64) -> bool
     requires { app.0 < app_count config.now }
     ensures { result ≡ is_wait_over config.now state.now app noted now }
@@ -225,7 +225,7 @@ fn is_wait_over(config: &Config, state: &State, app: AppId, noted: Option<Noted>
     is_over_at(wait, now, lost_claim(state, app), noted)
 }
 
-/// Whether the timer is of this lost claim, and `wait` milliseconds have passed.
+/// Whether the timer is for this lost claim, and `wait` milliseconds have passed.
 fn is_over_at(wait: u64, now: u64, lost: Option<Claim>, noted: Option<Noted>) -> bool
     ensures { result ≡ is_over_at wait now lost noted }
 {

@@ -84,7 +84,7 @@ same_node m n e = ap (λ k. record { 0 = k }) (exact_unsigned_eq m.0 n.0 e)
 next_at_most : (m n : ℕ) → n < m → n + 1 ≤ m
 next_at_most m n h = omega arith
 
--- an accepted boot is of an incarnation in form
+-- the incarnation of an accepted boot is in form
 boot_at_most : (last : ℕ) (e : Event) → refusal_off last e ≡ None → last + 1 ≤ MAX_INCARNATION
 boot_at_most last (Boot now) none = next_at_most MAX_INCARNATION last (leb-false MAX_INCARNATION last (none_is ((nat_le MAX_INCARNATION last, IncarnationsUsedUp) ∷ []) none).0)
 boot_at_most last Crash none = no_off none

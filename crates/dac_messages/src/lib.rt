@@ -5,7 +5,7 @@
 //! crash, a command, a tick, a ship, or an incoming message or single operation. A [`Reply`] is the result of an
 //! accepted event.
 //!
-//! Each type has `equal`, which returns true exactly if both values are equal, and `copy`, which returns an equal
+//! Each type has `equal`, which returns true exactly when both values are equal, and `copy`, which returns an equal
 //! value. Only `copy` allocates. Its only error is `NoMemory`, and its argument stays as it is.
 #![tactic(auto)]
 

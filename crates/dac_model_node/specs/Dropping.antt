@@ -26,13 +26,13 @@ abbrev pub IsHadByAll : Table → Event → RunningValue → ℕ → Type 0
 IsHadByAll t (Hear m) u k = AllHave u.peers u.state (node_count t) u.origin.node k
 IsHadByAll t e u k = ⊥
 
--- A node that runs on after an event has dropped a delta exactly in these cases: it had dropped it before, there are
+-- A node that runs on after an event has dropped a delta in exactly these cases: it had dropped it before, there are
 -- 256 later ones, or all other nodes have it.
 abbrev pub DropsSo : Table → Event → RunningValue → RunningValue → Type 0
 DropsSo t e r u = (k : ℕ) → k < u.kept.count
     → (k < u.kept.base) ↔ ((k < r.kept.base) ⊎ ((k + MAX_DELTAS < u.kept.count) ⊎ IsHadByAll t e u k))
 
--- each accepted event that leaves a running node running drops so
+-- each accepted event that leaves a running node running satisfies `DropsSo`
 abbrev pub DropsInWords : Type 0
 DropsInWords = (t : Table) (me : NodeId) (old new : NodeValue) (e : Event) (reply : Reply) (r u : RunningValue)
     → old.running ≡ Some r → new.running ≡ Some u → Keeps t me old e reply new → DropsSo t e r u

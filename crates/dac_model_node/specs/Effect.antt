@@ -19,7 +19,7 @@ issued_by (Issued o) = o ∷ []
 issued_by (Ticked ops passed) = ops
 issued_by _ = []
 
--- The effect after the event: a command has taken effect, and the applications that a tick claimed are kept at the own
+-- The effect after the event: a command has taken effect, and the applications that a tick claimed are kept at this
 -- node and run there.
 abbrev pub IsBroughtAbout : Table → Event → Reply → RunningValue → Type 0
 IsBroughtAbout t (Commanded c) reply r = TakesEffect t r.origin r.state c

@@ -58,7 +58,7 @@ ShipsBy t (Some r) (Ship to) _ = ⊥
 ShipsBy t None (Ship to) reply = ⊥
 ShipsBy t running e reply = Unit {0}
 
--- each model node that shows as the value ships so
+-- `ShipsBy` for each model node that shows as the value
 abbrev pub ShipsSo : Table → NodeValue → Event → Reply → Type 0
 ShipsSo t old e reply = (d : ModelNode) → shown t d ≡ old → ShipsBy t d.running e reply
 

@@ -37,7 +37,7 @@ TicksSo t r now Held = IsAsked t r now Shut
 TicksSo t r now GaveUp = IsAsked t r now GiveUp
 TicksSo t r now _ = ⊥
 
--- an incoming state is heard, and is new exactly if it isn't below the node's state
+-- an incoming state is heard, and is new exactly when it isn't below the node's state
 abbrev pub HearsSo : StateValue → StateValue → Reply → Type 0
 HearsSo s body (Heard fresh) = (fresh ≡ true) ↔ (¬ IsBelow body s)
 HearsSo s body _ = ⊥

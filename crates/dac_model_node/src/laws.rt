@@ -27,7 +27,7 @@ pub fn ships_in_words()
     ensures { ShipsInWords }
 {}
 
-/// `Keeps` in words, for dropped deltas. A node that runs on after an event has dropped a delta exactly in these cases:
+/// `Keeps` in words, for dropped deltas. A node that runs on after an event has dropped a delta in exactly these cases:
 /// it had dropped it before, there are 256 later ones, or a message came in and all other nodes have acknowledged the
 /// delta.
 pub fn drops_in_words()

@@ -48,7 +48,7 @@ abbrev pub AcksAreGot : Type 0
 AcksAreGot = (p : PeersValue) (node : NodeId) (origin : Origin) (n : ℕ)
     → (ack_for p node ≡ Some (origin, n)) ↔ ((origin.node ≡ node) × (map.get p.got node ≡ Some (record { inc = origin.inc; number = n })))
 
--- Nothing needs to be shipped to a node exactly if its present incarnation acknowledged all deltas, the log reaches
+-- Nothing needs to be shipped to a node exactly when its present incarnation acknowledged all deltas, the log reaches
 -- back to that number, and no reply to it is due
 abbrev pub UpToDateHaveAll : Type 0
 UpToDateHaveAll = (p : PeersValue) (s : StateValue) (base count : ℕ) (to : NodeId)
@@ -103,7 +103,7 @@ abbrev pub GotGoesOnward : Type 0
 GotGoesOnward = (own : Origin) (count : ℕ) (p : PeersValue) (m : Message) → IsOnward p m (heard_from own count p m)
 
 -- ---- acknowledged numbers
--- by this message the origin acknowledges n deltas of the own origin, which has at least as many
+-- by this message the origin acknowledges the first n of this node's `count` deltas
 pub record Acknowledges (own : Origin) (count : ℕ) (m : Message) (origin : Origin) (n : ℕ) : Type 0 where
   pub sender : origin ≡ m.from
   pub ack : m.ack ≡ Some (own, n)
@@ -138,7 +138,7 @@ pub record IsShipped (p : PeersValue) (to : NodeId) (after : PeersValue) : Type 
 abbrev pub ShippedAreNotOwed : Type 0
 ShippedAreNotOwed = (p : PeersValue) (to : NodeId) → IsShipped p to (shipped_to p to)
 
--- ---- acknowledgements are of deltas that exist
+-- ---- only existing deltas are acknowledged
 -- no incarnation acknowledged more deltas than there are
 abbrev pub AcknowledgesAtMost : ℕ → PeersValue → Type 0
 AcknowledgesAtMost count p = (origin : Origin) (n : ℕ) → map.get p.acked origin ≡ Some n → n ≤ count

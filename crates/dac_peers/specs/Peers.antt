@@ -17,8 +17,8 @@ use Rattle.dac_messages.specs.declared.message.Body.{Body}
 use Rattle.dac_messages.specs.declared.message.Body.TheVariants.{Nothing}
 use Rattle.dac_messages.specs.declared.message.Message.{Message}
 
--- `acked`: how many of the own deltas each incarnation of another node acknowledged. `got`: for each node, the latest
--- position in its deltas that was received. `owed`: the nodes to which a reply is due.
+-- `acked`: how many of this node's deltas each incarnation of another node acknowledged. `got`: for each node, the
+-- latest position in its deltas that was received. `owed`: the nodes to which a reply is due.
 pub record PeersValue : Type 0 where
   pub acked : Numbers
   pub got : map.FinMap node_cmp Position
@@ -86,7 +86,7 @@ abbrev pub got_after : Option Position → Position → Position
 got_after None new = new
 got_after (Some old) new = later old new
 
--- an acknowledgement counts if it is of the own origin and of no more deltas than there are
+-- an acknowledgement counts if it names this node's origin and no more deltas than there are
 abbrev pub counts : Origin → ℕ → Origin × ℕ → Bool
 counts own count ack = nat_eq ack.0.node.0 own.node.0 && (nat_eq ack.0.inc own.inc && nat_le ack.1 count)
 
@@ -112,7 +112,7 @@ heard_from own count p m =
     record { acked = acked_after own count p.acked m.from m.ack; got = after.got; owed = after.owed }
 
 -- ---- acknowledgements of all nodes
--- the nodes below a number, without the own one, in order
+-- the nodes below a number, without this one, in order
 abbrev pub others : ℕ → NodeId → List NodeId
 others zero own = []
 others (suc n) own = others n own ++ cond (nat_eq n own.0) [] (record { 0 = n } ∷ [])

@@ -16,7 +16,7 @@ use std::alloc::Global;
 use std::marker::Model;
 use std::sync::Arc;
 
-/// Whether an acknowledgement counts: it is of the own origin, and of no more deltas than there are.
+/// Whether an acknowledgement counts: it names this node's origin and no more deltas than there are.
 fn counts(own: Origin, count: u64, origin: Origin, number: u64) -> bool
     ensures { result ≡ counts own count (origin, number) }
 {

@@ -22,7 +22,7 @@ module _ (table : Table) (s : StateValue) (app : AppId) (lead : Lead) where
   abbrev made : NodeId → Rank
   made node = record { group = lead.group; load = load_of table s app node; node = node }
 
-  -- the rank of the node of this number, if it is of the leading group
+  -- the rank of the node of this number, if it is in the leading group
   abbrev pub rank_at : ℕ → Option Rank
   rank_at n = rank_in table s app lead.group (numbered n)
 

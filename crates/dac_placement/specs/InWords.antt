@@ -54,8 +54,8 @@ Rests table s app (Stopped n) = Unit {0}
 Rests table s app Barred = EachEligible table s app (λ _. ⊥)
 Rests table s app (Upheld n) = EachEligible table s app (λ m. ¬ IsEarlier table app m n)
 
--- A verdict has no candidate exactly if the application is left alone. Its standing and the eligible nodes decide this,
--- and no load does.
+-- A verdict has no candidate exactly when the application is left alone. Its standing and the eligible nodes decide
+-- this, and no load does.
 abbrev pub RestsInWords : Type 0
 RestsInWords = (table : Table) (s : StateValue) (app : AppId)
     → (candidate_of (verdict_of table s app) ≡ None) ↔ Rests table s app (standing_of table s app)
@@ -80,7 +80,7 @@ FileCounts = (table : Table) (s : StateValue) (app : AppId) (node : NodeId) (inc
     × (default_permission table app ≡ true → IsSome (group_of table app node) → ¬ IsDrainedAt s node inc
     → IsStartedAt s (key_at app node inc) → IsEligible table s app node)
 
--- If an application is kept, no eligible node is of an earlier group than its holder.
+-- If an application is kept, no eligible node is in an earlier group than its holder.
 abbrev pub NoneBefore : Type 0
 NoneBefore = (table : Table) (s : StateValue) (app : AppId) (holder m : NodeId) (g h : ℕ)
     → verdict_of table s app ≡ Kept holder → m.0 < node_count table → IsEligible table s app m

@@ -9,8 +9,8 @@ use Rattle.dac_placement.specs.Placement.{IsEligible, is_eligible, load_of}
 use Rattle.dac_placement.specs.Ranks.{Rank}
 use Rattle.dac_placement.specs.declared.leading.Lead.{Lead}
 
--- The node is an eligible one of the first n, and no eligible one of these is of an earlier group. If `alone` is true,
--- no other eligible one of these is of its group
+-- The node is an eligible one of the first n, and no eligible one of these is in an earlier group. If `alone` is true,
+-- no other eligible one of these is in its group
 pub record IsLead (table : Table) (s : StateValue) (app : AppId) (n : ℕ) (lead : Lead) : Type 0 where
   pub node : lead.node.0 < n
   pub eligible : IsEligible table s app lead.node
@@ -42,7 +42,7 @@ lead_with lead None node = lead
 lead_with None (Some group) node = Some (record { group = group; node = node; alone = true })
 lead_with (Some lead) (Some group) node = Some (beside lead group node)
 
--- the rank of a node if it is of this group and eligible
+-- the rank of a node if it is in this group and eligible
 abbrev pub rank_in : Table → StateValue → AppId → ℕ → NodeId → Option Rank
 rank_in table s app group node = option_and_then (λ own.
     if (own == group) && is_eligible table s app node then Some (record { group = group; load = load_of table s app node; node = node }) else None)

@@ -172,7 +172,7 @@ pub record IsPreferred (table : Table) (s : StateValue) (app : AppId) (n m : Nod
   pub of_m : IsLoad table s app m other
   pub less : (load < other) ⊎ ((load ≡ other) × (n.0 ≤ m.0))
 
--- The first choice is an eligible node such that no eligible node is of an earlier group, and that is preferred to each
+-- The first choice is an eligible node such that no eligible node is in an earlier group, and that is preferred to each
 -- of its own group. (OTP: within a tuple, the node with the fewest applications. That a tie goes by name is this
 -- project's own rule.)
 pub record IsFirst (table : Table) (s : StateValue) (app : AppId) (n : NodeId) : Type 0 where
@@ -218,8 +218,8 @@ IsStanding table s app (Upheld n) =
     HeldBy s app (λ o. (o.node ≡ n) × IsUp s o × IsStartedAt s (key_of app o) × IsAllowedAt table s (key_of app o))
 
 -- An application without a live and allowed holder is started, failed over or moved to the first choice, if there is
--- one. A stopped one is left alone. An upheld one is taken over exactly if an eligible node's group is earlier than the
--- holder's.
+-- one. A stopped one is left alone. An upheld one is taken over exactly when an eligible node's group is earlier than
+-- the holder's.
 abbrev pub IsVerdict : Table → StateValue → AppId → Verdict → Type 0
 IsVerdict table s app (Start n) = IsStanding table s app Unclaimed × IsFirst table s app n
 IsVerdict table s app (Failover n) = IsStanding table s app Lost × IsFirst table s app n

@@ -43,7 +43,7 @@ fn early_verdict(config: &Config, state: &State, app: AppId, standing: Standing)
     }
 }
 
-/// Whether an eligible node is of an earlier group than the holder.
+/// Whether an eligible node is in an earlier group than the holder.
 fn has_earlier(config: &Config, state: &State, app: AppId, holder: NodeId) -> bool
     requires { app.0 < app_count config.now }
     ensures { result ≡ false
@@ -55,7 +55,7 @@ fn has_earlier(config: &Config, state: &State, app: AppId, holder: NodeId) -> bo
     }
 }
 
-/// Whether an eligible node is of a group before `late`. No group is earlier than group 0.
+/// Whether an eligible node is in a group before `late`. No group is earlier than group 0.
 fn has_before(config: &Config, state: &State, app: AppId, late: u16) -> bool
     requires { app.0 < app_count config.now }
     ensures { result ≡ false
@@ -73,7 +73,7 @@ fn has_before(config: &Config, state: &State, app: AppId, late: u16) -> bool
     false
 }
 
-/// Whether a node is eligible and of a group before `late`.
+/// Whether a node is eligible and in a group before `late`.
 fn comes_before(config: &Config, state: &State, app: AppId, node: NodeId, late: u16) -> bool
     requires { app.0 < app_count config.now }
     ensures { result
@@ -114,7 +114,7 @@ fn upheld(config: &Config, app: AppId, holder: NodeId, first: NodeId) -> Verdict
     }
 }
 
-/// Whether `node` is of an earlier group of the application's list than `other`. A node outside the list has no group.
+/// Whether `node` is in an earlier group of the application's list than `other`. A node outside the list has no group.
 /// (A tuple in the list of OTP's `distributed` is one group.)
 pub fn is_earlier(config: &Config, app: AppId, node: NodeId, other: NodeId) -> bool
     requires { app.0 < app_count config.now }

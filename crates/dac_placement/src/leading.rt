@@ -8,14 +8,14 @@ use dac_base::{AppId, NodeId};
 use dac_config::Config;
 use dac_state::State;
 
-/// An eligible node such that no eligible node is of an earlier group.
+/// An eligible node such that no eligible node is in an earlier group.
 #[derive(Clone, Copy, Debug, PartialEq, Eq)]
 pub(crate) struct Lead {
     /// Its group in the application's list.
     pub group: u16,
-    /// The first eligible node of its group by name.
+    /// The first eligible node in its group by name.
     pub node: NodeId,
-    /// Whether no other eligible node is of its group.
+    /// Whether no other eligible node is in its group.
     pub alone: bool,
 }
 

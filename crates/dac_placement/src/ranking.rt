@@ -39,7 +39,7 @@ pub(crate) fn first_choice(config: &Config, state: &State, app: AppId) -> Option
     }
 }
 
-/// The node of the least rank, which is of the leading group, so that no load is computed in later groups.
+/// The node of the least rank, which is in the leading group, so that no load is computed in later groups.
 fn least_ranked(config: &Config, state: &State, app: AppId, lead: Lead) -> Option<NodeId>
     requires app { app.0 < app_count config.now }
     requires leads { IsLead config.now state.now app (node_count config.now) lead }
@@ -54,7 +54,7 @@ fn least_ranked(config: &Config, state: &State, app: AppId, lead: Lead) -> Optio
     Some(first.node)
 }
 
-/// The rank of a node, if it is of this group and eligible. The group is compared first because that is cheapest.
+/// The rank of a node, if it is in this group and eligible. The group is compared first because that is cheapest.
 fn rank_in(config: &Config, state: &State, app: AppId, group: u16, node: NodeId) -> Option<Rank>
     requires { app.0 < app_count config.now }
     ensures { result ≡ rank_in config.now state.now app group node }

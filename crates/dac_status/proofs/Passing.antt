@@ -186,7 +186,7 @@ some_dot s e = elim (set.items s) as (λ ks. ((q : Dot) → set.contains s q ≡
 ] (set.contains-items s)
 
 module _ (key : Key) (writes : Writes) where
-  -- a start stands exactly if its dot is kept at its key
+  -- a start stands exactly when its dot is kept at its key
   stands : (d : Dot) → set.contains writes (write key d) ≡ set.contains (store_at set.empty (find key_cmp key (starts_by_key writes))) d
   stands d = ap (λ ws. set.contains ws (write key d)) (sym (writes_again writes)) ∙ contains-writes_of (starts_by_key writes) (are_starts writes).in_order (write key d)
 

@@ -30,7 +30,7 @@ same_test true b f g = sym (f refl)
 same_test false true f g = g refl
 same_test false false f g = refl
 
--- the mark is `Ok` exactly if all three tests pass
+-- the mark is `Ok` exactly when all three tests pass
 by_tests : (permitted drained started : Bool) → ((permitted && not drained) && started) ≡ is_ok (marked permitted drained started)
 by_tests true true started = refl
 by_tests true false true = refl

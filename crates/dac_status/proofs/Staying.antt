@@ -75,13 +75,13 @@ module _ (table : Table) (s : StateValue) (app : AppId) where
       ∙ ap (λ b. cond (not b) Lost (standing node permitted drained started)) up
       ∙ upheld_if_ok node permitted drained started fine
 
-  -- an upheld application stays if no eligible node is of an earlier group
+  -- an upheld application stays if no eligible node is in an earlier group
   pub stays : (holder : NodeId) → standing_of table s app ≡ Upheld holder → EachEligible table s app (λ m. ¬ IsEarlier table app m holder) → Kept holder ≡ verdict_of table s app
   stays holder upheld none =
       let first = first_choice table s app in
       sym (ap (λ standing. verdict_by table app standing first) upheld ∙ kept_by table s app holder first (first_is table s app) none)
 
-  -- a node that isn't before some group, and is eligible, is of no earlier group
+  -- a node that isn't before some group, and is eligible, is in no earlier group
   pub none_before : (marks : List Mark) (late : ℕ) (n : ℕ) → marks ≡ marks_of table s app → n < node_count table → IsEligible table s app (node_numbered n)
       → (is_ok (get_or marks n mark.Down) && is_less (group_of table app (node_numbered n)) (Some late)) ≡ false → is_less (group_of table app (node_numbered n)) (Some late) ≡ false
   none_before marks late n are lt may not =

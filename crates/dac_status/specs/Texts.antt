@@ -63,7 +63,7 @@ abbrev pub from_text : Table → Option NodeId → List ℕ
 from_text table None = []
 from_text table (Some node) = codes " from " ++ node_text table node
 
--- the claimer of an application, its term, and how the application came there
+-- a claim: its node and incarnation, its term, and how the application came there
 abbrev pub claim_text : Table → Claim → List ℕ
 claim_text table claim =
     node_text table claim.origin.node ++ (codes " " ++ (decimal claim.origin.inc ++ (codes " term " ++ (decimal claim.term ++ (how_text claim.how ++ from_text table claim.from)))))
@@ -117,7 +117,7 @@ groups_of table app = placed MAX_NODES None (list_map (group_of table app) (node
 abbrev pub member_in : List ℕ → Option ℕ → List Mark → ℕ → NodeId → List ℕ
 member_in label found marks group node = if option_map_or (λ other. other == group) found false then label ++ mark_text (mark_in marks node) else []
 
--- a node with its mark, if it is of this group of the application's list
+-- a node with its mark, if it is in this group of the application's list
 abbrev pub member_text : Table → AppId → List Mark → ℕ → NodeId → List ℕ
 member_text table app marks group node = member_in (label_text table node) (group_of table app node) marks group node
 

@@ -46,7 +46,7 @@ pub fn put_from(
     put_node(alloc, text, config, node)
 }
 
-/// Appends the claimer of an application, its term, and how the application came there.
+/// Appends a claim: its node and incarnation, its term, and how the application came there.
 fn put_claim(
     alloc: Global,
     text: &mut Vec<u8>,
@@ -209,7 +209,7 @@ fn group_count(config: &Config, groups: &[Option<u16>; MAX_NODES]) -> u16
     count
 }
 
-/// Whether a node is of this group, given the group of each node.
+/// Whether a node is in this group, given the group of each node.
 fn is_member(groups: &[Option<u16>; MAX_NODES], group: u16, node: NodeId) -> bool
     requires { node.0 < MAX_NODES }
     ensures { result
@@ -221,7 +221,7 @@ fn is_member(groups: &[Option<u16>; MAX_NODES], group: u16, node: NodeId) -> boo
     }
 }
 
-/// Appends a node's label and mark, if it is of this group, given the group of each node.
+/// Appends a node's label and mark, if it is in this group, given the group of each node.
 fn put_member(
     text: &mut Vec<u8>,
     labels: &Labels,

@@ -187,7 +187,7 @@ fn upheld_at(
     }
 }
 
-/// Whether an eligible node is of an earlier group than the holder.
+/// Whether an eligible node is in an earlier group than the holder.
 fn has_earlier(config: &Config, app: AppId, holder: NodeId, marks: &[Mark; MAX_NODES]) -> bool
     requires { app.0 < app_count config.now }
     ensures { result ≡ false → (s : StateValue) → marks.now ≡ marks_of config.now s app
@@ -199,7 +199,7 @@ fn has_earlier(config: &Config, app: AppId, holder: NodeId, marks: &[Mark; MAX_N
     }
 }
 
-/// Whether an eligible node is of a group before `late`. No group is earlier than group 0.
+/// Whether an eligible node is in a group before `late`. No group is earlier than group 0.
 fn has_before(config: &Config, app: AppId, late: u16, marks: &[Mark; MAX_NODES]) -> bool
     requires { app.0 < app_count config.now }
     ensures { result ≡ false → (s : StateValue) → marks.now ≡ marks_of config.now s app
@@ -218,7 +218,7 @@ fn has_before(config: &Config, app: AppId, late: u16, marks: &[Mark; MAX_NODES])
     false
 }
 
-/// Whether nothing keeps the application from a node of this mark, and the node is of a group before `late`.
+/// Whether nothing keeps the application from a node of this mark, and the node is in a group before `late`.
 fn comes_before(config: &Config, app: AppId, node: NodeId, mark: Mark, late: u16) -> bool
     requires { app.0 < app_count config.now }
     ensures { result ≡ (is_ok mark && is_less (group_of config.now app node) (Some late)) }

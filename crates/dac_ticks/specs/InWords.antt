@@ -20,14 +20,14 @@ use Rattle.dac_base.specs.declared.limits.TheConstants.{MAX_COUNTER}
 use Rattle.dac_commands.specs.Commands.{greatest_counter}
 use Rattle.dac_ticks.specs.Ticks.{turn_of}
 
--- the application's verdict names the own node, and is due
+-- the application's verdict names this node, and is due
 pub record IsMine (t : Table) (own : Origin) (notes : List Note) (now : ℕ) (s : StateValue) (app : AppId)
     (verdict : Verdict) : Type 0 where
   pub verdict_is : IsVerdict t s app verdict
   pub candidate : candidate_of verdict ≡ Some own.node
   pub due : IsDueBy t notes s app now verdict
 
--- the application's verdict doesn't name the own node, or isn't due
+-- the application's verdict doesn't name this node, or isn't due
 pub record IsNotMine (t : Table) (own : Origin) (notes : List Note) (now : ℕ) (s : StateValue)
     (app : AppId) : Type 0 where
   pub verdict : Verdict

@@ -20,7 +20,7 @@ pub record AreAlikeFor (t u : Table) (app : AppId) : Type 0 where
   pub permission : default_permission t app ≡ default_permission u app
   pub groups : (node : NodeId) → node.0 < node_count t → group_of t app node ≡ group_of u app node
 
--- the configurations have equally many nodes and applications, and are alike for each application
+-- the configurations have the same number of nodes and of applications, and are alike for each application
 pub record AreAlike (t u : Table) : Type 0 where
   pub nodes : node_count t ≡ node_count u
   pub apps : app_count t ≡ app_count u

@@ -18,8 +18,8 @@ abbrev pub AtLive : StateValue → NodeId → (ℕ → Type 0) → Type 0
 AtLive s node P = (inc : ℕ) × (IsLive s.lives node inc × P inc)
 
 -- The effect of each command. After a Down no incarnation of the node is live. At the node's live incarnation the
--- application is permitted exactly if the permit's value is true, is started after a start, and isn't after a stop.
--- That incarnation is drained exactly if the drain's value is true. After a takeover the application runs at the own
+-- application is permitted exactly when the permit's value is true, is started after a start, and isn't after a stop.
+-- That incarnation is drained exactly when the drain's value is true. After a takeover the application runs at this
 -- node.
 abbrev pub TakesEffect : Table → Origin → StateValue → Command → Type 0
 TakesEffect t own left (Down node) = (inc : ℕ) → ¬ IsLive left.lives node inc

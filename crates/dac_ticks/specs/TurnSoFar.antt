@@ -29,12 +29,12 @@ added turn app (Claimed o after) = record { ops = turn.ops ++ o ∷ []; passed =
 abbrev pub so_far : StateValue → TurnSoFar → Turn
 so_far first p = record { ops = p.ops.items; passed = p.passed.items; state = unwrap_or p.left first }
 
--- there is a state exactly if there is a claim
+-- there is a state exactly when there is a claim
 abbrev pub IsSparing : TurnSoFar → Type 0
 IsSparing p = MatchOption p.left (p.ops.items ≡ []) (λ after. ¬ (p.ops.items ≡ []))
 
--- The code's turn is that of a tick that began in this state. It has a state exactly if it has a claim, and that is the
--- turn's last state.
+-- The code's turn is that of a tick that began in this state. It has a state exactly when it has a claim, and that is
+-- the turn's last state.
 pub record IsMade (first : StateValue) (turn : Turn) (made : Made) : Type 0 where
   pub ops : made.ops ≡ turn.ops
   pub passed : made.passed ≡ turn.passed

@@ -81,8 +81,8 @@ impl KeptBoard {
     }
 }
 
-/// Whether boards under two configurations are the same: equally many nodes and applications, and for each application
-/// the same groups and the same default permission.
+/// Whether boards under two configurations are the same: the same number of nodes and of applications, and for each
+/// application the same groups and the same default permission.
 fn are_alike(one: &Config, other: &Config) -> bool
     ensures alike { IsTrue result ↔ AreAlike one.now other.now }
     ensures goes { IsTrue result → GoesFor one.now other.now }

@@ -26,7 +26,7 @@ after_only : (greatest : Option Claim) (term : ℕ) → MatchOption greatest (te
 after_only None term h = h
 after_only (Some c) term h = h
 
--- the term after a claim's is past the last exactly if the claim has the last one or a later one
+-- the term after a claim's is past the last exactly when the claim has the last one or a later one
 past_after : (greatest : Option Claim) → MAX_COUNTER < term_after greatest → (claim : Claim) × ((greatest ≡ Some claim) × (MAX_COUNTER ≤ claim.term))
 past_after None h = absurd (past_first MAX_COUNTER h (ltb-true 0 MAX_COUNTER refl))
   where
@@ -50,7 +50,7 @@ module _ (s : StateValue) (app : AppId) where
   pub next_term_only : (term : ℕ) → IsNextTerm s app term → term ≡ next_term s app
   next_term_only term h = after_only (map.get s.claims app) term h
 
-  -- the terms are used up exactly if the greatest claim has the last one or a later one
+  -- the terms are used up exactly when the greatest claim has the last one or a later one
   pub terms_used_up_is : (terms_used_up s app ≡ true) ↔ HasLastTerm s app
   terms_used_up_is = (
     λ e. past_after (map.get s.claims app) (ltb-true MAX_COUNTER (next_term s app) e),

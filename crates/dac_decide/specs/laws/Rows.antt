@@ -17,7 +17,7 @@ module _ (app : AppId) where
   one : {a b : Noted} → ◌≡◌ {A = Option Noted} (Some a) (Some b) → a ≡ b
   one e = cc
 
-  -- the next timer is of the lost claim
+  -- the next timer is for the lost claim
   since_claim : (before : Option Noted) (now : ℕ) (claim : Claim) → (since_of before now claim).claim ≡ claim
   since_claim None now claim = refl
   since_claim (Some b) now claim = elim (is_same b.claim claim) as (λ t. is_same b.claim claim ≡ t → (cond t b (noted claim now)).claim ≡ claim) [

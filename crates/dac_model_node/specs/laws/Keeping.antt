@@ -39,7 +39,7 @@ kept_so k newest deltas trim =
     ap (λ (x : KeptDeltas StateValue). trimmed x trim) (pushes_drop_together k deltas few)
     ∙ same_kept _ _ _ _ _ _ refl to (drop-drop more gone (k.deltas ++ deltas) ∙ ap (λ n. drop n (k.deltas ++ deltas)) all)
 
--- an incoming state is a delta exactly if the reply says that it is new
+-- an incoming state is a delta exactly when the reply says that it is new
 new_comes : (body : StateValue) (b : Bool) → cond b [] (body ∷ []) ≡ cond (not b) (body ∷ []) []
 new_comes body true = refl
 new_comes body false = refl

@@ -80,6 +80,6 @@ by_run t me last None (HearOp o) reply is = tt
 pub ships_in_words : ShipsInWords
 ships_in_words t me d e reply is = by_run t me d.last d.running e reply is
 
--- each model node that shows as an accepted value ships so
+-- `ShipsSo` holds of each accepted value
 pub ships_so : (t : Table) (me : NodeId) (old : NodeValue) (e : Event) (new : NodeValue) (reply : Reply) → AcceptedAs t me old e new reply → ShipsSo t old e reply
 ships_so t me old e new reply p d same = ships_in_words t me d e reply ((steps t me old e new reply p).by d same).1

@@ -57,7 +57,7 @@ module _ (number : NodeId → ℕ) (own : NodeId) where
   same_node : (node : NodeId) (n : ℕ) → node.0 ≡ n → node ≡ next n
   same_node node n e = ap next e
 
-  -- number n is the own node
+  -- number n is this node
   with_own : (n : ℕ) → n ≡ own.0 → (x : Option ℕ) → IsLeast n x → IsLeast (suc n) x
   with_own n is None h = λ node other. let apart : node.0 ≡ n → ⊥ = λ e. other.1 (ap next (e ∙ is)) in h node (omega arith, other.1)
   with_own n is (Some least) h = (

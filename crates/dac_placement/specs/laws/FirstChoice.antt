@@ -67,7 +67,7 @@ module _ (table : Table) (s : StateValue) (app : AppId) where
   some_rank None e = absurd (false≢true e)
   some_rank (Some r) e = (r, refl)
 
-  -- a node has a rank exactly if it is eligible
+  -- a node has a rank exactly when it is eligible
   ranked_is : (node : NodeId) → IsSome (rank_of table s app node) ↔ IsEligible table s app node
   ranked_is node = (
     λ some. (eligible_is table s app node).0 (by_test (is_eligible table s app node) some),

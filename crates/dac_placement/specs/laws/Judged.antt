@@ -33,7 +33,7 @@ module _ (table : Table) (app : AppId) (m n : NodeId) where
   pub earlier_is : (is_earlier table app m n ≡ true) ↔ IsEarlier table app m n
   earlier_is = (λ e. earlier_if e, λ e. if_earlier e)
 
--- if the first choice is of no earlier group than the holder, no eligible node is
+-- if the first choice is in no earlier group than the holder, no eligible node is
 pub none_earlier : (table : Table) (s : StateValue) (app : AppId) (n holder : NodeId) → IsFirst table s app n → is_earlier table app n holder ≡ false → EachEligible table s app (λ m. ¬ IsEarlier table app m holder)
 none_earlier table s app n holder first level m lt may before = by_group (group_of table app n) refl first.eligible.listed
   where
@@ -65,7 +65,7 @@ verdict_is table s app Barred None stands none = (none, inr (inr stands))
 pub verdict_in_words : (table : Table) (s : StateValue) (app : AppId) → IsVerdict table s app (verdict_of table s app)
 verdict_in_words table s app = verdict_is table s app (standing_of table s app) (first_choice table s app) (standing_is table s app) (first_is table s app)
 
--- if no eligible node is of an earlier group than the holder, the application is kept, whatever the first choice is
+-- if no eligible node is in an earlier group than the holder, the application is kept, whatever the first choice is
 pub kept_by : (table : Table) (s : StateValue) (app : AppId) (holder : NodeId) (first : Option NodeId) → IsChoice table s app first → EachEligible table s app (λ m. ¬ IsEarlier table app m holder) → verdict_by table app (Upheld holder) first ≡ Kept holder
 kept_by table s app holder None is none = refl
 kept_by table s app holder (Some n) is none = ap (λ b. cond b (Takeover n) (Kept holder)) (false_from_ne_true (is_earlier table app n holder) (λ e. none n is.node is.eligible (earlier_if table app n holder e)))

@@ -64,7 +64,7 @@ module _ (table : Table) (s : StateValue) (app : AppId) where
         before : (a b g : ℕ) → a < b → b ≤ g → a ≤ g
         before a b g p q = omega arith
 
-        -- node n is of an earlier group than the lead
+        -- node n is in an earlier group than the lead
         overtakes : group < lead.group → IsLead table s app (n + 1) (record { group = group; node = numbered n; alone = true })
         overtakes less = record {
           node = next n;
@@ -79,7 +79,7 @@ module _ (table : Table) (s : StateValue) (app : AppId) where
         not_earlier : lead.group ≤ group → (m : NodeId) → m.0 < n + 1 → IsEligible table s app m → (g : ℕ) → group_of table app m ≡ Some g → lead.group ≤ g
         not_earlier le = more (λ m. (g : ℕ) → group_of table app m ≡ Some g → lead.group ≤ g) n l.earliest (λ _ g e. up_to lead.group group g le (one_group (sym is ∙ e)))
 
-        -- node n is of the same group
+        -- node n is in the same group
         shares : lead.group ≤ group → group ≡ lead.group → IsLead table s app (n + 1) (record { group = group; node = lead.node; alone = false })
         shares le same = record {
           node = wider lead.node.0 n l.node;
@@ -89,7 +89,7 @@ module _ (table : Table) (s : StateValue) (app : AppId) where
           alone = λ a. absurd (false≢true a);
         }
 
-        -- node n is of a later group
+        -- node n is in a later group
         follows : lead.group ≤ group → (group ≡ lead.group → ⊥) → IsLead table s app (n + 1) lead
         follows le apart = record {
           node = wider lead.node.0 n l.node;

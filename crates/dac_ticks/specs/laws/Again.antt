@@ -107,7 +107,7 @@ module _ (t : Table) (s u : StateValue) (a : MayRunAlike s u) (app : AppId) wher
 -- ---- the holder of an application that it claimed
 
 module _ (t : Table) (own : Origin) where
-  -- the incarnation holds the application, its node is eligible, and no eligible node is of an earlier group
+  -- the incarnation holds the application, its node is eligible, and no eligible node is in an earlier group
   pub record Takes (s : StateValue) (app : AppId) : Type 0 where
     pub holder : holder_of s app ≡ Some own
     pub eligible : IsEligible t s app own.node
@@ -258,7 +258,7 @@ module _ (t : Table) (own : Origin) where
           | inr taken ↦ absurd (ne (takes_alone u up other taken.1.1 m e))
         ]
 
-    -- the own load doesn't fall
+    -- this node's load doesn't fall
     load_own : load_of t s app own.node ≤ load_of t u app own.node
     load_own = fewer (λ other. not (other.0 == app.0) && runs_at t s other own.node) (λ other. not (other.0 == app.0) && runs_at t u other own.node)
         (λ other h. let both = and_parts _ _ h in and_from _ _ both.0 (runs other both.1)) (apps_of t)
@@ -269,7 +269,7 @@ module _ (t : Table) (own : Origin) where
           | inr taken ↦ takes_runs u up other taken.1.1
         ]
 
-    -- so if the own node is the first choice later, it was before
+    -- so if this node is the first choice later, it was before
     was_first : IsFirst t u app own.node → first_choice t s app ≡ Some own.node
     was_first first = by_first (first_choice t s app) (first_is t s app)
       where
@@ -361,7 +361,7 @@ module _ (t : Table) (own : Origin) (notes : List Note) (now : ℕ) (s : StateVa
   up_at : (n : ℕ) → IsUp (first_n n).state own
   up_at n = subst (λ (lives : Lives). IsLive lives own.node own.inc) (later 0 n (omega arith)).alike.lives live
 
-  -- applications passed over stay so
+  -- applications passed over stay passed over
   passed_more : (app : AppId) (n : ℕ) → IsAmong app (first_n n).passed → IsAmong app (first_n (n + 1)).passed
   passed_more app n h =
       subst (λ (turn : Turn). IsAmong app turn.passed) (sym (turn_more t own waits now (turn_from s) n))

@@ -153,7 +153,7 @@ module _ (own : Origin) (s : StateValue) (is : IsState s) (value : Bool) where
     allows true e = refl
     allows false e = cc
 
-    -- after a permit the key is permitted exactly if the permit's value is true
+    -- after a permit the key is permitted exactly when the permit's value is true
     pub permit_holds : (default : Bool) → IsPermitted key default (permissions_of (join s p)) ↔ (value ≡ true)
     permit_holds default = subst (λ (v : PermissionsValue). IsPermitted key default v ↔ (value ≡ true)) (sym (permissions-join s p)) (
       λ h. elim h [
@@ -188,7 +188,7 @@ module _ (own : Origin) (s : StateValue) (is : IsState s) (value : Bool) where
     bars true e = refl
     bars false e = cc
 
-    -- after a drain the incarnation is drained exactly if the drain's value is true
+    -- after a drain the incarnation is drained exactly when the drain's value is true
     pub drain_holds : IsDrained at (drains_of (join s q)) ↔ (value ≡ true)
     drain_holds = subst (λ (v : DrainsValue). IsDrained at v ↔ (value ≡ true)) (sym (drains-join s q)) (
       λ h. bars value (sym (each_says_so origins_total exact_origins drain_vote true own s drains at value s.drains q.drains drain_is h.0 IsDown h.1)),

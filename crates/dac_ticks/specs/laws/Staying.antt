@@ -1,4 +1,4 @@
--- An application claimed in a turn stays with its claimer to the end of the turn, because later claims are of other
+-- An application claimed in a turn stays with its claimer to the end of the turn, because later claims are for other
 -- applications and leave everything unchanged on which its verdict depends.
 use Rattle.std.proofs.Common.{◌≡◌, ℕ, ◌+◌, ◌<◌, ◌≤◌, true, false, List, [], ◌∷◌, Option, Some, refl, sym, ap, subst, ◌∙◌, arith, inl, inr}
 use Rattle.std.specs.Prelude.{◌==◌}
@@ -29,7 +29,7 @@ use Rattle.dac_ticks.specs.laws.Words.{own_if}
 use Rattle.dac_ticks.specs.laws.Claimed.{MayRunAlike, alike_itself, alike_through, claimed_as, own_claim}
 use Rattle.dac_ticks.specs.laws.Again.{Takes, takes_alike, takes_kept, takes_runs, first_of, after, after_alike, after_state, after_other, after_takes, kept_here}
 
--- a claim is of one application and has one term
+-- a claim has one application and one term
 one_app : {app other : AppId} {term k : ℕ} {how hows : How} {from froms : Option NodeId} → Claim app term how from ≡ Claim other k hows froms → other ≡ app
 one_app e = cc
 
@@ -87,7 +87,7 @@ module _ (t : Table) (own : Origin) (waits : List (Option Noted)) (now : ℕ) (s
     left_alike : MayRunAlike u left
     left_alike = after_alike t own u g.state app
 
-    -- an operation that claims an application, and is this claim, is of this application under its next term
+    -- an operation that claims an application, and is this claim, claims this application under its next term
     module _ (b : AppId) (o : Operation) (is : o ≡ claim) (c : ClaimsApp b o) where
       of_this : app ≡ b
       of_this = let by = claimed_as u app (verdict_of t u app) in one_app (sym c.3 ∙ ((λ i. (is i).act) ∙ by.2))
