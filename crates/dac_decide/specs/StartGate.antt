@@ -1,6 +1,6 @@
 -- The start gate, after OTP's kernel manual, parameters `sync_nodes_mandatory`, `sync_nodes_optional` and
 -- `sync_nodes_timeout`. A booted node waits for all mandatory and optional nodes. The gate opens when all of them are
--- up, or when the timeout has passed and all mandatory ones are up. If it has passed and one of these isn't up, the node
+-- up, or when the timeout has passed and all mandatory ones are up. If it has passed and one of these isn't, the node
 -- terminates. Where no time is defined, it doesn't wait.
 use Rattle.std.specs.Prelude.{◌≡◌, ◌⊎◌, ℕ, ◌<◌, Bool, IsTrue, not, ◌&&◌, ◌||◌, nat_lt, is_some, if◌then◌else◌, ⊤}
 use Rattle.std.specs.List.{list_all}

@@ -7,9 +7,10 @@ ghost use Rattle.dac_peers.specs.InWords.{NothingIsKept, BeginsWhereAcked, AcksA
 /// the log has all later ones. The acknowledgement for a node is the latest position got from it. Nothing needs to be
 /// shipped to a node that has acknowledged everything, unless a reply to it is due.
 ///
-/// What all nodes have acknowledged is the least of what each other node did as its present incarnation. Positions got
-/// never go back. The greatest number that each incarnation acknowledged is recorded. A reply to a node is due after a
-/// message with a state from it, until something is shipped to it. No more deltas are acknowledged than there are.
+/// The number that all nodes have acknowledged is the least of the other nodes' numbers, each as its present
+/// incarnation. Positions got never go back. The greatest number that each incarnation acknowledged is recorded. A
+/// reply to a node is due after a message with a state from it, until something is shipped to it. No more deltas are
+/// acknowledged than there are.
 pub fn peers_in_words()
     ensures new { NothingIsKept }
     ensures begins { BeginsWhereAcked }

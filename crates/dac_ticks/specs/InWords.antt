@@ -53,7 +53,7 @@ pub record IsClaimOf (own : Origin) (s : StateValue) (app : AppId) (verdict : Ve
   pub comes : ComesBy s app verdict how from
   pub claims : IsNextClaim s app how from o.act
 
--- what a turn issues and passes over from some state on, for the later applications
+-- the operations and passed applications of the rest of a turn, which begins in some state
 abbrev pub Onward : Type 1
 Onward = StateValue → List Operation → List AppId → Type 0
 
