@@ -1,4 +1,4 @@
-//! An application at a node: its key at the live incarnation, and why it isn't taken up.
+//! An application at a node: its key at the live incarnation, and why a command about it is refused.
 
 ghost use Rattle.std.specs.Prelude.{◌≡◌};
 ghost use Rattle.dac_commands.specs.Commands.{live_or_none, live_key};
@@ -10,7 +10,7 @@ use dac_events::Refusal;
 use dac_placement::State;
 use dac_wishes::Key;
 
-/// The live incarnation of a node, 0 where none is live.
+/// The live incarnation of a node, or 0 if none is live.
 pub(crate) fn live_of(state: &State, node: NodeId) -> u64
     ensures { result ≡ live_or_none state.now node }
 {
@@ -28,7 +28,7 @@ pub(crate) fn key_of(state: &State, app: AppId, node: NodeId) -> Key
     }
 }
 
-/// Why a command about an application and a node isn't taken up, if it isn't.
+/// Why a command about an application and a node is refused, if it is.
 pub(crate) fn refusal_to_name(
     config: &Config,
     state: &State,

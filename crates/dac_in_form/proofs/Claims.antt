@@ -1,4 +1,5 @@
--- What a tick claims is in form. A candidate is in the application's list, and what is taken was held by a node.
+-- The claims of a tick are in form, because a candidate is in the application's list, and a former holder is in the
+-- configuration.
 use Rattle.std.proofs.Common.{◌≡◌, ℕ, ◌<◌, true, false, nat_eq, List, [], ◌∷◌, Option, Some, refl, sym, ap, subst, ◌∙◌, inl, inr, true≢false, eq-eqb}
 use Rattle.std.specs.FinMap as map
 use Rattle.std.proofs.lemmas.Map.Views.{exact_unsigned_eq}
@@ -32,13 +33,13 @@ use Rattle.dac_model_world.specs.laws.Carried.{none_some}
 use Rattle.dac_in_form.specs.InForm.{AreInForm}
 use Rattle.dac_in_form.proofs.MayIssue.{MayClaim, claim_is}
 
--- one operation in form, and more
+-- an operation in form, and others in form
 pub one_more : (t : Table) (o : Operation) (os : List Operation) → IsOperation Two t o → AreInForm t os → AreInForm t (o ∷ os)
 one_more t o os first rest x (inl e) = subst (IsOperation Two t) (sym e) first
 one_more t o os first rest x (inr i) = rest x i
 
 module _ (t : Table) (s : StateValue) (app : AppId) where
-  -- whoever is a candidate is the first choice
+  -- a candidate is the first choice
   first_of : (verdict : Verdict) (n : NodeId) → IsVerdict t s app verdict → candidate_of verdict ≡ Some n → IsFirst t s app n
   first_of (Start m) n is e = subst (IsFirst t s app) (some_same m n e) is.1
   first_of (Failover m) n is e = subst (IsFirst t s app) (some_same m n e) is.1
@@ -52,7 +53,7 @@ module _ (t : Table) (own : Origin) (s : StateValue) (may : MayClaim t own s) (a
   holder_there : (holder : NodeId) → IsHeldAt s app holder → holder.0 < node_count t
   holder_there holder held = subst (λ (n : NodeId). n.0 < node_count t) held.2 (may.claimers app held.0 held.1)
 
-  -- where a claim comes from fits how it comes
+  -- the former holder fits the kind of claim
   from_is : (verdict : Verdict) (how : How) (from : Option NodeId) → ComesBy s app verdict how from → IsFromFor (node_count t) how from
   from_is (Start n) how from by = subst (λ h. IsFromFor (node_count t) h from) (sym by.0) by.1
   from_is (Failover n) how from by = subst (λ h. IsFromFor (node_count t) h from) (sym by.0) (by.1, by.2.1, holder_there by.1 by.2.0)
@@ -66,7 +67,7 @@ module _ (t : Table) (own : Origin) (s : StateValue) (may : MayClaim t own s) (a
     abbrev after : StateValue
     after = join s (meaning_of (next_operation s own (claim_act s app how from) ∷ []))
 
-    -- who made the claims that stand after a claim by the incarnation
+    -- the claimers after a claim by the incarnation
     claimers_after : (b : AppId) (c : ClaimValue) → map.get after.claims b ≡ Some c → c.origin.node.0 < node_count t
     claimers_after b c e = elim (nat_eq b.0 app.0) as (λ same. nat_eq b.0 app.0 ≡ same → c.origin.node.0 < node_count t) [
       | true ↦ λ same.

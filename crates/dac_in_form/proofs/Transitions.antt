@@ -1,4 +1,4 @@
--- What an accepted event does at a running node in form: what it issues, ships and keeps of peers is in form.
+-- The transition of an accepted event: its operations, its message and its peer table are in form.
 use Rattle.std.proofs.Common.{◌≡◌, ℕ, ◌<◌, ◌≤◌, nat_eq, List, [], ◌∷◌, length, None, refl, arith, leb-false}
 use Rattle.std.specs.List.{AllByRecursion}
 use Rattle.dac_base.specs.declared.limits.TheConstants.{MAX_COUNTER}
@@ -33,7 +33,7 @@ use Rattle.dac_in_form.proofs.Commands.{command_is}
 use Rattle.dac_in_form.proofs.Claims.{one_more, turn_is}
 use Rattle.dac_in_form.proofs.Heads.{IsHead, AreGot, got_by_is, head_is}
 
--- what a transition issues, ships and keeps of peers
+-- the operations, message and peer table of a transition are in form
 pub record IsTransitionInForm (t : Table) (transition : Transition) : Type 0 where
   pub issued : AreInForm t (issued_by transition.reply)
   pub shipped : AllByRecursion (IsHead t) (shipped_by transition.reply)
@@ -55,11 +55,11 @@ module _ (t : Table) (r : ModelRunning) (may : MayIssue t r.origin (joined r.log
         got = got;
       }
 
-  -- a ship that isn't refused is to a node of the configuration
+  -- an accepted ship is to a node of the configuration
   ship_there : (to : NodeId) → refusal_on t (running_shown t r) (Ship to) ≡ None → to.0 < node_count t
   ship_there to none = leb-false (node_count t) to.0 (none_is ((no_node t to, UnknownNode) ∷ (nat_eq to.0 r.origin.node.0, OnSelf) ∷ (is_up_to_date r.peers (joined r.log) r.base (length r.log) to, UpToDate) ∷ []) none).0
 
-  -- What comes by a message is in form but for what it brings.
+  -- The transition is in form, if an incoming message is, except for its content.
   pub transition_is : (e : Event) → refusal_on t (running_shown t r) e ≡ None → ((m : Message) → e ≡ Hear m → IsHead t m) → IsTransitionInForm t (transition_on t r e)
   transition_is (Boot now) none comes = no_on none
   transition_is Crash none comes = record { issued = none_issued t; shipped = tt; got = got }

@@ -29,50 +29,47 @@ use dac_origins::Origin;
 use dac_placement::{State, Verdict, eligible, holder, verdict};
 use std::alloc::Global;
 
-/// What a controller does at a tick.
+/// A turn: a node's pass over all its applications at one tick, with its result.
 #[derive(Drop)]
 pub struct Turn {
-    /// The claims that it issues, in the order of the applications.
+    /// The claims to issue, in the order of the applications' numbers.
     pub ops: OpList,
-    /// The applications that it was to claim, but whose terms are used up, in their order.
+    /// The applications that the node should claim, but whose terms are used up, in the order of their numbers.
     pub passed: AppList,
-    /// The state that the claims leave, where there are any.
+    /// The state after the claims, if there are any.
     pub left: Option<State>,
 }
 
-/// What a tick has done so far.
+/// An unfinished turn.
 #[derive(Drop)]
 pub(crate) struct TurnSoFar {
-    /// The claims.
+    /// The claims so far.
     pub ops: Vec<Op>,
-    /// The applications that were passed.
+    /// The applications passed over so far.
     pub passed: Vec<AppId>,
-    /// The state that the claims left, where there are any.
+    /// The state after the claims, if there are any.
     pub left: Option<State>,
 }
 
-/// What a tick does about an application.
+/// The decision about one application in a turn.
 #[derive(Drop)]
 pub(crate) enum Found {
-    /// Nothing: it isn't to be claimed here, or not yet.
+    /// The application isn't the node's to claim, or not yet.
     Left,
-    /// It is passed, since its terms are used up.
+    /// The application is passed over, because its terms are used up.
     Passed,
-    /// It is claimed by this operation, which leaves this state.
+    /// The application is claimed by this operation, which leaves this state.
     Claimed(Op, State),
 }
 
-/// What a controller that runs as this incarnation with this state does at a tick at this moment, in milliseconds.
+/// The turn of a tick at the incarnation `own` with this state, at the moment `now` in milliseconds.
 ///
-/// The applications are taken in the order of the configuration file. One whose verdict names the controller's own
-/// node, and is due, is claimed for this node. The claim has its next term and the incarnation's next counter. Each
-/// application is looked at in the state that the claims before it leave. A failover and a takeover name the node
-/// that held the application, a start and a move none. An application whose terms are used up is passed. A board of the
-/// state gives the verdicts until something is claimed. (After OTP's Design Principles, chapter Distributed Applications:
-/// applications are started, restarted and moved as nodes come and go. That a controller looks after them at its ticks,
-/// and how it claims them, is this project's own.)
-///
-/// [`NoMemory`] is the only error.
+/// The applications are taken in the order of the configuration file, each in the state that the earlier claims left.
+/// An application whose verdict names the controller's node, and is due, is claimed under its next term and the
+/// incarnation's next counter. A failover or takeover names the node that held the application. An application whose
+/// terms are used up is passed over. `first`, a board of the state, supplies the verdicts until the first claim. (After
+/// OTP's Design Principles, chapter Distributed Applications: applications are started, restarted and moved as nodes
+/// come and go. That a controller does so at its ticks, and how it claims them, is this project's own.)
 pub fn turn_of(
     alloc: Global,
     config: &Config,
@@ -112,7 +109,7 @@ pub fn turn_of(
 }
 
 impl TurnSoFar {
-    /// The state that the claims have left, where the tick began with this one.
+    /// The state after the claims so far, in a tick that began in `first`.
     fn state<'a>(&'a self, first: &'a State) -> &'a State
         ensures { result.now ≡ (so_far first.now self.now).state }
     {
@@ -122,7 +119,8 @@ impl TurnSoFar {
         }
     }
 
-    /// A board of the state that the claims have left: that of the state with which the tick began, where there are none.
+    /// The board of the state after the claims so far: that of the tick's first state if there is no claim, otherwise
+    /// none.
     fn board<'a>(&self, first: Option<&'a Board>) -> Option<&'a Board>
         ensures { (t : Table) (s : Value) → IfSome (option_copied first.entry) (λ b. Shows t b s)
             → IfSome (option_copied result) (λ b. Shows t b (so_far s self.now).state) }
@@ -133,7 +131,7 @@ impl TurnSoFar {
         first
     }
 
-    /// Adds what was found of an application.
+    /// Adds the decision about an application.
     fn add(&mut self, app: AppId, found: Found) -> Result<(), NoMemory>
         ensures added { IfOk result (λ _. (first : Value)
             → so_far first self.new ≡ added (so_far first self.old) app found) }
@@ -151,7 +149,7 @@ impl TurnSoFar {
     }
 }
 
-/// The board that is kept, if it goes by this configuration. It takes no memory.
+/// The maintained board, if it shows the same states under this configuration.
 pub fn board_under<'a>(kept: Option<&'a KeptBoard>, config: &Config) -> Option<&'a Board>
     ensures { (s : Value) → IfSome (option_copied kept.entry) (λ k. IsBoardOf k s)
         → IfSome (option_copied result) (λ b. Shows config.now b s) }
@@ -162,7 +160,7 @@ pub fn board_under<'a>(kept: Option<&'a KeptBoard>, config: &Config) -> Option<&
     }
 }
 
-/// What is to be done about an application: it is claimed or passed where it is this node's to claim, and left otherwise.
+/// The decision about an application: claim it or pass it over if it is this node's to claim, and otherwise leave it.
 fn found_of(
     alloc: Global,
     config: &Config,
@@ -179,7 +177,7 @@ fn found_of(
     requires shows { IfSome (option_copied board) (λ b. Shows config.now b state.now) }
     ensures { IfOk result (λ found. found ≡ found_of config.now own waits.now now state.now app) }
 {
-    // whom a verdict names may run the application, so none is computed where this node may not
+    // a verdict names only eligible nodes, so that none is needed if this node isn't
     if board.is_none() && !eligible(config, state, app, own.node) {
         return Ok(Found::Left);
     }
@@ -195,7 +193,7 @@ fn found_of(
     Ok(Found::Claimed(op, after))
 }
 
-/// The verdict on an application: the board's, where there is one.
+/// The verdict on an application, from the board if there is one.
 fn verdict_of(config: &Config, state: &State, board: Option<&Board>, app: AppId) -> Verdict
     requires listed { app.0 < app_count config.now }
     requires shows { IfSome (option_copied board) (λ b. Shows config.now b state.now) }
@@ -226,7 +224,7 @@ fn is_mine(
     }
 }
 
-/// The claim of an application, whose verdict is this one.
+/// The claim of an application by this verdict.
 fn claim_by(own: Origin, state: &State, app: AppId, verdict: Verdict) -> Op
     requires knows { KnowsItself own state.now }
     requires left { used_up state.now own ≡ false }
@@ -246,7 +244,7 @@ fn claim_by(own: Origin, state: &State, app: AppId, verdict: Verdict) -> Op
     }
 }
 
-/// The node that holds an application.
+/// The node of an application's greatest claim.
 fn held_by(state: &State, app: AppId) -> Option<NodeId>
     ensures { result ≡ held_by state.now app }
 {
@@ -254,7 +252,7 @@ fn held_by(state: &State, app: AppId) -> Option<NodeId>
     Some(origin.node)
 }
 
-/// The state that hearing an operation leaves.
+/// The state after an operation is merged.
 fn join_operation(alloc: Global, state: &State, op: &Op) -> Result<State, NoMemory>
     ensures { IfOk result (λ after. after ≡ join state.now (meaning_of (op.now ∷ []))) }
 {

@@ -1,4 +1,4 @@
--- What an accepted command issues is the operation that it says.
+-- An accepted command issues the operation that it describes.
 use Rattle.std.proofs.Common.{◌≡◌, ℕ, Bool, true, false, not, List, [], ◌∷◌, Option, Some, None, refl, sym, ◌∙◌, true≢false}
 use Rattle.std.specs.Prelude.{is_some, unwrap_or}
 use Rattle.dac_base.specs.declared.NodeId.{NodeId}
@@ -33,7 +33,7 @@ abbrev pub NoneIs : List (Bool × Refusal) → Type 0
 NoneIs [] = Unit {0}
 NoneIs (c ∷ cs) = (c.0 ≡ false) × NoneIs cs
 
--- where none of the causes holds, the first doesn't, nor one after it
+-- if no cause holds, neither the first one nor any later one does
 first-none : (b : Bool) (why : Refusal) (cs : List (Bool × Refusal)) → first ((b, why) ∷ cs) ≡ None → (b ≡ false) × (first cs ≡ None)
 first-none true why cs e = cc
 first-none false why cs e = (refl, e)
@@ -42,7 +42,7 @@ pub none_is : (cs : List (Bool × Refusal)) → first cs ≡ None → NoneIs cs
 none_is [] e = tt
 none_is (c ∷ cs) e = let h = first-none c.0 c.1 cs e in (h.0, none_is cs h.1)
 
--- all causes why a command is refused
+-- all causes to refuse a command
 abbrev pub all_causes : Table → Origin → StateValue → Command → List (Bool × Refusal)
 all_causes t own s c = (declared_down own s, DeclaredDown) ∷ causes_of t own s c
 
@@ -56,8 +56,8 @@ module _ (t : Table) (own : Origin) (s : StateValue) where
   left (Drain node value) e = (none_is (all_causes t own s (Drain node value)) e).1.1.1.1.0
   left (Takeover app) e = (none_is (all_causes t own s (Takeover app)) e).1.1.1.1.1.1.1.1.0
 
-  -- ---- what is said
-  -- the number of a live incarnation
+  -- ---- the act of a command
+  -- the live incarnation of a node that is live
   pub live_there : (node : NodeId) → not_live s node ≡ false → IsLive s.lives node (live_or_none s node)
   live_there node h = by_live (live s node) refl h
     where

@@ -38,7 +38,7 @@ use Rattle.dac_model_node.specs.Step.{goes_on, model_step, step_by}
 use Rattle.dac_model_node.specs.Again.{ClaimsNothing, HoldsState, SecondTickClaimsNothing}
 use Rattle.dac_model_node.specs.laws.Steps.{joined-append}
 
--- ---- an incarnation stays live over its own claims
+-- ---- an incarnation stays live through its own claims
 
 module _ (t : Table) (own : Origin) where
   pub record StillUp (s : StateValue) : Type 0 where
@@ -57,7 +57,7 @@ module _ (t : Table) (own : Origin) where
   still_up waits now s up = turn_reaches t own waits now (λ n turn. StillUp turn.state) s up (λ n turn lt h.
       turned_by t own waits now (λ (after : Turn). StillUp after.state) turn (numbered n) (λ none. h) (λ mine used. h) (λ mine left. after_claim turn.state (numbered n) h))
 
--- ---- declared down
+-- ---- incarnations that are declared down
 
 live_if : (own : Origin) (s : StateValue) → declared_down own s ≡ false → IsLive s.lives own.node own.inc
 live_if own s h = (up_is s own).0 (turned (is_up s own) h)
@@ -84,7 +84,7 @@ module _ (t : Table) (me : NodeId) (last now : ℕ) (r : ModelRunning) (is : IsS
   abbrev turn : Turn
   turn = turn_of t r.origin (waits_of t noted) now s
 
-  -- what runs after the first
+  -- the running node after the first tick
   abbrev later : ModelRunning
   later = record { origin = r.origin; moments = record { booted = r.moments.booted; last = now }; is_open = true; notes = noted; log = r.log ++ meanings turn.ops; base = base_after r.base (length (r.log ++ meanings turn.ops)) 0; peers = r.peers }
 
@@ -94,7 +94,7 @@ module _ (t : Table) (me : NodeId) (last now : ℕ) (r : ModelRunning) (is : IsS
   later_state : joined later.log ≡ turn.state
   later_state = joined-append r.log (meanings turn.ops) ∙ sym (state_joined t r.origin (waits_of t noted) now s)
 
-  -- the second turn, from this state
+  -- the second turn, in this state
   abbrev again : StateValue → Turn
   again u = turn_of t r.origin (waits_of t (record { state = u; moment = now } ∷ noted)) now u
 
@@ -126,14 +126,14 @@ module _ (t : Table) (me : NodeId) (last now : ℕ) (r : ModelRunning) (is : IsS
       )
     ] refl
 
-  -- by what the start gate answered at the first
+  -- by the state of the start gate at the first tick
   by_opening : (o : Opening) (ops : List Operation) (passed : List AppId) → IsLive s.lives r.origin.node r.origin.inc → ◌≡◌ {A = Result Reply Refusal} (Ok (ticks_by o t (running_shown t r) (waits_of t noted) now).reply) (Ok (Ticked ops passed)) →
       ClaimsNothing passed (model_step t me (record { last = last; running = goes_on r (record { state = s; moment = now }) (ticks_by o t (running_shown t r) (waits_of t noted) now) }) (Tick now)).answer
   by_opening Shut ops passed up e = cc
   by_opening GiveUp ops passed up e = cc
   by_opening Opened ops passed up e = let same : turn.passed ≡ passed = cc in subst (λ p. ClaimsNothing p (model_step t me there (Tick now)).answer) same (claims_nothing up)
 
-  -- by why the first was refused, if it was
+  -- by the refusal of the first tick, if any
   by_refusal : (x : Option Refusal) (ops : List Operation) (passed : List AppId) → refusal_to_tick t (running_shown t r) now ≡ x → (step_by x t me (record { last = last; running = Some r }) (Tick now)).answer ≡ Ok (Ticked ops passed) →
       ClaimsNothing passed (model_step t me (step_by x t me (record { last = last; running = Some r }) (Tick now)).node (Tick now)).answer
   by_refusal (Some why) ops passed e answer = cc

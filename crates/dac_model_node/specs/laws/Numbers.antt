@@ -1,4 +1,4 @@
--- What an accepted event adds has numbers left for it.
+-- There are numbers for the deltas that an accepted event adds.
 use Rattle.std.proofs.Common.{◌≡◌, ◌≤◌, ℕ, ◌+◌, Bool, true, false, not, ◌&&◌, List, [], ◌∷◌, length, Option, Some, None, refl, arith}
 use Rattle.std.specs.Prelude.{max, cond}
 use Rattle.std.proofs.lemmas.Bool.{ltb-false}
@@ -39,7 +39,7 @@ obeyed t r c none =
     let both = either_none (refusal_of_command t r.origin r.state c) (first ((too_many_deltas r 1, DotsUsedUp) ∷ [])) none in
     (both.0, (none_is ((too_many_deltas r 1, DotsUsedUp) ∷ []) both.1).0)
 
--- a turn claims no more than each application once
+-- a turn claims each application at most once
 pub few_claims : (t : Table) (own : Origin) (waits : List (Option Noted)) (now : ℕ) (s : StateValue) → length (turn_of t own waits now s).ops ≤ app_count t
 few_claims t own waits now s = turn_reaches t own waits now (λ n turn. length turn.ops ≤ n) s (omega arith) (λ n turn lt h.
     turned_by t own waits now (λ (after : Turn). length after.ops ≤ n + 1) turn (numbered n) (λ none. omega arith) (λ mine used. omega arith)
@@ -49,7 +49,7 @@ module _ (r : RunningValue) where
   room_if : (more : ℕ) → too_many_deltas r more ≡ false → r.kept.count + more ≤ MAX_COUNTER
   room_if more h = ltb-false MAX_COUNTER (r.kept.count + more) h
 
-  -- what comes and doesn't overflow
+  -- an incoming state that doesn't overflow
   pub room_to_hear : (body : StateValue) → r.kept.count ≤ MAX_COUNTER → overflows r body ≡ false → r.kept.count + length (brings r.state body) ≤ MAX_COUNTER
   room_to_hear body countable h = by (is_below body r.state) h
     where
@@ -74,7 +74,7 @@ module _ (t : Table) (r : RunningValue) (noted : List (Option Noted)) (countable
   not_heard : (m : Message) → refusal_to_hear r m ≡ None → overflows r (content_of m.body) ≡ false
   not_heard m none = (none_is (causes_to_hear r m) none).1.1.0
 
-  -- what an accepted event adds has numbers left for it
+  -- there are numbers for the deltas that an accepted event adds
   pub fits : (e : Event) → refusal_on t r e ≡ None → r.kept.count + length (transition_of t r noted e).adds ≤ MAX_COUNTER
   fits (Boot now) none = nothing_more
   fits Crash none = nothing_more

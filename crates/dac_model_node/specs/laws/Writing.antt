@@ -1,4 +1,4 @@
--- What an accepted event writes, and how it is answered.
+-- The operations and replies of an accepted event.
 use Rattle.std.proofs.Common.{◌≡◌, ◌⊎◌, ◌↔◌, ◌≤◌, ◌+◌, ℕ, ◌-◌, Bool, true, false, not, cond, List, [], ◌∷◌, Option, Some, None, refl, sym, subst, ◌∙◌, inl, inr, true≢false}
 use Rattle.dac_base.specs.declared.limits.TheConstants.{MAX_COUNTER}
 use Rattle.dac_base.specs.declared.NodeId.{NodeId}
@@ -37,7 +37,7 @@ module _ (t : Table) (r : RunningValue) (now : ℕ) where
   abbrev elapsed : ℕ
   elapsed = now - r.moments.booted
 
-  -- the start gate was open, or answers so now
+  -- the start gate was open, or this is its state now
   abbrev pub IsStartGate : Opening → Type 0
   IsStartGate Opened = (r.is_open ≡ true) ⊎ IsAsked t r now Opened
   IsStartGate Shut = IsAsked t r now Shut
@@ -54,7 +54,7 @@ module _ (t : Table) (r : RunningValue) (now : ℕ) where
   start_gate false Shut was is = asked Shut was is
   start_gate false GiveUp was is = asked GiveUp was is
 
-  -- what the notes of the ticks say with this tick's
+  -- the waits with this tick's note
   abbrev pub NotesSo : List (Option Noted) → Type 0
   NotesSo noted = (notes : List Note) → r.waits ≡ waits_of t notes → noted ≡ waits_of t (record { state = r.state; moment = now } ∷ notes)
 
@@ -69,7 +69,7 @@ module _ (t : Table) (r : RunningValue) (now : ℕ) where
   ticks_so GiveUp noted is room so = start_gate r.is_open GiveUp refl is
   ticks_so Opened noted is room so = (start_gate r.is_open Opened refl is, claims_so noted (so refl) room)
 
--- ---- what comes
+-- ---- incoming states
 
 is_new : (s body : StateValue) → (not (is_below body s) ≡ true) ↔ (¬ IsBelow body s)
 is_new s body = by (is_below body s) refl

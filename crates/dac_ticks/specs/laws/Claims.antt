@@ -1,5 +1,5 @@
--- What a turn issues. Each claim is the next operation of its incarnation in the state that those before it left. The
--- state that all of them leave is the first one with what each means.
+-- The operations of a turn. Each claim is the incarnation's next operation in the state that the earlier ones left, and
+-- the last state is the first one joined with the meaning of each.
 use Rattle.std.proofs.Common.{◌≡◌, ℕ, ◌+◌, ◌≤◌, false, List, [], ◌∷◌, ◌++◌, Option, length, refl, sym, ap, subst, ◌∙◌, arith, suc, append-nil, append_assoc}
 use Rattle.std.specs.Prelude.{◌<◌, nat_le, map as list_map, fold}
 use Rattle.std.proofs.lemmas.Bool.{false_from_ne_true, leb-true}
@@ -21,11 +21,12 @@ use Rattle.dac_ticks.specs.Issued.{AreIssued}
 use Rattle.dac_ticks.specs.laws.Counters.{counter_after}
 use Rattle.dac_ticks.specs.laws.Turning.{AreBelow, numbered, apps_below, claim_is_bare, turned_by}
 
--- the state that hearing these operations one after another leaves
+-- the state after hearing these operations in order
 abbrev pub heard_in : StateValue → List Operation → StateValue
 heard_in s os = fold join s (list_map (λ (o : Operation). meaning_of (o ∷ [])) os)
 
--- the operation claims an application of the configuration by its verdict in this state, and a term and a counter were left for it
+-- the operation claims an application of the configuration by its verdict in this state, and a term and a counter were
+-- left
 pub record IsNextClaimIn (t : Table) (own : Origin) (s : StateValue) (o : Operation) : Type 0 where
   pub app : AppId
   pub listed : app.0 < app_count t
@@ -33,14 +34,14 @@ pub record IsNextClaimIn (t : Table) (own : Origin) (s : StateValue) (o : Operat
   pub counter : used_up s own ≡ false
   pub is : o ≡ claim_of t own s app
 
--- each of these is such a claim in the state that those before it left
+-- each operation is such a claim in the state that the earlier ones left
 abbrev pub AreNextClaims : Table → Origin → StateValue → List Operation → Type 0
 AreNextClaims t own s [] = Unit {0}
 AreNextClaims t own s (o ∷ os) = IsNextClaimIn t own s o × AreNextClaims t own (join s (meaning_of (o ∷ []))) os
 
--- ---- a turn goes on from another
+-- ---- a turn continues
 
--- the later turn issued these more, and heard them
+-- the later turn issued these further operations, and heard them
 pub record GoesOn (turn later : Turn) (ops : List Operation) : Type 0 where
   pub ops_are : later.ops ≡ turn.ops ++ ops
   pub state : later.state ≡ heard_in turn.state ops
@@ -48,11 +49,11 @@ pub record GoesOn (turn later : Turn) (ops : List Operation) : Type 0 where
 pub goes_itself : (turn : Turn) → GoesOn turn turn []
 goes_itself turn = record { ops_are = sym (append-nil turn.ops); state = refl }
 
--- where a claim was issued first
+-- a claim followed by further operations
 pub goes_claiming : (turn later : Turn) (o : Operation) (ops : List Operation) → GoesOn (claiming turn o) later ops → GoesOn turn later (o ∷ ops)
 goes_claiming turn later o ops on = record { ops_are = on.ops_are ∙ append_assoc turn.ops (o ∷ []) ops; state = on.state }
 
--- ---- room for what is left of the applications
+-- ---- a counter for each remaining application
 
 pub less_room : (g k m : ℕ) → g + suc k ≤ m → g + k ≤ m
 less_room g k m h = omega arith
@@ -67,7 +68,7 @@ pub counter_left : (g k m : ℕ) → g + suc k ≤ m → nat_le m g ≡ false
 counter_left g k m h = false_from_ne_true (nat_le m g) (λ e. past g k m (leb-true m g e) h)
 
 module _ (t : Table) (own : Origin) (waits : List (Option Noted)) (now : ℕ) where
-  -- what a turn of these applications issues from here on
+  -- the operations that a turn issues for these applications from here on
   abbrev pub Issues : (StateValue → List Operation → Type 0) → Turn → Turn → Type 0
   Issues P turn later = (ops : List Operation) × (GoesOn turn later ops × P turn.state ops)
 
@@ -82,11 +83,11 @@ module _ (t : Table) (own : Origin) (waits : List (Option Noted)) (now : ℕ) wh
       let rest = goes_on apps (claiming turn o) in
       (o ∷ rest.0, (goes_claiming turn (turn_over t own waits now (claiming turn o) apps) o rest.0 rest.1.0, ((o.act, refl), rest.1.1))))
 
-  -- whatever there is room for, what a turn issues are its incarnation's operations, one after another
+  -- a turn's operations are its incarnation's next ones in sequence, even if counters run out
   pub claims_issued : (s : StateValue) → AreIssued own s (turn_of t own waits now s).ops
   claims_issued s = let all = goes_on (apps_of t) (turn_from s) in subst (AreIssued own s) (sym all.1.0.ops_are) all.1.1
 
-  -- the state that a turn leaves is the first one with what each of its claims means
+  -- the last state of a turn is the first one joined with the meaning of each claim
   pub state_joined : (s : StateValue) → (turn_of t own waits now s).state ≡ heard_in s (turn_of t own waits now s).ops
   state_joined s = let all = goes_on (apps_of t) (turn_from s) in all.1.0.state ∙ ap (heard_in s) (sym all.1.0.ops_are)
 
@@ -107,7 +108,7 @@ module _ (t : Table) (own : Origin) (waits : List (Option Noted)) (now : ℕ) wh
         (goes_claiming turn (turn_over t own waits now (claiming turn o) apps) o rest.0 rest.1.0, (record { app = app; listed = below.0; term = left; counter = counter_left g (length apps) MAX_COUNTER room; is = refl }, rest.1.1)),
       ))
 
-  -- what a turn issues are such claims, where there is a counter for each application
+  -- a turn's operations are such claims, if there is a counter for each application
   pub claims_are : (s : StateValue) → HasRoom t own s → AreNextClaims t own s (turn_of t own waits now s).ops
   claims_are s room =
       let all = claims_next (apps_of t) (apps_below 0 (app_count t) (app_count t) (omega arith)) (turn_from s) (subst (λ n. greatest_counter own s.known + n ≤ MAX_COUNTER) (sym (length-map-range_with_len numbered 0 (app_count t))) room) in

@@ -1,5 +1,5 @@
--- What is claimed in a turn stays with its claimer to the end of the turn: later claims are of other applications, and leave
--- all that a verdict on this one looks at.
+-- An application claimed in a turn stays with its claimer to the end of the turn, because later claims are for other
+-- applications and leave everything unchanged on which its verdict depends.
 use Rattle.std.proofs.Common.{◌≡◌, ℕ, ◌+◌, ◌<◌, ◌≤◌, true, false, List, [], ◌∷◌, Option, Some, refl, sym, ap, subst, ◌∙◌, arith, inl, inr}
 use Rattle.std.specs.Prelude.{◌==◌}
 use Rattle.std.specs.Option.{is_some, option_map_or}
@@ -29,7 +29,7 @@ use Rattle.dac_ticks.specs.laws.Words.{own_if}
 use Rattle.dac_ticks.specs.laws.Claimed.{MayRunAlike, alike_itself, alike_through, claimed_as, own_claim}
 use Rattle.dac_ticks.specs.laws.Again.{Takes, takes_alike, takes_kept, takes_runs, first_of, after, after_alike, after_state, after_other, after_takes, kept_here}
 
--- a claim is of one application and under one term
+-- a claim has one application and one term
 one_app : {app other : AppId} {term k : ℕ} {how hows : How} {from froms : Option NodeId} → Claim app term how from ≡ Claim other k hows froms → other ≡ app
 one_app e = cc
 
@@ -53,13 +53,13 @@ app_is : (a b : AppId) → a.0 ≡ b.0 → a ≡ b
 app_is a b e = λ i. record { 0 = e i }
 
 module _ (t : Table) (own : Origin) (waits : List (Option Noted)) (now : ℕ) (s : StateValue) where
-  -- What was claimed is the incarnation's now.
+  -- The incarnation holds the application that it claimed.
   record IsHeld (u : StateValue) (app : AppId) : Type 0 where
     there : own.node.0 < node_count t
     takes : Takes t own u app
 
-  -- Some applications were taken in turn. The state differs from the first one in claims alone, and these are under later
-  -- terms. An incarnation that is live holds what it claimed.
+  -- The state after some applications differs from the first one only in claims, and these are under later terms. A
+  -- live incarnation holds the applications that it claimed.
   record Holds (turn : Turn) : Type 0 where
     state : IsState turn.state
     alike : MayRunAlike s turn.state
@@ -73,7 +73,7 @@ module _ (t : Table) (own : Origin) (waits : List (Option Noted)) (now : ℕ) (s
   as_much : (a b c : ℕ) → a ≤ b → c ≡ b → a ≤ c
   as_much a b c le e = omega arith
 
-  -- where an application is claimed
+  -- an application is claimed
   module _ (app : AppId) (turn : Turn) (g : Holds turn) (named : candidate_of (verdict_of t turn.state app) ≡ Some own.node) where
     abbrev u : StateValue
     u = turn.state
@@ -87,7 +87,7 @@ module _ (t : Table) (own : Origin) (waits : List (Option Noted)) (now : ℕ) (s
     left_alike : MayRunAlike u left
     left_alike = after_alike t own u g.state app
 
-    -- it is the claim of this application under its next term
+    -- an operation that claims an application, and is this claim, claims this application under its next term
     module _ (b : AppId) (o : Operation) (is : o ≡ claim) (c : ClaimsApp b o) where
       of_this : app ≡ b
       of_this = let by = claimed_as u app (verdict_of t u app) in one_app (sym c.3 ∙ ((λ i. (is i).act) ∙ by.2))
@@ -98,7 +98,7 @@ module _ (t : Table) (own : Origin) (waits : List (Option Noted)) (now : ℕ) (s
       is_later : next_term s b ≤ c.0
       is_later = subst (λ (a : AppId). next_term s a ≤ c.0) of_this (as_much (next_term s app) (next_term u app) c.0 (g.grown app) under_next)
 
-    -- what the incarnation holds is another application
+    -- applications that the incarnation held before are others
     module _ (up : IsUp s own) where
       up_then : IsUp u own
       up_then = subst (λ (lives : Lives). IsLive lives own.node own.inc) g.alike.lives up

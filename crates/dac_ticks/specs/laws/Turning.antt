@@ -1,4 +1,4 @@
--- What happens at each application of a turn, and what holds at the end of a turn.
+-- One application of a turn, and the end of a turn.
 use Rattle.std.proofs.Common.{◌≡◌, ℕ, ◌+◌, ◌<◌, ◌≤◌, Bool, true, false, cond, List, [], ◌∷◌, Option, refl, sym, ap, subst, ◌∙◌, arith, zero, suc, add-one}
 use Rattle.std.specs.Prelude.{map as list_map}
 use Rattle.std.specs.List.{range_with_len}
@@ -26,7 +26,7 @@ use Rattle.dac_ticks.specs.laws.Counters.{counter_after, knows_after}
 abbrev pub numbered : ℕ → AppId
 numbered n = record { 0 = n }
 
--- n applications, from a on
+-- n applications, beginning with number a
 abbrev pub apps_from : ℕ → ℕ → List AppId
 apps_from a n = list_map numbered (range_with_len a n)
 
@@ -50,7 +50,7 @@ claim_is_bare s app (Kept n) = refl
 claim_is_bare s app Nobody = refl
 
 module _ (t : Table) (own : Origin) (waits : List (Option Noted)) (now : ℕ) where
-  -- What holds where nothing is done about an application, where it is passed, and where it is claimed, holds after it.
+  -- A property holds after an application if it holds when the application is left, passed over and claimed.
   pub turned_by : (P : Turn → Type 0) (turn : Turn) (app : AppId) → (is_mine t own waits now turn.state app ≡ false → P turn)
       → (is_mine t own waits now turn.state app ≡ true → terms_used_up turn.state app ≡ true → P (passing turn app))
       → (is_mine t own waits now turn.state app ≡ true → terms_used_up turn.state app ≡ false → P (claiming turn (claim_of t own turn.state app)))
@@ -64,7 +64,7 @@ module _ (t : Table) (own : Origin) (waits : List (Option Noted)) (now : ℕ) wh
         | false ↦ λ none. rests none
       ] refl
 
-  -- what is found of the application is done
+  -- a decision about an application is carried out
   by_tests : (turn : Turn) (app : AppId) (o : Operation) (mine used : Bool)
       → added turn app (cond mine (cond used Passed (Claimed o (join turn.state (meaning_of (o ∷ []))))) Left) ≡ cond mine (cond used (passing turn app) (claiming turn o)) turn
   by_tests turn app o true true = refl
@@ -74,13 +74,13 @@ module _ (t : Table) (own : Origin) (waits : List (Option Noted)) (now : ℕ) wh
   pub turned_is : (turn : Turn) (app : AppId) → added turn app (found_of t own waits now turn.state app) ≡ turned t own waits now turn app
   turned_is turn app = by_tests turn app (claim_of t own turn.state app) (is_mine t own waits now turn.state app) (terms_used_up turn.state app)
 
-  -- one application more
+  -- one more application
   pub turn_more : (turn : Turn) (n : ℕ) → turn_over t own waits now turn (apps_from 0 (n + 1)) ≡ turned t own waits now (turn_over t own waits now turn (apps_from 0 n)) (numbered n)
   turn_more turn n =
       ap (turn_over t own waits now turn) (map-range_with_len_more numbered 0 n n (omega arith))
       ∙ fold-append (turned t own waits now) turn (apps_from 0 n) (numbered n ∷ [])
 
-  -- What holds at the start and is kept by each application holds at the end.
+  -- A property that holds at the start, and is kept by each application, holds at the end.
   pub turn_reaches : (P : ℕ → Turn → Type 0) (s : StateValue) → P 0 (turn_from s)
       → ((n : ℕ) (turn : Turn) → n < app_count t → P n turn → P (n + 1) (turned t own waits now turn (numbered n)))
       → P (app_count t) (turn_of t own waits now s)
@@ -93,13 +93,13 @@ module _ (t : Table) (own : Origin) (waits : List (Option Noted)) (now : ℕ) wh
           subst (λ m. P m (turn_over t own waits now (turn_from s) (apps_from 0 m))) (add-one n)
           (subst (P (n + 1)) (sym (turn_more (turn_from s) n)) (keeps n (turn_over t own waits now (turn_from s) (apps_from 0 n)) (omega arith) before))
 
-  -- ---- what is known
+  -- ---- known dots
 
   pub turned_knows : (turn : Turn) (app : AppId) → KnowsItself own turn.state → KnowsItself own (turned t own waits now turn app).state
   turned_knows turn app knows = turned_by (λ after. KnowsItself own after.state) turn app (λ none. knows) (λ mine used. knows)
       (λ mine left. knows_after own turn.state (claimed_by turn.state app (verdict_of t turn.state app)) (claim_is_bare turn.state app (verdict_of t turn.state app)) knows)
 
-  -- an application uses one counter at most
+  -- an application uses at most one counter
   pub turned_counter : (turn : Turn) (app : AppId) → greatest_counter own (turned t own waits now turn app).state.known ≤ greatest_counter own turn.state.known + 1
   turned_counter turn app =
       turned_by (λ after. greatest_counter own after.state.known ≤ greatest_counter own turn.state.known + 1) turn app

@@ -1,4 +1,4 @@
--- A turn in words.
+-- A turn agrees with the words.
 use Rattle.std.proofs.Common.{◌≡◌, ℕ, ◌+◌, ◌<◌, ◌≤◌, Bool, true, false, cond, List, [], ◌∷◌, ◌++◌, Option, None, Some, length, refl, sym, ap, subst, ◌∙◌, arith, append-nil, append_assoc, inl, inr}
 use Rattle.std.specs.Prelude.{◌==◌}
 use Rattle.std.specs.Option.{is_some, option_map, option_map_or}
@@ -52,11 +52,11 @@ own_if own (Some n) e = let same = eqb-true n.0 own.node.0 e in λ i. Some (reco
 pub if_own : (own : Origin) (candidate : Option NodeId) → candidate ≡ Some own.node → is_own own candidate ≡ true
 if_own own candidate e = ap (is_own own) e ∙ eq-eqb own.node.0 own.node.0 refl
 
--- what is the incarnation's to claim, its node may run
+-- the incarnation's node is eligible for an application that is its to claim
 mine_is_eligible : (t : Table) (own : Origin) (waits : List (Option Noted)) (now : ℕ) (s : StateValue) (app : AppId) → is_mine t own waits now s app ≡ true → is_eligible t s app own.node ≡ true
 mine_is_eligible t own waits now s app mine = (eligible_is t s app own.node).1 (candidate_is t s app own.node (own_if own (candidate_of (verdict_of t s app)) (and_parts _ _ mine).0)).eligible
 
--- so where it may not, nothing is done about the application
+-- so a turn leaves an application alone for which its node isn't eligible
 pub left_unless : (t : Table) (own : Origin) (waits : List (Option Noted)) (now : ℕ) (s : StateValue) (app : AppId) → is_eligible t s app own.node ≡ false → found_of t own waits now s app ≡ Left
 left_unless t own waits now s app barred =
     ap (λ b. cond b (cond (terms_used_up s app) Passed (Claimed (claim_of t own s app) (join s (meaning_of (claim_of t own s app ∷ []))))) Left)
@@ -108,7 +108,7 @@ module _ (t : Table) (own : Origin) (s : StateValue) (app : AppId) (left : used_
 
 module _ (t : Table) (own : Origin) (notes : List Note) (now : ℕ) where
   module _ (s : StateValue) (app : AppId) (listed : app.0 < app_count t) where
-    -- what is due is so in words
+    -- the waits decide whether a verdict is due
     due_is : is_due_by t (noted_at (waits_of t notes) app) s app now (verdict_of t s app) ≡ is_due_by t (noted_of app notes) s app now (verdict_of t s app)
     due_is = ap (λ noted. is_due_by t noted s app now (verdict_of t s app)) (kept_is t notes app listed)
 
@@ -127,7 +127,7 @@ module _ (t : Table) (own : Origin) (notes : List Note) (now : ℕ) where
       left = λ candidate due. true≢false (sym (and_from _ _ (if_own own (candidate_of (verdict_of t s app)) candidate) (due_is ∙ (due_to_words t notes s app now).1 due)) ∙ e);
     }
 
-  -- what a turn of these applications issues and passes from here on
+  -- the operations and passed applications of a turn from here on
   pub record TurnsOn (apps : List AppId) (turn later : Turn) : Type 0 where
     pub ops : List Operation
     pub passed : List AppId
