@@ -29,12 +29,12 @@ module _ {P A S : Type 0} {g : Ghosts Page Page S} where
   -- what readers take, and what was appended last
   abbrev pub published_by : Option (Writer Page Page ℕ P A S g) → PagesValue
   published_by None = no_pages
-  published_by (Some w) = record { shown = w.paged.shown.value; ready = last_of (drop w.behind w.log.items) }
+  published_by (Some w) = record { shown = w.desk.shown.value; ready = last_of (drop w.behind w.log.items) }
 
   -- the writer is here, and it has seen no later place
   abbrev pub IsWriterReady : Option (Writer Page Page ℕ P A S g) → Type 0
   IsWriterReady None = ⊥
-  IsWriterReady (Some w) = view w.paged.place ≤ w.paged.shown.value.place
+  IsWriterReady (Some w) = view w.desk.place ≤ w.desk.shown.value.place
 
 module _ {P A : Type 0} where
   abbrev pub IsHere : Option (Reader Page ℕ P A) → Type 0
