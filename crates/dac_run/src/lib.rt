@@ -1,7 +1,10 @@
-//! Running workers phase by phase: each in a thread of its own.
+//! A scheduler that runs workers phase by phase, each in a thread of its own.
 //!
-//! A [`Worker`] says what it does in a phase, and what in its turn of the round behind it. [`run_phases`] runs all workers of a
-//! phase at once, until all have ended. Then they take their turns, one after another, while no thread runs.
+//! A [`Worker`] has work for a phase, and a part in the serial round after it. [`run_phases`] runs all workers of a
+//! phase concurrently and joins their threads. Then it gives each link one more turn, link after link, while no thread
+//! runs.
+//!
+//! Nothing is guaranteed about the workers after an error: they are dropped.
 #![tactic(auto)]
 
 pub use either::Either;
