@@ -11,8 +11,8 @@ use Rattle.dac_model_world.specs.Step.{model_step}
 use Rattle.dac_settle.specs.Settling.{IsSettled}
 use Rattle.dac_settle.specs.Rules.{judged}
 
--- If each application of the configuration is settled by the state of a running node, then a tick that isn't held back
--- claims none, whatever the node has noted and however much time has passed.
+-- If each application of the configuration is settled by the state of a running node, then a tick that finds its start
+-- gate open claims none, whatever the node has noted and however much time has passed.
 abbrev pub SettledClaimNothing : Type 0
 SettledClaimNothing = (t : Table) (me : NodeId) (d : ModelNode) (r : ModelRunning) (now : ℕ) (ops : List Operation) (passed : List AppId)
     → d.running ≡ Some r → ((app : AppId) → app.0 < app_count t → IsSettled (judged t (joined r.log) app))
