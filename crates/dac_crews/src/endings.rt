@@ -11,17 +11,16 @@ use dac_workers::{Closed, Page, PageReader, RunFault, Seat, Site, SiteName, Watc
 use std::alloc::Global;
 use std::sync::Wait;
 
-/// The results for a site after the run: its seats, the workers of the sites opened before it, and the outcome so far.
+/// A site's seats after the run, the workers of the sites opened before it, and the outcome so far.
 #[derive(Drop)]
 pub(crate) struct Back<L: SiteName, W> {
-    /// The seats of this site.
     pub(crate) seats: Vec<Seat<L>>,
-    /// The workers of the sites that were opened before it.
+    /// The workers of the sites opened before it.
     pub(crate) rest: Vec<W>,
     pub(crate) outcome: Outcome,
 }
 
-/// Returns a worker's seat to the seats, and adds a caller's reads to all.
+/// Puts a worker's seat and a caller's reads into the lists.
 fn put_back<L: SiteName, H: Watch>(
     node: NodeId,
     task: Task<'_, L, H>,
@@ -41,7 +40,7 @@ fn put_back<L: SiteName, H: Watch>(
     Ok(())
 }
 
-/// Separates this site's tasks, which follow the other workers, and adds its callers' reads to the outcome.
+/// Takes back this site's seats from its tasks, which follow the other workers, and adds the reads to the outcome.
 pub(crate) fn back_of<L: SiteName, H: Watch, W: Drop>(
     alloc: Global,
     node: NodeId,
@@ -60,14 +59,14 @@ pub(crate) fn back_of<L: SiteName, H: Watch, W: Drop>(
     })
 }
 
-/// Ends a site whose seats are lost with its workers, so it can't return a journal.
+/// Ends a site that can't return its journal, because its seats are lost with its workers.
 fn shut<L: SiteName, R: Wait>(rt: &R, alloc: Global, site: Site<L>)
     requires { L.seats ≡ L.parts }
 {
     let _ = site.close(rt, Vec::new(alloc));
 }
 
-/// The final page, by the reader that was kept for it.
+/// The final page, read by the reader kept for it.
 fn last_page<L: SiteName>(node: NodeId, last: Option<PageReader<L>>) -> Result<Page, RunFault> {
     match last {
         Some(mut reader) => match reader.read() {

@@ -1,10 +1,8 @@
 //! The worker pool of a live run: up to four sites, each opened under a name of its own, with their workers.
 //!
-//! Each worker has a task at one site: caller, shipper or link worker. [`run_sites`] opens the sites and runs all
-//! workers phase by phase. In a phase each worker with work is spawned in a thread of its own, and all threads are
-//! joined. Then each link ships and hears once more, in a serial round without threads.
-//!
-//! A failed run returns its fault and drops its sites.
+//! A worker has a task at one site: caller, shipper or link worker. [`run_sites`] opens the sites and runs the workers
+//! phase by phase. In a phase each worker with work is spawned in a thread of its own, until all are joined. Then each
+//! link ships and hears once more, without threads. A failed run returns a fault and no journals.
 #![tactic(auto)]
 
 pub use dac_workers::compare::{SHIPS_OF_PHASE, are_heard, are_ships, event_of, sent_by};

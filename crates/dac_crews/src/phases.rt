@@ -13,10 +13,10 @@ pub enum Ask {
     Read,
 }
 
-/// A line of a caller: one request at its node.
+/// A line of a caller.
 #[derive(Drop)]
 pub struct Line {
-    /// The node that the line is for.
+    /// The node that it is for.
     pub node: NodeId,
     /// The caller's number at the node, from 1 to 4.
     pub caller: u8,

@@ -78,7 +78,7 @@ fn put_link(
     put_in(all, from, to, into)
 }
 
-/// Gives the sending end to the node that ships. Fails with `LinkLost` if there is no such node.
+/// Gives the sending end to the node that ships, or fails with `LinkLost` if there is none.
 fn put_out(
     all: &mut Vec<LinkEnds>,
     from: NodeId,
@@ -98,7 +98,7 @@ fn put_out(
     }
 }
 
-/// Gives the receiving end to the node that hears. Fails with `LinkLost` if there is no such node.
+/// Gives the receiving end to the node that hears, or fails with `LinkLost` if there is none.
 fn put_in(
     all: &mut Vec<LinkEnds>,
     from: NodeId,
@@ -117,7 +117,7 @@ fn put_in(
     }
 }
 
-/// Takes the next seat. The list holds the seats in reverse order.
+/// Takes the next seat, the last of the list.
 fn next_seat<L: SiteName>(node: NodeId, seats: &mut Vec<Seat<L>>) -> Result<Seat<L>, RunFault> {
     match seats.pop() {
         Some(seat) => Ok(seat),
@@ -165,7 +165,7 @@ fn shipper_of<'a, L: SiteName>(
     })
 }
 
-/// A link worker for the other node, with the next seat. Fails with `LinkLost` if there is no end of that link.
+/// A link worker for the other node, with the next seat. Without a link end it fails with `LinkLost`.
 fn listener_of<'a, L: SiteName, H: Watch>(
     assignment: &'a Assignment<'a, L>,
     watch: &'a H,
@@ -189,7 +189,7 @@ fn listener_of<'a, L: SiteName, H: Watch>(
     }
 }
 
-/// The callers of a site. They get the first seats, and a reader each.
+/// The callers of a site, with the first seats and a reader each.
 fn callers_of<'a, L: SiteName, H: Watch>(
     assignment: &'a Assignment<'a, L>,
     seats: &mut Vec<Seat<L>>,
@@ -203,7 +203,7 @@ fn callers_of<'a, L: SiteName, H: Watch>(
     Ok(tasks)
 }
 
-/// A link worker and a shipper for each other node, in order of name. They get the seats after the callers'.
+/// The link workers and the shippers for the other nodes, in order of name, with the seats after the callers'.
 fn link_tasks_of<'a, L: SiteName, H: Watch>(
     assignment: &'a Assignment<'a, L>,
     watch: &'a H,
@@ -223,7 +223,6 @@ fn link_tasks_of<'a, L: SiteName, H: Watch>(
     Ok((hears, ships))
 }
 
-/// Concatenates three lists.
 fn one_list<T: Drop>(
     mut all: Vec<T>,
     mut second: Vec<T>,
@@ -234,8 +233,7 @@ fn one_list<T: Drop>(
     Ok(all)
 }
 
-/// The tasks of a site: link workers, shippers, callers. Because the last of several causes is reported, a caller's
-/// wins over a shipper's, and that over a link worker's.
+/// The tasks of a site: link workers, shippers, callers. The last of several causes is reported, so a caller's wins.
 fn tasks_of_all<'a, L: SiteName, H: Watch>(
     assignment: &'a Assignment<'a, L>,
     watch: &'a H,
@@ -250,7 +248,7 @@ fn tasks_of_all<'a, L: SiteName, H: Watch>(
     Ok(tasks)
 }
 
-/// The tasks of a site, with the last link ends in the list: sites are opened from the last node to the first.
+/// The tasks of a site, with the last link ends in the list, because sites are opened from the last node to the first.
 pub(crate) fn tasks_of<'a, L: SiteName, H: Watch>(
     shared: &Shared<'a, H>,
     assignment: &'a Assignment<'a, L>,

@@ -1,7 +1,7 @@
 //! Opens up to four sites, each under a name of its own, runs them, and ends them.
 //!
 //! Each node has three functions, because each name is a type parameter. `at_first` makes the blank of its site and
-//! names it. `with_first` opens the site and ends it. `run_at_first` runs the workers while the site is open;
+//! names it. `with_first` opens the site and ends it. `run_at_first` runs all workers while the site is open;
 //! `run_at_second` and later ones open the site of the node before theirs instead. So the last node's site is opened
 //! first and ended last.
 
@@ -44,7 +44,6 @@ fn blank_of<H: Watch, R: Wait>(
     }
 }
 
-/// The run's fault for a stop of the workers.
 fn fault_of(stop: Stop<RunFault>) -> RunFault {
     match stop {
         Stop::NoThread => RunFault::NoThread,
@@ -85,7 +84,6 @@ fn run_all<W: Worker<Fault = RunFault>, H: Watch, R: Threads + Wait + Sync>(
     }
 }
 
-/// Runs all workers while the first node's site is open.
 fn run_at_first<
     L: SiteName + Send + Sync,
     W: Worker<Fault = RunFault>,
@@ -106,7 +104,6 @@ fn run_at_first<
     back_of(shared.alloc, NodeId(0), all, outcome)
 }
 
-/// Opens the first node's site, runs, and ends the site.
 fn with_first<
     L: SiteName + Send + Sync,
     W: Worker<Fault = RunFault>,
@@ -126,7 +123,6 @@ fn with_first<
     end_site(rt, shared, NodeId(0), site, readers.pop(), back)
 }
 
-/// Makes the blank of the first node's site, and names it.
 fn at_first<W: Worker<Fault = RunFault>, H: Watch + Sync, R: Threads + Wait + Sync>(
     rt: &R,
     shared: &Shared<'_, H>,
@@ -137,7 +133,6 @@ fn at_first<W: Worker<Fault = RunFault>, H: Watch + Sync, R: Threads + Wait + Sy
     with_first::<Brand, W, H, R>(rt, shared, blank, ends, rest)
 }
 
-/// Opens the first node's site while the second node's is open, and runs.
 fn run_at_second<
     L: SiteName + Send + Sync,
     W: Worker<Fault = RunFault>,
@@ -158,7 +153,6 @@ fn run_at_second<
     back_of(shared.alloc, NodeId(1), all, outcome)
 }
 
-/// Opens the second node's site, runs, and ends the site.
 fn with_second<
     L: SiteName + Send + Sync,
     W: Worker<Fault = RunFault>,
@@ -178,7 +172,6 @@ fn with_second<
     end_site(rt, shared, NodeId(1), site, readers.pop(), back)
 }
 
-/// Makes the blank of the second node's site, and names it.
 fn at_second<W: Worker<Fault = RunFault>, H: Watch + Sync, R: Threads + Wait + Sync>(
     rt: &R,
     shared: &Shared<'_, H>,
@@ -189,7 +182,6 @@ fn at_second<W: Worker<Fault = RunFault>, H: Watch + Sync, R: Threads + Wait + S
     with_second::<Brand, W, H, R>(rt, shared, blank, ends, rest)
 }
 
-/// Opens the second node's site while the third node's is open, and runs.
 fn run_at_third<
     L: SiteName + Send + Sync,
     W: Worker<Fault = RunFault>,
@@ -210,7 +202,6 @@ fn run_at_third<
     back_of(shared.alloc, NodeId(2), all, outcome)
 }
 
-/// Opens the third node's site, runs, and ends the site.
 fn with_third<
     L: SiteName + Send + Sync,
     W: Worker<Fault = RunFault>,
@@ -230,7 +221,6 @@ fn with_third<
     end_site(rt, shared, NodeId(2), site, readers.pop(), back)
 }
 
-/// Makes the blank of the third node's site, and names it.
 fn at_third<W: Worker<Fault = RunFault>, H: Watch + Sync, R: Threads + Wait + Sync>(
     rt: &R,
     shared: &Shared<'_, H>,
@@ -241,7 +231,6 @@ fn at_third<W: Worker<Fault = RunFault>, H: Watch + Sync, R: Threads + Wait + Sy
     with_third::<Brand, W, H, R>(rt, shared, blank, ends, rest)
 }
 
-/// Opens the third node's site while the fourth node's is open, and runs.
 fn run_at_fourth<
     L: SiteName + Send + Sync,
     W: Worker<Fault = RunFault>,
@@ -262,7 +251,6 @@ fn run_at_fourth<
     back_of(shared.alloc, NodeId(3), all, outcome)
 }
 
-/// Opens the fourth node's site, runs, and ends the site.
 fn with_fourth<
     L: SiteName + Send + Sync,
     W: Worker<Fault = RunFault>,
@@ -282,7 +270,6 @@ fn with_fourth<
     end_site(rt, shared, NodeId(3), site, readers.pop(), back)
 }
 
-/// Makes the blank of the fourth node's site, and names it.
 fn at_fourth<W: Worker<Fault = RunFault>, H: Watch + Sync, R: Threads + Wait + Sync>(
     rt: &R,
     shared: &Shared<'_, H>,

@@ -33,7 +33,6 @@ impl<L: SiteName> Caller<'_, L> {
         line.node == self.assignment.node && u16::from(line.caller) == self.seat.number()
     }
 
-    /// Returns whether this caller has lines in the phase.
     fn has_lines(&self, phase: usize) -> bool {
         self.assignment
             .lines_in(phase)
@@ -63,7 +62,6 @@ impl<L: SiteName> Caller<'_, L> {
         Ok(())
     }
 
-    /// Does the request of one line.
     fn do_line<R: Wait>(&mut self, rt: &R, what: &Ask) -> Result<(), RunFault> {
         match what {
             Ask::Do(event) => {
@@ -74,7 +72,6 @@ impl<L: SiteName> Caller<'_, L> {
         }
     }
 
-    /// Does this caller's lines of a phase, in order.
     fn do_lines<R: Wait>(&mut self, rt: &R, phase: usize) -> Result<(), RunFault> {
         let assignment = self.assignment;
         for line in assignment.lines_in(phase) {
@@ -96,7 +93,6 @@ pub(crate) struct Shipper<'a, L: SiteName> {
 }
 
 impl<L: SiteName> Shipper<'_, L> {
-    /// Does the shipper's ships of a phase.
     fn ship<R: Wait>(&mut self, rt: &R) -> Result<(), RunFault> {
         let assignment = self.assignment;
         ship_link(
@@ -168,16 +164,12 @@ impl<L: SiteName, H: Watch> Listener<'_, L, H> {
 /// The task of one worker. A worker that fails drops its link end, so the worker at the other end stops too.
 #[derive(Drop)]
 pub(crate) enum Task<'a, L: SiteName, H: Watch> {
-    /// Calls the site with a caller's lines.
     Call(Caller<'a, L>),
-    /// Ships to another node.
     Ship(Shipper<'a, L>),
-    /// Hears from another node.
     Hear(Listener<'a, L, H>),
 }
 
 impl<L: SiteName, H: Watch> Task<'_, L, H> {
-    /// Does this task's work of a phase.
     fn do_work<R: Wait>(&mut self, rt: &R, phase: usize) -> Result<(), RunFault> {
         match self {
             Task::Call(caller) => caller.do_lines(rt, phase),
@@ -226,7 +218,7 @@ impl<L: SiteName + Send + Sync, H: Watch + Sync> Worker for Task<'_, L, H> {
     }
 }
 
-/// The type of the innermost, empty list of workers. No value of it is made.
+/// The worker type of the empty list to which the first site's tasks are added. No value of it is made.
 #[derive(Drop)]
 pub(crate) struct Nobody;
 

@@ -17,7 +17,7 @@ pub fn same_answer(answer: &Answer, other: &Answer) -> bool
     }
 }
 
-/// Returns whether a refusal means that an allocation failed, so that the event had no result.
+/// Returns whether a refusal stands for a failed allocation.
 pub fn is_no_memory(why: Refusal) -> bool
     ensures yes { result ≡ true → why ≡ Refusal.NoMemory }
     ensures no { result ≡ false → why ≢ Refusal.NoMemory }
@@ -25,7 +25,7 @@ pub fn is_no_memory(why: Refusal) -> bool
     why == Refusal::NoMemory
 }
 
-/// Fails with [`NoMemory`] if the result is the refusal for a failed allocation.
+/// Fails with [`NoMemory`] if the result stands for a failed allocation.
 pub fn is_answered(answer: &Answer) -> Result<(), NoMemory>
     ensures ok { OnOk result (IfErr answer.now (λ why. why ≢ Refusal.NoMemory)) }
     ensures err { OnErr result (answer.now ≡ Err Refusal.NoMemory) }

@@ -15,7 +15,6 @@ pub struct Closed {
     pub(crate) records: Vec<Record>,
 }
 
-/// Written by hand, so that a proof sees each drop as one call.
 impl Drop for Closed {
     fn drop(self) {
         let Closed {

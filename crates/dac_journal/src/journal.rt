@@ -20,7 +20,7 @@ use std::alloc::Global;
 use std::marker::Model;
 
 /// A node with the log of its events and results. The records are a history of the node, which is in the state that
-/// ends it. [`Journal::prepare`] computes what an event does, and [`Journal::commit`] applies it and appends its
+/// ends it. [`Journal::prepare`] computes the effect of an event, and [`Journal::commit`] applies it and appends its
 /// record.
 pub struct Journal {
     config: Config,
@@ -30,7 +30,6 @@ pub struct Journal {
     node: Node,
 }
 
-/// Written by hand, so that a proof sees each drop as one call.
 impl Drop for Journal {
     fn drop(self) {
         let Journal {
@@ -132,8 +131,8 @@ impl Journal {
         &self.node
     }
 
-    /// Computes what an event called by this seat would do, and changes nothing that contracts see. It first calls
-    /// [`Node::warm`], whose failed allocations are no error.
+    /// Computes the effect of a call of this seat. Contracts see no change: it only calls [`Node::warm`] first, whose
+    /// failed allocations are no error.
     pub fn prepare(&mut self, seat: u16, event: Event) -> Result<Next, NoMemory>
         requires { length self.old.records < MOST }
         ensures goes { IfOk result (GoesTo self.old seat event) }
@@ -145,14 +144,13 @@ impl Journal {
         self.prepare_next(seat, event)
     }
 
-    /// Prepares the node's caches for an event.
     fn warm(&mut self, event: &Event)
         ensures { self.new ≡ self.old }
     {
         self.node.warm(event);
     }
 
-    /// Computes what an event called by this seat would do.
+    /// Computes the effect of a call of this seat.
     fn prepare_next(&self, seat: u16, event: Event) -> Result<Next, NoMemory>
         requires { length self.now.records < MOST }
         ensures goes { IfOk result (GoesTo self.now seat event) }
@@ -184,7 +182,7 @@ impl Journal {
     }
 
     /// Applies a prepared event, appends its record, and returns the seat's copy of the call with the result. The
-    /// journal must not have changed since [`Journal::prepare`] made `next`.
+    /// journal must be as it was when [`Journal::prepare`] made `next`.
     pub fn commit(&mut self, next: Next) -> Result<(Call, Answer), NoMemory>
         requires room { length self.old.records < MOST }
         requires follows { GoesOnBy self.old.beginning self.old.records next.entry next.change }
@@ -209,7 +207,7 @@ impl Journal {
     }
 }
 
-/// Computes what an event does to a node, unless it is refused, with three copies of its result.
+/// The effect of an event on a node, unless it is refused, with three copies of its result.
 fn prepare_node(
     config: &Config,
     me: NodeId,
@@ -236,7 +234,6 @@ fn prepare_node(
     }
 }
 
-/// Applies a prepared change, if there is one.
 fn apply_change(node: &mut Node, change: Option<Change>) -> Result<(), NoMemory>
     requires { FitsBy change node.old }
     ensures ok { OnOk result (node.new ≡ node_by change node.old) }
@@ -248,7 +245,6 @@ fn apply_change(node: &mut Node, change: Option<Change>) -> Result<(), NoMemory>
     Ok(())
 }
 
-/// Three copies of the reply of a change.
 fn three_copies(change: &Change) -> Result<(Reply, Reply, Reply), NoMemory>
     ensures { IfOk result (λ r. (r.0 ≡ change.now.reply) × (r.1 ≡ change.now.reply)
         × (r.2 ≡ change.now.reply)) }

@@ -3,8 +3,9 @@
 //! A [`Journal`] contains the node itself, so each of its records is a step of that node. Closing it returns a
 //! [`Closed`] one.
 //!
-//! Functions that don't return `Result<_, NoMemory>` allocate nothing. A call that fails with
-//! [`NoMemory`](dac_base::NoMemory) leaves what it borrows unchanged as far as contracts see, and has no other error.
+//! Functions that don't return `Result<_, NoMemory>` allocate nothing. A failed allocation is their only error, and
+//! leaves everything borrowed unchanged as far as contracts see. Each `Drop` is written by hand, so that a proof sees
+//! it as one call.
 #![tactic(auto)]
 
 pub use answers::{is_answered, is_no_memory, same_answer};

@@ -17,7 +17,6 @@ pub struct Next {
     pub(crate) change: Option<Change>,
 }
 
-/// Written by hand, so that a proof sees each drop as one call.
 impl Drop for Next {
     fn drop(self) {
         let Next {
@@ -61,7 +60,6 @@ impl Next {
         self.change.as_ref()
     }
 
-    /// The record, the seat's copy of the call, the result, and the change of the node.
     pub(crate) fn into_parts(self) -> (Record, Call, Answer, Option<Change>)
         ensures { result ≡ (self.entry, self.call, self.entry.answer, self.change) }
     {

@@ -1,4 +1,4 @@
-//! What a journal and a seat record of a call.
+//! The records of a call in a journal and at a seat.
 
 use dac_events::Refusal;
 use dac_messages::{Event, Reply};

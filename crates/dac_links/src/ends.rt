@@ -20,7 +20,7 @@ pub struct Gone;
 pub struct LinkSender {
     /// The channel's sending end.
     pub end: RuledSender<Letter, Log, InOrder>,
-    /// The capability to send on that channel, with the ghost list of the letters sent.
+    /// Permits sending, and records the letters sent, for contracts.
     pub pass: Pass<Letter, Log>,
     ghost seated: { IsSeatAt (sends_on end) pass },
     ghost may: { (view pass).puts ≡ true },
@@ -31,13 +31,13 @@ pub struct LinkSender {
 pub struct LinkReceiver {
     /// The channel's receiving end.
     pub end: RuledReceiver<Letter, Log, InOrder>,
-    /// The capability to receive from that channel, with the ghost list of the letters received.
+    /// Permits receiving, and records the letters received, for contracts.
     pub pass: Pass<Letter, Log>,
     ghost seated: { IsSeatAt (receives_on end) pass },
     ghost may: { (view pass).takes ≡ true },
 }
 
-/// Makes an empty link that holds up to `room` letters, and returns its two ends. It fails only if an allocation does.
+/// An empty link that holds up to `room` letters, as its two ends. Fails only if an allocation does.
 pub fn link(alloc: Global, room: usize) -> Result<(LinkSender, LinkReceiver), AllocError>
     requires { 0 < room }
     ensures one { IfOk result (λ r. receives_on r.1.end ≡ sends_on r.0.end) }
@@ -55,7 +55,7 @@ pub fn link(alloc: Global, room: usize) -> Result<(LinkSender, LinkReceiver), Al
 }
 
 impl LinkSender {
-    /// Sends a letter, and waits while the link is full. At `Err` nothing was sent.
+    /// Sends a letter; waits while the link is full. At `Err` nothing was sent.
     pub fn put<R: Wait>(&mut self, rt: &R, letter: Letter) -> Result<(), Gone>
         ensures link { sends_on self.new.end ≡ sends_on self.old.end }
         ensures put { MatchResult result
@@ -69,7 +69,7 @@ impl LinkSender {
         }
     }
 
-    /// Proves that the letters received are a prefix of those sent. Both ends stay as they were.
+    /// Proves that the letters received are a prefix of those sent. Both ends stay unchanged.
     pub fn compare(&mut self, receiver: LinkReceiver) -> LinkReceiver
         requires { receives_on receiver.end ≡ sends_on self.old.end }
         ensures link { (sends_on self.new.end ≡ sends_on self.old.end)

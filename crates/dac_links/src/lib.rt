@@ -1,10 +1,8 @@
-//! Links: bounded FIFO channels that carry letters from one thread to another, each letter once.
+//! Links: bounded FIFO channels that carry letters from one thread to another, each once.
 //!
-//! A [`Letter`] carries the bytes of a message, or ends a sequence of them. [`link`] makes a link with a [`LinkSender`]
-//! and a [`LinkReceiver`]. Each end has a ghost list of the letters that passed it. Those received are a prefix of
-//! those sent, which [`LinkSender::compare`] proves.
-//!
-//! Only [`link`] allocates. Operations on an end fail only with [`Gone`].
+//! A [`Letter`] carries the bytes of a message, or ends a sequence of them. [`link`], the only function that allocates,
+//! makes a link with a [`LinkSender`] and a [`LinkReceiver`]. The letters received are a prefix of those sent, which
+//! [`LinkSender::compare`] proves.
 #![tactic(auto)]
 
 mod ends;

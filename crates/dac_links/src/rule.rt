@@ -1,10 +1,10 @@
-//! The invariant of a link: the letters sent are those received, followed by those in the channel.
+//! The invariant of a link.
 
 use crate::letter::Letter;
 use crossbeam_channel::protocol::{Join, Lesson, Outcome, Protocol, Split};
 use std::collections::LinkedList;
 
-/// What a pass permits, and the letters that went by it. Only contracts use it: no value of it is made.
+/// Permissions of a pass, and the letters that went through it. Only contracts use it: no value of it is made.
 pub struct Log {
     /// Whether the pass permits sending.
     pub puts: bool,
@@ -16,7 +16,7 @@ pub struct Log {
     pub taken: LinkedList<Letter>,
 }
 
-/// The protocol of a link: letters arrive in the order in which they were sent, each once.
+/// The protocol of a link: FIFO, each letter once.
 pub struct InOrder;
 
 impl Protocol<Letter, Log> for InOrder {
@@ -28,7 +28,7 @@ impl Protocol<Letter, Log> for InOrder {
     ghost first = { log true true [] [] };
 }
 
-/// Splits the first pass into one that permits sending and one that permits receiving, and joins them again.
+/// Splits the first pass into one for sending and one for receiving, and joins them again.
 pub(crate) struct Roles;
 
 impl Split<Log> for Roles {

@@ -26,7 +26,6 @@ fn answer_of(one: &Record, seat: u16) -> Option<&Answer>
     }
 }
 
-/// Copies a result.
 fn copy_answer(answer: &Answer) -> Result<Answer, NoMemory>
     ensures { IfOk result (λ copy. copy ≡ answer.now) }
 {
@@ -39,7 +38,6 @@ fn copy_answer(answer: &Answer) -> Result<Answer, NoMemory>
     }
 }
 
-/// Appends a copy of the result.
 fn put_answer(all: &mut Vec<Answer>, answer: &Answer) -> Result<(), NoMemory>
     ensures { OnOk result (all.new.items ≡ all.old.items ++ answer.now ∷ []) }
 {

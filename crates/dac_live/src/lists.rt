@@ -1,4 +1,5 @@
-//! The lists of a report, as types whose values are the lists.
+//! The lists of a report, as types whose values are the lists. Each `Drop` is written by hand, so that a proof sees it
+//! as one call.
 
 ghost use Rattle.std.specs.Prelude.{◌≡◌};
 
@@ -11,7 +12,6 @@ pub struct AnswerList {
     answers: Vec<LineAnswer>,
 }
 
-/// Written by hand, so that a proof sees each drop as one call.
 impl Drop for AnswerList {
     fn drop(self) {
         let AnswerList { answers: _answers } = self;
@@ -60,7 +60,6 @@ pub struct AnswersByPhase {
     phases: Vec<AnswerList>,
 }
 
-/// Written by hand, so that a proof sees each drop as one call.
 impl Drop for AnswersByPhase {
     fn drop(self) {
         let AnswersByPhase { phases: _phases } = self;
@@ -109,7 +108,6 @@ pub struct ReadList {
     reads: Vec<Option<Page>>,
 }
 
-/// Written by hand, so that a proof sees each drop as one call.
 impl Drop for ReadList {
     fn drop(self) {
         let ReadList { reads: _reads } = self;
@@ -158,7 +156,6 @@ pub struct ReadsByPhase {
     phases: Vec<ReadList>,
 }
 
-/// Written by hand, so that a proof sees each drop as one call.
 impl Drop for ReadsByPhase {
     fn drop(self) {
         let ReadsByPhase { phases: _phases } = self;
@@ -207,7 +204,6 @@ pub struct PageList {
     pages: Vec<Page>,
 }
 
-/// Written by hand, so that a proof sees each drop as one call.
 impl Drop for PageList {
     fn drop(self) {
         let PageList { pages: _pages } = self;
@@ -256,7 +252,6 @@ pub struct ClosedList {
     journals: Vec<Closed>,
 }
 
-/// Written by hand, so that a proof sees each drop as one call.
 impl Drop for ClosedList {
     fn drop(self) {
         let ClosedList {

@@ -17,7 +17,6 @@ pub(crate) struct Advance {
     pub(crate) trim: u64,
 }
 
-/// Written by hand, so that a proof sees each drop as one call.
 impl Drop for Advance {
     fn drop(self) {
         let Advance {

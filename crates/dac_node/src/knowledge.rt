@@ -37,7 +37,6 @@ pub(crate) struct Knowledge {
     pub(crate) peers: Peers,
 }
 
-/// Written by hand, so that a proof sees each drop as one call.
 impl Drop for Knowledge {
     fn drop(self) {
         let Knowledge {

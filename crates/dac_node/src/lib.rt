@@ -10,9 +10,9 @@
 //! whatever the peer hasn't acknowledged, as an interval of the newest deltas or as the whole state. A received state
 //! is joined, and deltas that all other nodes have acknowledged are dropped.
 //!
-//! Functions whose result can't carry `NoMemory` allocate nothing, except [`Node::warm`] and caches whose failed
-//! allocations are no error. A call that fails leaves the node unchanged, and has no error besides `NoMemory` unless it
-//! names others.
+//! Functions whose result can't carry `NoMemory` allocate nothing but caches, whose failed allocations are no error. A
+//! call that fails leaves the node unchanged, and has no error besides `NoMemory` unless it names others. Each `Drop`
+//! is written by hand, so that a proof sees it as one call.
 //!
 //! A caller of two nodes. The second node hears the first one's message as new, and refuses it after a crash. The
 //! module `callers` of `controller_tests` runs it.

@@ -30,7 +30,6 @@ pub struct Node {
     running: Option<Running>,
 }
 
-/// Written by hand, so that a proof sees each drop as one call.
 impl Drop for Node {
     fn drop(self) {
         let Node {
@@ -373,14 +372,12 @@ impl Node {
         Ok(())
     }
 
-    /// Turns the node off.
     fn go_off(&mut self)
         ensures { self.new ≡ record { last = self.old.last; running = None } }
     {
         self.running = None;
     }
 
-    /// Starts this running value.
     fn come_up(&mut self, running: Box<Running, Global>)
         ensures { self.new ≡ record { last = self.old.last; running = Some running.value } }
     {

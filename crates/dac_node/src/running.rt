@@ -39,7 +39,6 @@ pub(crate) struct Running {
     shown: Shown,
 }
 
-/// Written by hand, so that a proof sees each drop as one call.
 impl Drop for Running {
     fn drop(self) {
         let Running {
@@ -81,21 +80,18 @@ impl Running {
         state.tells_invariant();
     }
 
-    /// The present incarnation.
     pub(crate) fn origin(&self) -> Origin
         ensures { result ≡ self.now.origin }
     {
         self.knowledge.origin
     }
 
-    /// The state that the controller holds.
     pub(crate) fn state(&self) -> &State
         ensures { result.now ≡ self.now.state }
     {
         &self.knowledge.state
     }
 
-    /// Copies the running value.
     pub(crate) fn copy(&self) -> Result<Self, NoMemory>
         ensures { IfOk result (λ copied. copied ≡ self.now) }
     {

@@ -21,7 +21,6 @@ pub(crate) struct Shown {
     is_fresh: bool,
 }
 
-/// Written by hand, so that a proof sees each drop as one call.
 impl Drop for Shown {
     fn drop(self) {
         let Shown {
@@ -52,7 +51,6 @@ impl Model for Shown {
 }
 
 impl Shown {
-    /// The board of a state.
     pub(crate) fn new(
         alloc: Global,
         config: &Config,

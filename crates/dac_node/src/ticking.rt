@@ -68,7 +68,6 @@ fn open_tick(config: &Config, last: u64, running: &Running, now: u64) -> Result<
     Ok(change)
 }
 
-/// The delta of each operation.
 fn deltas_of(alloc: Global, operations: &[Op]) -> Result<Vec<State>, NoMemory>
     ensures { IfOk result (λ deltas. deltas.items ≡ meanings operations.now) }
 {

@@ -91,7 +91,8 @@ impl Pages {
         put_back(rt, home, writer);
     }
 
-    /// A reader that has read nothing yet, or `None` if all places for readers are in use.
+    /// A reader that has read nothing yet, or `None` if all places for readers are in use, or the count of owners is
+    /// full.
     pub fn reader(&self) -> Option<RawReader> {
         match &self.writer {
             Some(writer) => writer.factory().reader().ok(),

@@ -137,7 +137,6 @@ fn stray_in(alloc: Global, phase: &Phase, parts: &[&[Record]]) -> Result<Option<
     Ok(None)
 }
 
-/// Returns whether there are no records.
 fn are_none(records: &[Record]) -> bool
     ensures { result ≡ true → records.now ≡ [] }
 {
@@ -160,7 +159,6 @@ fn left_over(rests: &[&[Record]]) -> Option<NodeId>
     None
 }
 
-/// The records of each journal.
 #[tactic(auto, using(crate::proofs::Parted::records_more))]
 fn records_of(alloc: Global, closed: &[Closed]) -> Result<Vec<&[Record]>, NoMemory>
     ensures { IfOk result

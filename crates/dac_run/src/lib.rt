@@ -1,10 +1,8 @@
 //! A scheduler that runs workers phase by phase, each in a thread of its own.
 //!
-//! A [`Worker`] has work for a phase, and a part in the serial round after it. [`run_phases`] runs all workers of a
-//! phase concurrently and joins their threads. Then it gives each link one more turn, link after link, while no thread
-//! runs.
-//!
-//! Nothing is guaranteed about the workers after an error: they are dropped.
+//! A [`Worker`] has work in phases, and a part in the serial round after each. [`run_phases`] runs all workers of a
+//! phase concurrently and joins their threads. Then it gives each link a turn, one after another, while no thread runs.
+//! A fault drops all workers.
 #![tactic(auto)]
 
 pub use either::Either;

@@ -37,7 +37,6 @@ fn start<'s, E, W: Worker + 's, R: Threads + Wait + Sync>(
     }
 }
 
-/// Spawns the workers' threads, in order.
 fn start_all<'s, E, W: Worker + 's, R: Threads + Wait + Sync>(
     scope: &Scope<'s, E>,
     rt: &'s R,
@@ -61,8 +60,7 @@ fn ended<W: Worker, R: Threads + Wait>(rt: &R, started: Started<W>) -> Result<W,
     }
 }
 
-/// The fault to report of `fault` and the one to report so far. A cause wins over the earlier fault, and a consequence
-/// doesn't, so that the report names a cause if there is one.
+/// The fault to report after one more: a cause replaces the fault so far, and a consequence doesn't.
 fn louder<W: Worker>(told: Option<W::Fault>, fault: W::Fault) -> W::Fault
     ensures cause { W.is_cause fault ≡ true → result ≡ fault }
     ensures kept { W.is_cause fault ≡ false → IfSome told (λ before. result ≡ before) }
@@ -75,7 +73,7 @@ fn louder<W: Worker>(told: Option<W::Fault>, fault: W::Fault) -> W::Fault
 }
 
 /// The workers of a phase, in order, if none of them failed. Of several faults it returns the last cause, or the first
-/// fault if none is a cause. So whether a cause is returned doesn't depend on the order of the workers.
+/// fault if none is a cause, so that whether a cause is returned doesn't depend on the order of the workers.
 ///
 /// Fails with `NoMemory` if the list of workers can't grow, and never with `NoThread`.
 pub fn workers_of<W: Worker>(
@@ -100,7 +98,6 @@ pub fn workers_of<W: Worker>(
     }
 }
 
-/// Waits for the threads of all workers, in order.
 fn join_all<W: Worker, R: Threads + Wait>(
     rt: &R,
     alloc: Global,
@@ -114,7 +111,7 @@ fn join_all<W: Worker, R: Threads + Wait>(
     Ok(outcomes)
 }
 
-/// One phase: all workers that have work run concurrently, each in a thread of its own, and all are joined.
+/// One phase: all workers with work run concurrently, each in its own thread, until all are joined.
 fn run_phase<W: Worker, R: Threads + Wait + Sync>(
     rt: &R,
     alloc: Global,
@@ -134,7 +131,7 @@ fn run_phase<W: Worker, R: Threads + Wait + Sync>(
     )
 }
 
-/// Gives each worker the turn. A worker without a part in it does nothing.
+/// Gives the turn to the workers that have a part in it.
 fn take<W: Worker, R: Wait>(
     rt: &R,
     workers: &mut Vec<W>,
@@ -162,7 +159,7 @@ fn take_both<W: Worker, R: Wait>(
     take(rt, workers, Turn { from, to, side })
 }
 
-/// The serial round after a phase: the links of all ordered pairs of nodes, in the order of their numbers.
+/// The serial round after a phase: the links of all ordered pairs of nodes, in order of name.
 fn last_round<W: Worker, R: Wait>(
     rt: &R,
     nodes: u8,

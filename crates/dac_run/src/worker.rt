@@ -65,12 +65,12 @@ pub trait Worker: Sized + Drop + Send {
     /// Which faults are causes.
     ghost is_cause: { Self.Fault → Bool };
 
-    /// Returns whether a fault is a cause, and not the consequence of another worker's fault. Of several faults a cause
+    /// Returns whether a fault is a cause, and not a consequence of another worker's fault. Of several faults a cause
     /// is reported.
     fn is_cause(fault: &Self::Fault) -> bool
         ensures { result ≡ is_cause fault.now };
 
-    /// Returns whether the worker has work in a phase; phases are numbered from 0.
+    /// Returns whether the worker has work in this phase, counted from 0.
     fn works_in(&self, phase: usize) -> bool;
 
     /// Does the worker's part of a phase, in its own thread. At `Err` the worker is dropped.

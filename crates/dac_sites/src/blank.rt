@@ -85,8 +85,8 @@ fn readers_of(alloc: Global, paged: &PagedJournal, count: u16) -> Result<Vec<Raw
     Ok(all)
 }
 
-/// A blank site of node `me`, which is off and whose last incarnation was `last`. Its journal is empty. It has `seats`
-/// seats, at least one, and `readers` readers.
+/// A blank site of node `me`, which is off and whose last incarnation was `last`, with an empty journal, `seats` seats
+/// and `readers` readers.
 ///
 /// Fails with `NoReader` if the page structure refuses a reader. The structure's contract doesn't say when it does, so
 /// neither can this one; in the tests it never did. Fails with `NoMemory` if an allocation does.

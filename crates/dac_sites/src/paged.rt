@@ -136,7 +136,7 @@ impl PagedJournal {
         &self.journal
     }
 
-    /// A reader of the pages, or `None` if all places for readers are in use.
+    /// A reader of the pages, or `None` as for [`Pages::reader`].
     pub fn reader(&self) -> Option<RawReader> {
         self.pages.reader()
     }

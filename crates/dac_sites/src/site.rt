@@ -207,7 +207,6 @@ fn stranger<L: SiteName>(records: &[Record], seats: &[Seat<L>]) -> Option<u64>
     None
 }
 
-/// Merges all shares into one.
 fn merge_shares<L: SiteName>(mut seats: Vec<Seat<L>>, mut all: Share<L>) -> Share<L>
     ensures { (result.parts ≡ all.parts + vec_len seats)
         × (result.amount ≡ all.amount + sum_by (λ s. length s.calls) seats.items) }

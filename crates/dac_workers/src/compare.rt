@@ -38,7 +38,6 @@ pub fn event_of(one: &Record, seat: u16) -> Option<&Event>
     }
 }
 
-/// Returns whether the event hears this message.
 fn is_heard(message: &Message, event: &Event) -> bool
     ensures { IsTrue result ↔ (event.now ≡ Event.Hear message.now) }
 {
@@ -48,7 +47,6 @@ fn is_heard(message: &Message, event: &Event) -> bool
     }
 }
 
-/// Returns whether the event ships to this node.
 fn is_ship(event: &Event, to: NodeId) -> bool
     ensures { IsTrue result ↔ (event.now ≡ Event.Ship to) }
 {

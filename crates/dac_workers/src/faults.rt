@@ -36,7 +36,7 @@ pub enum RunFault {
         /// The fault of the call.
         why: LiveFault,
     },
-    /// Closing a site failed.
+    /// Closing a site failed, or its journal doesn't match the run.
     #[error("a site is not closed")]
     Close {
         /// The node of the site.

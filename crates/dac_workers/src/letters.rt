@@ -47,7 +47,6 @@ impl Ends {
     }
 }
 
-/// Returns whether both packets are one message.
 fn is_same(packet: &Packet, other: &Packet) -> bool
     ensures { result ≡ true → packet.now ≡ other.now }
 {

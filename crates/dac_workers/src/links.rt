@@ -55,7 +55,6 @@ impl<G: Gate> Watch for Gated<'_, G> {
 /// The ships of a shipper in a phase, without the one in the serial round after it.
 pub const SHIPS: u64 = 4;
 
-/// Sends a letter.
 fn put<R: Wait>(rt: &R, ends: Ends, out: &mut LinkSender, letter: Letter) -> Result<(), RunFault>
     ensures link { sends_on out.new.end ≡ sends_on out.old.end }
     ensures ok { OnOk result ((view out.new.pass).put ≡ (view out.old.pass).put ++ letter ∷ []) }
@@ -67,7 +66,7 @@ fn put<R: Wait>(rt: &R, ends: Ends, out: &mut LinkSender, letter: Letter) -> Res
     }
 }
 
-/// One call that ships, and the letter of its message. If the node refuses, a record is all that comes of it. Fails as
+/// One call that ships, and the letter of its message. A refusal of the node is recorded and sends no letter. Fails as
 /// [`ship_times`] does.
 pub fn ship_once<L: SiteName, R: Wait>(
     rt: &R,
