@@ -9,6 +9,6 @@ use Rattle.dac_crews.specs.declared.setup.LinkEnds.{LinkEnds}
 abbrev pub HasRoom : LinkEnds → Type 0
 HasRoom ends = All (λ (out : NodeId × LinkSender). ruled_capacity (sends_on out.1.end) ≡ 64) ends.outs.items
 
--- the links from all nodes can
+-- the links from all nodes can hold 64 letters
 abbrev pub HaveRoom : List LinkEnds → Type 0
 HaveRoom all = All HasRoom all

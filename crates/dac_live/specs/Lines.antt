@@ -24,7 +24,7 @@ use Rattle.dac_phases.specs.Pairs.{records_at}
 abbrev pub IsLineOf : ℕ → Line → Type 0
 IsLineOf nodes line = (line.node.0 < nodes) × (1 ≤ line.caller) × (line.caller ≤ 4)
 
--- all lines of the phase are
+-- all lines of the phase are for nodes of the configuration, and for callers from 1 to 4
 abbrev pub HasLines : ℕ → Phase → Type 0
 HasLines nodes phase = All (IsLineOf nodes) phase.lines.items
 
@@ -61,7 +61,7 @@ Answers Read Stale = ⊤
 abbrev pub LinesAnswered : List Line → List LineAnswer → Type 0
 LinesAnswered lines answers = AllZip (λ (line : Line) (answer : LineAnswer). Answers line.what answer) lines answers
 
--- each line of each phase has
+-- each line of each phase has a result of its kind
 abbrev pub AreAnswered : List Phase → List (List LineAnswer) → Type 0
 AreAnswered phases answers =
     AllZip (λ (p : Phase) (all : List LineAnswer). LinesAnswered p.lines.items all) phases answers
@@ -89,17 +89,17 @@ pub record CallerHolds (node caller : ℕ) (phases : List Phase) (answers : List
   pub asked : found (event_one caller) records ≡ asks_of node caller phases
   pub told : found (answer_one caller) records ≡ told_of node caller phases answers
 
--- this holds for all callers of a node
+-- the records of all callers of a node are their lines that call, with the lines' results
 abbrev pub NodeHolds : ℕ → List Phase → List (List LineAnswer) → List Record → Type 0
 NodeHolds node phases answers records =
     (caller : ℕ) → 1 ≤ caller → caller ≤ 4 → CallerHolds node caller phases answers records
 
--- this holds for all callers of all nodes
+-- the records of all callers of all nodes are their lines that call, with the lines' results
 abbrev pub CallersHold : List Phase → List (List LineAnswer) → List JournalValue → Type 0
 CallersHold phases answers closed =
     (node : ℕ) → node < length closed → NodeHolds node phases answers (records_at closed node)
 
--- the first node where it doesn't hold
+-- the first node at which a caller's records aren't its lines that call, with the lines' results
 pub record IsStrange (node : ℕ) (phases : List Phase) (answers : List (List LineAnswer)) (closed : List JournalValue)
     : Type 0 where
   pub within : node < length closed

@@ -31,6 +31,6 @@ PagesHold t all pages = pages ≡ map (last_page_of t) all
 abbrev pub IsTrueOf : Table → JournalValue → Type 0
 IsTrueOf t j = AreHistory (beginning_of t j.beginning.node 0) j.records
 
--- this holds for all journals
+-- each result in all journals is that of the model's step
 abbrev pub AreTrueOf : Table → List JournalValue → Type 0
 AreTrueOf t all = (i : ℕ) → i < length all → IsTrueOf t (journal_at all i)

@@ -92,12 +92,12 @@ pub record FollowsReceipts (calls : List Call) (lines : List (LineAnswer × Opti
   pub each : (before after : List (LineAnswer × Option Page)) (answer : LineAnswer) (read : Option Page)
       → lines ≡ before ++ (answer, read) ∷ after → IsTold (receipt_after 0 (take (asked_in before) calls)) answer read
 
--- the lines of all callers of a node do
+-- the lines of all callers of a node agree with the receipts before them
 abbrev pub NodeFollows : ℕ → List Phase → List (List LineAnswer) → List (List (Option Page)) → List Record → Type 0
 NodeFollows node phases answers reads records = (caller : ℕ) → 1 ≤ caller → caller ≤ 4
     → FollowsReceipts (calls_of caller records) (own_of node caller phases answers reads)
 
--- the lines of all callers of all nodes do
+-- the lines of all callers of all nodes agree with the receipts before them
 abbrev pub FollowReceipts : List Phase → List (List LineAnswer) → List (List (Option Page)) → List JournalValue → Type 0
 FollowReceipts phases answers reads closed =
     (node : ℕ) → node < length closed → NodeFollows node phases answers reads (records_at closed node)

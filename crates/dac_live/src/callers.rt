@@ -86,7 +86,7 @@ pub fn are_told(told: &[&Answer], records: &[Record], seat: u16) -> bool
     next == told.len()
 }
 
-/// Returns whether the records of a caller's seat are its lines, with the lines' results.
+/// Returns whether a caller's records are its lines, with the lines' results.
 fn caller_holds(
     alloc: Global,
     phases: &[Phase],
@@ -108,7 +108,7 @@ fn caller_holds(
     Ok(are_told(told.as_slice(), records, seat))
 }
 
-/// Returns whether this holds for all callers of a node.
+/// Returns whether the records of all callers of a node are their lines, with the lines' results.
 fn node_holds(
     alloc: Global,
     phases: &[Phase],

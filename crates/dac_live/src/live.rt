@@ -154,15 +154,15 @@ fn report_of(
 
 /// Runs the phases at sites of all nodes. The report is computed from the closed journals and checked against them.
 ///
-/// `TooManyNodes` comes exactly if there are more than four nodes, before anything runs. `NoThread`, `Open`, `Site` and
-/// `NoMemory` come of the run itself. The others come of the run, and of the checks after it:
+/// Fails with `TooManyNodes` exactly if there are more than four nodes, before anything runs. `NoThread`, `Open`,
+/// `Site` and `NoMemory` are faults of the run. The others are faults of the run, or of the checks after it:
 ///
 /// - `LinkLost`: the journals at the ends of a link don't match.
 /// - `NoPage`: a node's journal or final page is missing; that page isn't the one after the whole journal; a page read
 ///   by a line isn't the one after as many records as its place says; or the journal is no history of the node.
-/// - `Close` with a `Mismatch`: a record's seat doesn't exist (at the place of the record); or, at place 0, a caller's
-///   records don't match its lines, a journal doesn't consist of the phases, a line has no result, or a read is fresh or
-///   stale contrary to its page and the caller's last receipt.
+/// - `Close` with a `Mismatch`: a record's seat doesn't exist (at the record's place); or, at place 0, a caller's
+///   records don't match its lines, a journal doesn't consist of the phases, a line has no result, or a read is fresh
+///   or stale contrary to its page and the caller's last receipt.
 pub fn run_live<G: Gate, R: Threads + Wait + Sync>(
     rt: &R,
     alloc: Global,

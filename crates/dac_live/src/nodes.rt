@@ -71,7 +71,6 @@ fn missing(found: usize, nodes: u8) -> RunFault {
 /// Fails with `NoPage` of the first node whose journal is missing; otherwise of the first whose final page is missing;
 /// otherwise of the first whose journal or one of whose pages is wrong. Its only other error is
 /// [`NoMemory`](RunFault::NoMemory).
-/// [`NoMemory`](RunFault::NoMemory).
 pub fn last_pages(
     alloc: Global,
     config: &Config,

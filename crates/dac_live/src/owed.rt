@@ -14,7 +14,7 @@ fn is_line(nodes: u8, line: &Line) -> bool
     line.node.0 < nodes && 1 <= line.caller && line.caller <= CALLERS
 }
 
-/// Returns whether all lines of the phase are.
+/// Returns whether all lines of the phase are for nodes below this number, and for callers 1 to 4.
 fn has_lines(nodes: u8, phase: &Phase) -> bool
     ensures { result ≡ true → HasLines nodes phase.now }
 {

@@ -155,7 +155,7 @@ fn caller_follows(
     Ok(true)
 }
 
-/// Returns whether this holds for all callers of a node.
+/// Returns whether each line of a node's callers agrees with the caller's last receipt before it.
 fn node_follows(
     alloc: Global,
     phases: &[Phase],

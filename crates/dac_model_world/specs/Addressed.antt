@@ -14,7 +14,7 @@ IsAddressed e (Err fault) = Unit {0}
 IsAddressed e (Ok (Shipped m)) = (e.what ≡ Ships m.to) × (m.from.node ≡ e.node)
 IsAddressed e (Ok _) = (to : NodeId) → ¬ (e.what ≡ Ships to)
 
--- this holds for all these events and their results
+-- the messages of all these events go to the nodes that the ships name
 abbrev pub AreAddressed : List WorldEvent → List (Result Reply WorldFault) → Type 0
 AreAddressed [] answers = Unit {0}
 AreAddressed (e ∷ es) [] = Unit {0}

@@ -35,7 +35,7 @@ shown_world t w = record {
 abbrev pub IsEnough : List (Result Reply WorldFault) → Type 0
 IsEnough answers = AllByRecursion (λ (answer : Result Reply WorldFault). ¬ (answer ≡ out_of_memory)) answers
 
--- this holds for each list of events: of the configuration, the events, their results from the start, and the program's
+-- P holds of each list of events: of the configuration, the events, their results from the start, and the program's
 -- world after them
 abbrev pub OfEachList : (Table → List WorldEvent → List (Result Reply WorldFault) → WorldValue → Type 0) → Type 0
 OfEachList P = (t : Table) (events : List WorldEvent)

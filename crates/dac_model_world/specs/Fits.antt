@@ -60,7 +60,7 @@ abbrev pub HearsWhatFits : SetWorld → (NodeId → ℕ) → WorldEvent → Resu
 HearsWhatFits w deltas e a =
     RunsIn w e.node → Fits w e.node e.what → IsHeard a ⊎ ((a ≡ out_of_memory) ⊎ IsFull (deltas e.node) a)
 
--- this holds for all these events, with these numbers of deltas at the beginning
+-- in all these events running nodes hear what fits them; nodes begin with these numbers of deltas
 abbrev pub HearsAllThatFits : SetWorld → (NodeId → ℕ) → List WorldEvent → List (Result Reply WorldFault) → Type 0
 HearsAllThatFits w deltas [] answers = Unit {0}
 HearsAllThatFits w deltas (e ∷ es) [] = Unit {0}

@@ -36,7 +36,7 @@ pub record IsOwn (own : Origin) (before : List Operation) (o : Operation) : Type
   pub origin : o.dot.origin ≡ own
   pub counter : o.dot.n ≡ count_of own before + 1
 
--- this holds for each of these, one after another
+-- each of these operations is the incarnation's next after those before it
 abbrev pub AreOwn : Origin → List Operation → List Operation → Type 0
 AreOwn own before [] = Unit {0}
 AreOwn own before (o ∷ os) = IsOwn own before o × AreOwn own (before ++ o ∷ []) os
@@ -54,7 +54,7 @@ TellsIssued w e (Ok (Issued o)) = AreIssuedAt w e.node (o ∷ [])
 TellsIssued w e (Ok (Ticked os passed)) = AreIssuedAt w e.node os
 TellsIssued w e _ = Unit {0}
 
--- this holds for all these events
+-- each of these events issues operations of its node
 abbrev pub TellIssued : SetWorld → List WorldEvent → List (Result Reply WorldFault) → Type 0
 TellIssued w [] answers = Unit {0}
 TellIssued w (e ∷ es) [] = Unit {0}

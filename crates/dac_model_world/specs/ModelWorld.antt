@@ -165,8 +165,7 @@ pub record RanAs (t : Table) (events : List WorldEvent) (answers : List (Result 
   pub run : Run t (start t) events answers final
   pub shows : Shows t final v
 
--- this holds for each run from the start: of the configuration, its events, its results, and the program's world after
--- it
+-- P holds of each run from the start: of the configuration, its events, its results, and the program's world after it
 abbrev pub InEachRun : (Table → List WorldEvent → List (Result Reply WorldFault) → WorldValue → Type 0) → Type 0
 InEachRun P = (t : Table) (events : List WorldEvent) (answers : List (Result Reply WorldFault)) (v : WorldValue)
     → RanAs t events answers v → P t events answers v

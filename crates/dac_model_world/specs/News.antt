@@ -22,7 +22,7 @@ abbrev pub TellsNews : SetWorld → WorldEvent → Result Reply WorldFault → T
 TellsNews w e (Ok (Heard fresh)) = IsTrue fresh ↔ HasNews (held_by (w.node e.node)) (brought_to w e.node e.what)
 TellsNews w e _ = Unit {0}
 
--- this holds for all these events
+-- each hear among these events reports whether it brought a new dot
 abbrev pub AnswersNews : SetWorld → List WorldEvent → List (Result Reply WorldFault) → Type 0
 AnswersNews w [] answers = Unit {0}
 AnswersNews w (e ∷ es) [] = Unit {0}

@@ -49,7 +49,7 @@ Unites w n what (Ok (Shipped m)) = IsPut w n m (set_step w n what (Ok (Shipped m
 Unites w n what (Ok (Heard fresh)) = HearsSo w n what (set_step w n what (Ok (Heard fresh)))
 Unites w n what _ = Unit {0}
 
--- this holds for all these events with their results
+-- each ship among these events adds a copy of the whole set, and each hear unites sets
 abbrev pub AllUnite : SetWorld → List WorldEvent → List (Result Reply WorldFault) → Type 0
 AllUnite w [] answers = Unit {0}
 AllUnite w (e ∷ es) [] = Unit {0}

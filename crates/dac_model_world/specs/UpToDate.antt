@@ -26,7 +26,7 @@ pub record HasAll (w : SetWorld) (from to : NodeId) : Type 0 where
 abbrev pub TellsUpToDate : SetWorld → WorldEvent → Result Reply WorldFault → Type 0
 TellsUpToDate w e a = a ≡ Err (Refused UpToDate) → (to : NodeId) → e.what ≡ Ships to → HasAll w e.node to
 
--- this holds for all these ships
+-- each of these ships that is refused as up to date is to a node that has all
 abbrev pub TellUpToDate : SetWorld → List WorldEvent → List (Result Reply WorldFault) → Type 0
 TellUpToDate w [] answers = Unit {0}
 TellUpToDate w (e ∷ es) [] = Unit {0}

@@ -116,9 +116,9 @@ impl Node {
         })
     }
 
-    /// Handles one event, as node `self_id` until the controller is off again. Fails with the first cause that holds,
-    /// and with `NoMemory` only if no other does. A crash allocates nothing, so a running controller can always go
-    /// down.
+    /// Handles one event. A controller that boots is node `self_id` until it is off again. Fails with the first cause
+    /// that holds, and with `NoMemory` only if no other does. A crash allocates nothing, so a running controller can
+    /// always go down.
     pub fn step(&mut self, config: &Config, self_id: NodeId, event: Event) -> Result<Reply, Refusal>
         ensures err { IfErr result
             (λ why. why ≡ unwrap_or (refusal_of config.now self.old event) Refusal.NoMemory) }

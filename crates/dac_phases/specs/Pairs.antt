@@ -21,7 +21,7 @@ abbrev pub RowHolds : ℕ → ℕ → List Record → List JournalValue → Type
 RowHolds phases f sender all = (t : ℕ) → t < length all → t ≢ f
     → Linked phases (record { 0 = t }) (shipper_seat f t) (worker_seat t f) sender (records_at all t)
 
--- this holds for the links from all nodes
+-- the records at both ends of all links match
 abbrev pub LinksHold : ℕ → List JournalValue → Type 0
 LinksHold phases all = (f : ℕ) → f < length all → RowHolds phases f (records_at all f) all
 
@@ -48,6 +48,6 @@ IsSeat nodes seat = (1 ≤ seat) × (seat ≤ 2 * nodes + 2)
 abbrev pub AreOfSeats : ℕ → List Record → Type 0
 AreOfSeats nodes records = All (λ (r : Record). IsSeat nodes r.seat) records
 
--- this holds for all journals
+-- the records of all journals are of seats that a node has
 abbrev pub SeatsHold : List JournalValue → Type 0
 SeatsHold all = All (λ (j : JournalValue). AreOfSeats (length all) j.records) all

@@ -51,6 +51,6 @@ abbrev pub ArePhased : List Phase → List (List Record) → Type 0
 ArePhased [] journals = All (λ (rs : List Record). rs ≡ []) journals
 ArePhased (phase ∷ phases) journals = BeginWith phase (ArePhased phases) journals
 
--- this holds for closed journals
+-- the closed journals consist of the records of the phases
 abbrev pub FallIntoPhases : List Phase → List JournalValue → Type 0
 FallIntoPhases phases closed = ArePhased phases (map (λ (j : JournalValue). j.records) closed)

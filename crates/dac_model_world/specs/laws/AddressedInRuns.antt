@@ -91,7 +91,7 @@ addressed_step : (t : Table) (w : ModelWorld) (s : SetWorld) (e : WorldEvent) (a
 addressed_step t w s e a next h (inl d) = subst (IsAddressed e) (sym d.answered) (addressed_happens t w s h e)
 addressed_step t w s e a next h (inr l) = subst (IsAddressed e) (sym l.answered) tt
 
--- this holds in every run of the model world
+-- messages go to the nodes that ships name in every run of the model world
 pub addressed_run : (t : Table) (w : ModelWorld) (s : SetWorld) (es : List WorldEvent) (answers : List Answer) (final : ModelWorld) → Sound w s → Run t w es answers final → AreAddressed es answers
 addressed_run t w s [] answers final h r = tt
 addressed_run t w s (e ∷ es) [] final h r = tt

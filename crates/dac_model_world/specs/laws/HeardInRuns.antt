@@ -183,6 +183,6 @@ heard_along t w s deltas (e ∷ es) (a ∷ answers) final h few inside run =
     let r = run_first t w e es a answers final run in
     (heard_step t w s deltas e a r.0 h few inside r.1.0, heard_along t r.0 (set_step s e.node e.what a) (deltas_with deltas e.node a) es answers final (sound_step t w s e a r.0 h r.1.0) (few_step t w deltas e a r.0 few r.1.0) (inside_step t w s e a r.0 inside r.1.0) r.1.1)
 
--- this holds in every run of the model world from the start
+-- running nodes hear what fits them in every run of the model world from the start
 pub heard_run : (t : Table) (es : List WorldEvent) (answers : List Answer) (final : ModelWorld) → Run t (start t) es answers final → HearsAllThatFits no_sets no_deltas es answers
 heard_run t es answers final r = heard_along t (start t) no_sets no_deltas es answers final (sound_start t) (λ n q e. none_some e) (λ n runs. none_some runs.1) r

@@ -200,7 +200,7 @@ numbered_step : (t : Table) (w : ModelWorld) (s : SetWorld) (e : WorldEvent) (a 
 numbered_step t w s e a next h k (inl d) = subst (λ (p : ModelWorld × Answer). TellsIssued s e p.1 × Numbered p.0) (λ i. (sym d.went_on i, sym d.answered i)) (numbered_happens t w s e h k (sound_happens t w s e h))
 numbered_step t w s e a next h k (inr l) = subst (λ (p : ModelWorld × Answer). TellsIssued s e p.1 × Numbered p.0) (λ i. (sym l.stayed i, sym l.answered i)) (tt, k)
 
--- this holds in every run of the model world
+-- nodes issue their own operations in every run of the model world
 pub issued_run : (t : Table) (w : ModelWorld) (s : SetWorld) (es : List WorldEvent) (answers : List Answer) (final : ModelWorld) → Sound w s → Numbered w → Run t w es answers final → TellIssued s es answers × Numbered final
 issued_run t w s [] [] final h k r = (tt, subst Numbered (sym r.1) k)
 issued_run t w s [] (a ∷ answers) final h k r = absurd r.0

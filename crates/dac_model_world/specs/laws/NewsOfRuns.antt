@@ -140,7 +140,7 @@ news_step : (t : Table) (w : ModelWorld) (s : SetWorld) (e : WorldEvent) (a : An
 news_step t w s e a next h (inl d) = subst (TellsNews s e) (sym d.answered) (news_happens t w s e h)
 news_step t w s e a next h (inr l) = subst (TellsNews s e) (sym l.answered) tt
 
--- this holds in every run of the model world
+-- hears report news in every run of the model world
 pub news_run : (t : Table) (w : ModelWorld) (s : SetWorld) (es : List WorldEvent) (answers : List Answer) (final : ModelWorld) → Sound w s → Run t w es answers final → AnswersNews s es answers
 news_run t w s [] answers final h r = tt
 news_run t w s (e ∷ es) [] final h r = tt

@@ -57,7 +57,7 @@ pub record IsNextAfter (before : List Operation) (o : Operation) : Type 0 where
   pub replaces : Replaces (meaning_of before) o.act
   pub ends : EndsLive (meaning_of before) o.act
 
--- this holds for each of these, one after another
+-- each of these operations is its origin's next after those before it
 abbrev pub AreNext : List Operation → List Operation → Type 0
 AreNext before [] = Unit {0}
 AreNext before (o ∷ os) = IsNextAfter before o × AreNext (before ++ o ∷ []) os

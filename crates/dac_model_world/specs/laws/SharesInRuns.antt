@@ -90,7 +90,7 @@ module _ (w : ModelWorld) (s : SetWorld) (h : Sound w s) (k : Numbered w) where
     | false ↦ λ f. know n m mine theirs (λ same. true≢false (sym (eq-eqb n.0 m.0 (ap (λ (q : NodeId). q.0) same)) ∙ f)) on at life e
   ] refl
 
--- this holds in every run of the model world from the start
+-- shares leave the union in every run of the model world from the start
 pub shares_run : (t : Table) (es : List WorldEvent) (answers : List Answer) (final : ModelWorld) → Run t (start t) es answers final → SharesUnite es answers
 shares_run t es answers final r b k know share =
     let first = take b es in

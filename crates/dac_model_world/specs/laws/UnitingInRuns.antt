@@ -93,7 +93,7 @@ unite_step : (t : Table) (w : ModelWorld) (s : SetWorld) (e : WorldEvent) (a : A
 unite_step t w s e a next h (inl d) = subst (Unites s e.node e.what) (sym d.answered) (unite_happens t w s e h)
 unite_step t w s e a next h (inr l) = subst (Unites s e.node e.what) (sym l.answered) tt
 
--- this holds in every run of the model world
+-- ships and hears unite sets in every run of the model world
 pub unite_run : (t : Table) (w : ModelWorld) (s : SetWorld) (es : List WorldEvent) (answers : List Answer) (final : ModelWorld) → Sound w s → Run t w es answers final → AllUnite s es answers
 unite_run t w s [] answers final h r = tt
 unite_run t w s (e ∷ es) [] final h r = tt

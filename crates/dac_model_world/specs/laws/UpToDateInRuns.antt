@@ -148,7 +148,7 @@ up_step t w s e a next h (inr l) = subst (TellsUpToDate s e) (sym l.answered) (�
     no : out_of_memory ≡ Err (Refused UpToDate) → ⊥
     no p = cc
 
--- this holds in every run of the model world
+-- ships are refused as up to date only if the receiver has all, in every run of the model world
 pub up_to_date_run : (t : Table) (w : ModelWorld) (s : SetWorld) (es : List WorldEvent) (answers : List Answer) (final : ModelWorld) → Sound w s → Run t w es answers final → TellUpToDate s es answers
 up_to_date_run t w s [] answers final h r = tt
 up_to_date_run t w s (e ∷ es) [] final h r = tt

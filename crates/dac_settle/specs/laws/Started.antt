@@ -81,7 +81,7 @@ module _ (rest : List Operation) (silent : SayNoLives rest) where
       by_life None none = absurd (none up_life (is_said life_said s n up_life (up_said n either)))
       by_life (Some l) is = ap (λ k. Some k) (sym (said_life n l (of_said life_said s n l is.0)).1)
 
-  -- no other node is
+  -- only the two nodes are live
   pub only_up_live : (n : NodeId) (inc : ℕ) → IsLive (meaning_of s).lives n inc → IsEither n × (1 ≡ inc)
   only_up_live n inc alive =
       let there : map.get (lives_of s) n ≡ Some (record { inc = inc; flag = IsUp }) = sym (ap (λ lives. map.get lives n) (lives-meaning s)) ∙ alive in
