@@ -3,8 +3,8 @@
 //! A [`Journal`] contains the node itself, so each of its records is a step of that node. Closing it returns a
 //! [`Closed`] one.
 //!
-//! Functions that don't return `Result<_, NoMemory>` allocate nothing. A failed allocation is their only error, and
-//! leaves everything borrowed unchanged as far as contracts see. Each `Drop` is written by hand, so that a proof sees
+//! Functions that don't return `Result<_, NoMemory>` allocate nothing. Those that do have no other error, and if they
+//! fail everything borrowed is unchanged, as far as contracts see. Each `Drop` is written by hand, so that a proof sees
 //! it as one call.
 #![tactic(auto)]
 

@@ -130,7 +130,7 @@ fn node_holds(
 }
 
 /// The first node at which a caller's seat has other records than its lines ask for, or other results than its lines
-/// have. The journals stand in order of name.
+/// have.
 pub fn strange_node(
     alloc: Global,
     phases: &[Phase],

@@ -4,7 +4,7 @@
 //! history of its node, and the rest of the report is compared with the journals before it is returned.
 //!
 //! Functions whose result can't carry `NoMemory` allocate nothing, and `NoMemory` is the only error of those that name
-//! no other.
+//! no other. Lists with an item for each node are in order of name.
 #![tactic(auto)]
 
 pub use callers::{answers_of, are_told, strange_node};

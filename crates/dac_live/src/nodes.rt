@@ -66,7 +66,7 @@ fn missing(found: usize, nodes: u8) -> RunFault {
 }
 
 /// The final pages, if each is the one after all records of its node's journal, and each page read by a line is the one
-/// after as many of them as its place says. Journals and final pages stand in order of name.
+/// after as many of them as its place says.
 ///
 /// Fails with `NoPage` of the first node whose journal is missing; otherwise of the first whose final page is missing;
 /// otherwise of the first whose journal or one of whose pages is wrong. Its only other error is

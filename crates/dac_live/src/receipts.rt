@@ -179,7 +179,7 @@ fn node_follows(
 }
 
 /// The first node at which the result of a caller's line contradicts the page that it read, or the caller's last
-/// receipt before the line. The journals stand in order of name.
+/// receipt before the line.
 pub fn strange_read(
     alloc: Global,
     phases: &[Phase],

@@ -18,7 +18,7 @@ pub record HearsAt (old : WorldValue) (node : NodeId) (e : Event) (reply : Reply
       → HearsExactly x e reply y
   pub others : (n : ℕ) → ¬ (n ≡ node.0) → slice_get new.nodes n ≡ slice_get old.nodes n
 
--- the event of the world is one of its node, which hears the dots that it brings, and no others
+-- if the event of the world leads to one of its node, the node hears the dots that it brings, and no others
 abbrev pub HearsIn : WorldValue → WorldEvent → Reply → WorldValue → Type 0
 HearsIn old w reply new =
     (e : Event) → event_of old.operations old.messages w.what ≡ Ok e → HearsAt old w.node e reply new

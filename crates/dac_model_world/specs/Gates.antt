@@ -18,7 +18,7 @@ abbrev pub NoneGoesOff : List Entry → Type 0
 NoneGoesOff [] = Unit {0}
 NoneGoesOff (x ∷ xs) = (¬ (Answers SaysOff x.answer)) × NoneGoesOff xs
 
--- After a tick finds the gate open, none is held back or gives up until the node goes off.
+-- After a tick finds a start gate open, no tick is held back or gives up until the node goes off.
 abbrev pub GatesStayOpen : Type 0
 GatesStayOpen = (t : Table) (me : NodeId) (d final : ModelNode) (e later : Event) (between : List Entry)
     → Answers SaysOpen (model_step t me d e).answer

@@ -122,7 +122,7 @@ impl Node {
     pub fn step(&mut self, config: &Config, self_id: NodeId, event: Event) -> Result<Reply, Refusal>
         ensures err { IfErr result
             (λ why. why ≡ unwrap_or (refusal_of config.now self.old event) Refusal.NoMemory) }
-        // A refusal is the least cause that holds of the event; none holds of an accepted one.
+        // A refusal is the least cause that holds; no cause holds of an accepted event.
         ensures cases { MatchResult result (λ _. IsFree config.now self.old event)
             (IsAnsweredBy config.now self.old event) }
         ensures crash { IfErr result (λ why. event ≡ Event.Crash → why ≡ Refusal.Off) }

@@ -94,7 +94,7 @@ impl Running {
 }
 
 impl Knowledge {
-    /// The waits after a note at this moment. They are shared if the board tells that the note changes nothing.
+    /// The waits after a note at this moment. They are shared if the board shows that the note changes nothing.
     fn note(
         &self,
         config: &Config,
@@ -117,7 +117,7 @@ impl Knowledge {
         Ok(waits)
     }
 
-    /// Returns whether the board tells that a note changes nothing.
+    /// Returns whether the board shows that a note changes nothing.
     fn are_quiet(&self, config: &Config, board: Option<&Board>) -> bool
         requires { IfSome (option_copied board) (λ b. Shows config.now b self.now.state) }
         ensures { IsTrue result → (notes : List Note) (moment : ℕ)

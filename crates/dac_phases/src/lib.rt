@@ -1,7 +1,7 @@
 //! Checks of a run's closed journals: seats, callers' lines, links, and phases.
 //!
 //! Functions whose result can't carry `NoMemory` allocate nothing, and `NoMemory` is the only error of those that name
-//! no other.
+//! no other. Lists with an item for each node are in order of name.
 #![tactic(auto)]
 
 pub use asked::{are_asked, asked_by, is_of};

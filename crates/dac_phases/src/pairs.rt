@@ -84,8 +84,7 @@ fn lost_to(
     Ok(None)
 }
 
-/// The first link, by the node that ships and then by the one that hears, whose ends don't match. The journals stand in
-/// order of name.
+/// The first link, by the node that ships and then by the one that hears, whose ends don't match.
 pub fn lost_link(
     alloc: Global,
     phases: usize,

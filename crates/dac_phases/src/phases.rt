@@ -172,9 +172,9 @@ fn records_of(alloc: Global, closed: &[Closed]) -> Result<Vec<&[Record]>, NoMemo
     Ok(all)
 }
 
-/// A node whose journal doesn't consist of the phases, or `None` if all do. The journals stand in order of name. In the
-/// records of a phase the callers' seats call the phase's lines, each shipper ships five times, and each link worker
-/// hears exactly what its shipper ships in that phase.
+/// A node whose journal doesn't consist of the phases, or `None` if all do. In the records of a phase the callers'
+/// seats call the phase's lines, each shipper ships five times, and each link worker hears exactly what its shipper
+/// ships in that phase.
 pub fn stray_node(
     alloc: Global,
     phases: &[Phase],

@@ -36,8 +36,7 @@ fn strange_place(nodes: usize, records: &[Record]) -> Option<u64>
     None
 }
 
-/// Fails with a `Close` fault that names the first record of a seat that no node has. The journals stand in order of
-/// name.
+/// Fails with a `Close` fault that names the first record of a seat that no node has.
 pub fn check_seats(closed: &[Closed]) -> Result<(), RunFault>
     requires { length closed.now ≤ MAX_NODES }
     ensures { OnOk result (SeatsHold closed.now) }

@@ -1,4 +1,4 @@
--- The rule of verdicts for which settling is proved, and a rule that breaks it: one that also takes over an application
+-- The rule of verdicts for which settling is proved, and one for which it fails: one that also takes over an application
 -- inside a tuple, if another node of its holder's group runs fewer.
 use Rattle.std.specs.Prelude.{ℕ, Bool, false, ◌&&◌, ◌==◌, nat_lt, Option, Some, if◌then◌else◌}
 use Rattle.std.specs.Option.{option_map_or}

@@ -80,7 +80,7 @@ pub record IsWorldRound (t : Table) (w : ModelWorld) (s : SetWorld) (events : Li
   pub ticks : (n : NodeId) → IsSome (w.node n).running → AnswersTick n events answers
   pub same : AllSame (members_of (world_after t w events answers) (set_run s events answers))
 
--- they are this many rounds, one after another
+-- the events are this many rounds, one after another
 abbrev pub AreRounds : Table → ℕ → ModelWorld → SetWorld → List WorldEvent → List (Result Reply WorldFault) → Type 0
 AreRounds t zero w s events answers = (events ≡ []) × (answers ≡ [])
 AreRounds t (suc k) w s events answers =
@@ -101,7 +101,7 @@ pub record EndsInRounds (t : Table) (events : List WorldEvent) (answers : List (
   pub last : AreRounds t (app_count t) (world_after t (start t) before replies)
       (set_run no_sets before replies) rounds more
 
--- If the events end in such rounds, each application is settled at each running node.
+-- If the events end in rounds as by `EndsInRounds`, each application is settled at each running node.
 pub record Settles (t : Table) (events : List WorldEvent) (answers : List (Result Reply WorldFault))
     (v : WorldValue) : Type 0 where
   pub each : EndsInRounds t events answers

@@ -12,7 +12,7 @@ ghost use Rattle.dac_settle.specs.WorkedShare.{SharesCanBe};
 ghost use Rattle.dac_model_world.specs.ModelWorld.{InEachRun};
 
 /// Rounds settle every application: after as many rounds as the configuration has applications, begun in a ready world,
-/// each running controller keeps it, has it halted, or knows that no node can run it.
+/// the verdict of each running controller on each of them is that it is kept or halted, or that no node can run it.
 pub fn rounds_settle()
     ensures members { RoundsSettle }
     // This holds of each run of the model world that ends in such rounds.

@@ -97,7 +97,7 @@ module _ (t : Table) where
       same = round.same;
     }
 
-  -- events after events, with their answers
+  -- the world after two lists of events, one after the other
   after_both : (w : ModelWorld) (es fs : List WorldEvent) (answers more : List Answer) → AnsweredAs t w es answers → world_after t w (es ++ fs) (answers ++ more) ≡ world_after t (world_after t w es answers) fs more
   after_both w [] fs [] more answered = refl
   after_both w [] fs (a ∷ answers) more answered = absurd answered
