@@ -12,7 +12,6 @@ use std::sync::Wait;
 use std::thread;
 use std::thread::{JoinHandle, Scope, Threads};
 
-/// A worker in a phase.
 #[derive(Drop)]
 enum Started<W: Worker> {
     /// It has no work in this phase, and no thread.
@@ -52,7 +51,6 @@ fn start_all<'s, E, W: Worker + 's, R: Threads + Wait + Sync>(
     Ok(all)
 }
 
-/// Waits for a worker's thread to end.
 fn ended<W: Worker, R: Threads + Wait>(rt: &R, started: Started<W>) -> Result<W, W::Fault> {
     match started {
         Started::Idle(worker) => Ok(worker),
@@ -111,7 +109,7 @@ fn join_all<W: Worker, R: Threads + Wait>(
     Ok(outcomes)
 }
 
-/// One phase: all workers with work run concurrently, each in its own thread, until all are joined.
+/// Runs all workers with work concurrently, each in its own thread, and joins them.
 fn run_phase<W: Worker, R: Threads + Wait + Sync>(
     rt: &R,
     alloc: Global,

@@ -71,7 +71,6 @@ impl SiteBlank {
     }
 }
 
-/// This many readers of the pages.
 fn readers_of(alloc: Global, paged: &PagedJournal, count: u16) -> Result<Vec<RawReader>, OpenFault>
     ensures { IfOk result (λ all. vec_len all ≡ count) }
 {

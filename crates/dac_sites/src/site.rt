@@ -101,7 +101,6 @@ pub struct Site<L: SiteName> {
     ghost some: { 0 < L.seats },
 }
 
-/// The ledger, and a seat for each of its parts.
 fn deal<L: SiteName>(
     alloc: Global,
     blank: Blank,
@@ -119,7 +118,6 @@ fn deal<L: SiteName>(
     Ok((book, seats))
 }
 
-/// Binds readers to the site's name.
 fn name_readers<L: SiteName>(
     alloc: Global,
     mut readers: Vec<RawReader>,

@@ -43,7 +43,7 @@ use Rattle.dac_model_world.specs.laws.Sound.{Answer, Sound, seen, held_at, sound
 use Rattle.dac_model_world.specs.laws.FewInRuns.{IsFew, few_step}
 
 -- ---- only nodes of the configuration run
--- the nodes with sets are those with numbers below the count
+-- nodes with sets have numbers below the count
 abbrev pub Inside : ℕ → SetWorld → Type 0
 Inside count s = (n : NodeId) → RunsIn s n → nat_lt n.0 count ≡ true
 
