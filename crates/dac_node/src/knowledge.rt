@@ -25,8 +25,8 @@ use std::sync::Arc;
 /// All that a running controller keeps except the delta log. Its state knows the operation of its own boot, and its
 /// last tick isn't before its boot.
 ///
-/// Waits and state are shared pointers: only ticks change the waits, and an event that brings nothing new keeps the
-/// state, so most changes share both and stay small.
+/// Waits and state are shared pointers, because only ticks change the waits, and an event that brings nothing new keeps
+/// the state. So changes stay small.
 pub(crate) struct Knowledge {
     pub(crate) alloc: Global,
     pub(crate) origin: Origin,

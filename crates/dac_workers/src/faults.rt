@@ -17,7 +17,7 @@ pub enum RunFault {
     /// A thread couldn't be spawned.
     #[error("no thread")]
     NoThread,
-    /// A letter can't be encoded, sent or received, or doesn't decode to its message.
+    /// A letter can't be encoded, sent or received, or doesn't decode to its message, or the link's ends don't match.
     #[error("a link is lost")]
     LinkLost {
         /// The node that ships.
@@ -44,10 +44,10 @@ pub enum RunFault {
         /// The fault of the closing.
         why: CloseFault,
     },
-    /// A node has no final page, or that page isn't the one after its whole journal.
+    /// A node's journal or final page is missing or wrong, or a page read by a caller is wrong.
     #[error("no final page")]
     NoPage {
-        /// The node without such a page.
+        /// The node of the journal and the page.
         node: NodeId,
     },
     /// An allocation failed.
