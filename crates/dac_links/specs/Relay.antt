@@ -1,11 +1,11 @@
--- What was put is what was taken and then what the link holds. One pass at most may put, and it has the list of what
--- was put. The same for taking.
+-- The letters sent are those received, followed by those in the channel. At most one pass permits sending, and it
+-- carries the list of the letters sent. At most one permits receiving, and carries the list of those received.
 use Rattle.std.specs.Prelude.{◌≡◌, ℕ, Bool, true, List, Option, ◌++◌}
 use mathlib.Core.Option.{some}
 use lib.ListN.{get_elem?}
 use Rattle.dac_links.specs.declared.rule.Log.{Log}
 
--- a letter: its bytes, if there are any
+-- a letter: its bytes, or nothing for the end letter
 abbrev pub Paper : Type 0
 Paper = Option (List ℕ)
 
@@ -21,6 +21,6 @@ Relayed items views =
     (writer : ℕ) × (reader : ℕ) × (put : List Paper) × (taken : List Paper) × (put ≡ taken ++ items)
     × ((port : ℕ) (v : Log) → get_elem? views port ≡ some v → RelayFits writer reader put taken port v)
 
--- the one list begins with the other
+-- the second list is a prefix of the first
 abbrev pub StartsWith : List Paper → List Paper → Type 0
 StartsWith all first = (rest : List Paper) × (all ≡ first ++ rest)

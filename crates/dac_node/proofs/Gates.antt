@@ -1,4 +1,4 @@
--- What a tick does, by what its start gate answers.
+-- The effect of a tick, by the state of its start gate.
 use Rattle.std.proofs.Common.{◌≡◌, ℕ, true, List, [], ◌∷◌, Option, sym, ap, ◌∙◌, Some, None}
 use Rattle.std.specs.Prelude.{unwrap_or, MatchOption}
 use Rattle.dac_meaning.specs.StateValue.{StateValue}
@@ -19,7 +19,7 @@ use Rattle.dac_node.specs.After.{after_by, after_from_base}
 use Rattle.dac_node.specs.Changes.{ChangeValue, Effect}
 
 module _ (t : Table) (number : ℕ) (r : RunningValue) (now : ℕ) where
-  -- where so much is noted by then
+  -- the effect with these waits
   pub claimed_effect : opening_at t r now ≡ Opened → (noted : List (Option Noted)) → ((notes : List Note) → r.waits ≡ waits_of t notes → noted ≡ waits_of t (record { state = r.state; moment = now } ∷ notes)) →
       (change : ChangeValue)
       → change ≡ record { last = number; after = GoesOn (ticking (knowledge_of r) now true noted (meanings (turn_of t r.origin noted now r.state).ops)); reply = HasTicked (turn_of t r.origin noted now r.state).ops (turn_of t r.origin noted now r.state).passed }
@@ -32,7 +32,7 @@ module _ (t : Table) (number : ℕ) (r : RunningValue) (now : ℕ) where
     reply = ap (λ (c : ChangeValue). c.reply) same ∙ sym (ap (λ o. (ticks_by o t r noted now).reply) is);
   }
 
--- ---- what the claims leave
+-- ---- the state after the claims
 
 module _ (before : StateValue) (turn : Turn) where
   left_by : (left : Option StateValue) → MatchOption left ((turn.ops ≡ []) × (turn.state ≡ before)) (λ after. (after ≡ turn.state) × ¬ (turn.ops ≡ [])) → unwrap_or left before ≡ turn.state

@@ -1,5 +1,5 @@
--- Nodes that come up in the worked runs: who is live, which counters are used. Each of them says that it may run the application,
--- and one that knows of no other claims it.
+-- Boots in the worked runs: the live nodes and the counters used. Each node requests a start, and one that knows of no
+-- other claims the application.
 use Rattle.std.proofs.Common.{◌≡◌, ℕ, ◌+◌, ◌<◌, Bool, true, false, not, cond, ◌||◌, List, [], ◌∷◌, length, Option, Some, None, option_map, refl, sym, ap, subst, ◌∙◌, arith, inl, inr}
 use Rattle.std.specs.Prelude.{nat_lt, nat_le, unwrap_or, IsSome}
 use Rattle.std.specs.Option.{is_some, option_map_or}
@@ -70,7 +70,7 @@ none_some e = cc
 pair_of : {X Y : Type 0} {a c : X} {b d : Y} → ◌≡◌ {A = Option (X × Y)} (Some (a, b)) (Some (c, d)) → (a ≡ c) × (b ≡ d)
 pair_of {X = X} {Y = Y} {a = a} {c = c} {b = b} {d = d} e = let pair : ◌≡◌ {A = X × Y} (a, b) (c, d) = one e in (ap (λ (p : X × Y). p.0) pair, ap (λ (p : X × Y). p.1) pair)
 
--- ---- sets by which one node is up, in its first incarnation
+-- ---- sets in which one node is up, in its first incarnation
 abbrev SayNoLife : List Operation → Type 0
 SayNoLife rest = (o : Operation) → IsOperationOf o rest → (m : NodeId) (l : Life) → life_said o.dot o.act ≡ Some (m, l) → ⊥
 
@@ -99,7 +99,7 @@ module _ (n : NodeId) (rest : List Operation) (none : SayNoLife rest) where
       (said.0, ap (λ (k : Life). k.inc) said.1)
 
 -- ---- counters
--- a known dot is that of an operation, where none replaces any
+-- a known dot is that of an operation, if none replaces any
 pub named_in : (os : List Operation) → ((o : Operation) → IsOperationOf o os → (d : Dot) → replaces d o ≡ false) → (d : Dot) → set.contains (meaning_of os).known d ≡ true → (o : Operation) × (IsOperationOf o os × (d ≡ o.dot))
 named_in os bare d t =
     let f = found (names d) os (sym (known-meaning os d) ∙ t) in
@@ -116,7 +116,7 @@ start_at n = start_of the_app n 2
 abbrev pub claiming_at : NodeId → Operation
 claiming_at n = operation (dot (first_of n) 3) (Claims the_app 1 Normal None)
 
--- what a node holds once it came up, and once it may run the application
+-- the set of a node after its boot, and after its start
 abbrev came : NodeId → List Operation
 came n = up_of n ∷ []
 
@@ -193,7 +193,7 @@ begun_state n = meaning_of (begun n)
 begun_live : (n : NodeId) → IsLive (begun_state n).lives n 1
 begun_live n = is_live n (start_at n ∷ []) (no_life_begun n)
 
--- ---- a node that came up says that it may run the application
+-- ---- a booted node requests a start
 came_live : (n : NodeId) → IsLive (meaning_of (came n)).lives n 1
 came_live n = is_live n [] no_life_came
 
@@ -256,9 +256,9 @@ begun_log n = meaning_of (came n) ∷ meaning_of (start_at n ∷ []) ∷ []
 abbrev pub begun_node : NodeId → Operation → ModelNode
 begun_node n o = record { last = 1; running = Some (record { origin = first_of n; moments = record { booted = 0; last = 0 }; is_open = false; notes = []; log = meaning_of (came n) ∷ meaning_of (o ∷ []) ∷ []; base = base_after 0 2 0; peers = no_peers }) }
 
--- ---- a node that knows of no other claims it
+-- ---- a node that knows of no other claims the application
 
--- the application's list has the node, and by what the node says of itself it may run the application
+-- the application's list contains the node, which is eligible by its own set
 pub record CanClaim (n : NodeId) : Type 0 where
   pub there : n.0 < node_count worked_table
   pub listed : IsSome (group_of worked_table the_app n)

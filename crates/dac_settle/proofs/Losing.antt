@@ -1,5 +1,5 @@
--- What the two nodes know in the worked run: who is live, which counters are used, that the claim is lost, and the verdict. The
--- first of them is to take the application once the time is over.
+-- The state of the two nodes in the worked run with a loss: the live nodes, the counters used, the lost claim, and the
+-- verdict. The first node should claim the application after the wait.
 use Rattle.std.proofs.Common.{◌≡◌, ℕ, ◌+◌, ◌≤◌, ◌<◌, Bool, true, false, ◌||◌, List, [], ◌∷◌, ◌++◌, Option, Some, None, option_map, refl, sym, ap, subst, ◌∙◌, arith, inl, inr}
 use Rattle.std.specs.Prelude.{nat_eq, nat_lt, All}
 use Rattle.std.specs.Option.{option_map_or}
@@ -54,7 +54,7 @@ use Rattle.dac_settle.specs.laws.BothTick.{no_row}
 use Rattle.dac_settle.specs.WorkedLoss.{lost_node, lost_claim}
 use Rattle.dac_settle.proofs.ComingUp.{none_some, claiming_at}
 
--- ---- what is known
+-- ---- the set
 abbrev the_starts : List Operation
 the_starts = start_of the_app first_node 2 ∷ start_of the_app second_node 2 ∷ []
 
@@ -183,8 +183,8 @@ few n either = ap (nat_lt MAX_COUNTER) (counters n either)
 pub up_there : (n : NodeId) → IsEither n → is_up loss_state (first_of n) ≡ true
 up_there n either = (up_is loss_state (first_of n)).1 (is_live n either)
 
--- ---- what was noted has waited
--- what was noted at moment 0
+-- ---- the note has waited
+-- the note at moment 0
 abbrev pub loss_note : Note
 loss_note = record { state = loss_state; moment = 0 }
 
@@ -208,7 +208,7 @@ late app claim since noted = by_row noted.row noted.begin noted.before noted.par
         wait (only_claimed app claim there.greatest) (ap (λ (k : Note). k.moment) is ∙ moment)
     by_row (x ∷ row) begin before parts lost moment = absurd (no_row row begin before (rest_is x begin row before parts))
 
--- ---- the first node takes it
+-- ---- the first node claims the application
 may_run : IsEligible worked_table loss_state the_app first_node
 may_run = record {
   listed = refl;

@@ -1,4 +1,4 @@
--- What a reader's learning of a receipt says, as one number.
+-- The least place after a receipt is learned, as one number.
 use Rattle.std.proofs.Common.{◌≡◌, ℕ, Option, None, Some, max, sym}
 use Rattle.std.specs.Option.{IfSome, IfNone}
 use Rattle.dac_sites.specs.declared.receipt.Receipt.{Receipt}

@@ -1,4 +1,4 @@
--- One call more of a link's threads.
+-- One more call of a link's threads.
 use Rattle.std.proofs.Common.{◌≡◌, ℕ, zero, suc, ◌+◌, List, [], ◌∷◌, ◌++◌, length, get_or, drop, map, All, Some, None, Ok, refl, sym, ap, ◌∙◌, subst, append_assoc, append-nil, arith}
 use Rattle.std.proofs.lemmas.List.Elements.{All-append, All-cons, All-nil}
 use Rattle.dac_base.specs.declared.NodeId.{NodeId}
@@ -15,7 +15,7 @@ use Rattle.dac_wire.specs.Decoding.{packet_at}
 use Rattle.dac_workers.specs.Letters.{IsLetterOf}
 use Rattle.dac_workers.specs.Links.{shipped_by, shipped_in, letters_of, ReadsBack, ships_to, ShipsOne, Ships, HearsOne, AreRead, Hears}
 
--- ---- lists one longer
+-- ---- appending one element
 events_push : (cs : List Call) (c : Call) → map (λ (c : Call). c.event) (cs ++ c ∷ []) ≡ map (λ (c : Call). c.event) cs ++ c.event ∷ []
 events_push [] c = refl
 events_push (x ∷ cs) c = ap (λ l. x.event ∷ l) (events_push cs c)
@@ -36,7 +36,7 @@ pub ships_many : (to : NodeId) (n : ℕ) → length (ships_to to n) ≡ n
 ships_many to zero = refl
 ships_many to (suc n) = ap suc (ships_many to n)
 
--- each of them ships
+-- each event of these ships to the node
 pub ships_each : (to : NodeId) (n : ℕ) (front : List Event) (e : Event) (rest : List Event) → ships_to to n ≡ (front ++ e ∷ []) ++ rest → e ≡ Ship to
 ships_each to zero [] e rest is = let none : 0 ≡ length (e ∷ rest) = ap length is in absurd (omega (arith, none))
 ships_each to zero (x ∷ front) e rest is = let none : 0 ≡ length (x ∷ ((front ++ e ∷ []) ++ rest)) = ap length is in absurd (omega (arith, none))

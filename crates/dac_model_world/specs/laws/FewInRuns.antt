@@ -1,4 +1,4 @@
--- A running node has no more deltas than its answers tell.
+-- A running node has no more deltas than its results account for.
 use Rattle.std.proofs.Common.{◌≡◌, ℕ, ◌≤◌, ◌+◌, Bool, true, false, not, cond, List, [], ◌∷◌, ◌++◌, length, Option, Some, None, Result, Ok, Err, inl, inr, nat_eq, refl, sym, ap, subst, ◌∙◌, le_refl, arith}
 use Rattle.std.specs.Prelude.{nat_lt}
 use Rattle.std.proofs.lemmas.Map.Views.{exact_unsigned_eq}
@@ -38,7 +38,7 @@ use Rattle.dac_model_world.specs.laws.Carried.{none_some}
 abbrev pub IsFew : (NodeId → ℕ) → ModelWorld → Type 0
 IsFew deltas w = (n : NodeId) (r : ModelRunning) → (w.node n).running ≡ Some r → length r.log ≤ deltas n
 
--- ---- what a transition adds
+-- ---- the deltas that a transition adds
 abbrev AddsFew : Transition → Type 0
 AddsFew transition = (before : ℕ) → before + length transition.adds ≤ deltas_after before (Ok transition.reply)
 
@@ -65,7 +65,7 @@ transition_adds t r noted (HearOp o) before = brings_few r.state (meaning_of (o 
 at_most : (q l a m k : ℕ) → q ≡ l + a → l ≤ m → m + a ≤ k → q ≤ k
 at_most q l a m k e p f = omega arith
 
--- what runs after it
+-- the node after a transition
 goes_few : (r : ModelRunning) (note : Note) (transition : Transition) (before : ℕ) → length r.log ≤ before → AddsFew transition → (q : ModelRunning) → goes_on r note transition ≡ Some q → length q.log ≤ deltas_after before (Ok transition.reply)
 goes_few r note transition before few adds q e = by_off transition.goes_off _ refl e
   where

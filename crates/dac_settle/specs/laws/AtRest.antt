@@ -31,12 +31,12 @@ use Rattle.dac_settle.specs.laws.WorkedRound.{nobody_claims}
 none_some : {X : Type 0} {v : X} {Y : Type 0} → ◌≡◌ {A = Option X} None (Some v) → Y
 none_some e = cc
 
--- ---- a turn
+-- ---- the effect of a tick
 
 module _ (t : Table) (own : Origin) (noted : List (Option Noted)) (now : ℕ) (s : StateValue)
     (settled : (app : AppId) → app.0 < app_count t → IsSettled (judged t s app))
   where
-    -- nothing is claimed so far
+    -- no claim is made yet
     record IsIdle (turn : Turn) : Type 0 where
       state : turn.state ≡ s
       ops : turn.ops ≡ []

@@ -1,4 +1,4 @@
--- The round of the worked cases: two nodes that hold the same tick, tell each other all, and hold the same then.
+-- The round of the worked cases: two nodes with the same set tick, ship all to each other, and hold the same set again.
 use Rattle.std.proofs.Common.{◌≡◌, ◌⊎◌, Bool, true, false, cond, List, [], ◌∷◌, ◌++◌, Option, Some, None, refl, sym, ap, subst, ◌∙◌, inl, inr}
 use Rattle.std.specs.Prelude.{nat_eq, IsSome}
 use Rattle.std.specs.Option.{is_some}
@@ -25,7 +25,7 @@ no_row [] begin before e = cc
 no_row (note ∷ row) begin before e = cc
 
 module _ (held : List Operation) where
-  -- ---- who runs
+  -- ---- the running nodes
   pub is_member : (m : NodeId) (d : Member) → both_hold held m ≡ Some d → (member_with held ≡ d) × IsEither m
   is_member m d e = by_tests (nat_eq m.0 0) (nat_eq m.0 1) refl refl e
     where
@@ -52,7 +52,7 @@ module _ (held : List Operation) where
     abbrev made : NodeId → List Operation
     made n = (turn_at worked_table n (member_with held) 0).ops
 
-    -- a node after its tick, and once it heard of the other's
+    -- a node after its tick, and after it has heard the other's claims
     abbrev after_tick : NodeId → Member
     after_tick n = ticked (member_with held) 0 (made n)
 

@@ -1,4 +1,4 @@
--- What settling sees of one event of the model world: a tick, a ship or a delivery of a member, or nothing.
+-- The effect of one event of the model world on its members: a tick, a ship or a delivery, or none.
 use Rattle.std.proofs.Common.{◌≡◌, ℕ, ◌-◌, ◌<◌, ◌≤◌, Bool, true, false, not, cond, List, [], ◌∷◌, ◌++◌, length, drop, map as list_map, Option, Some, None, Ok, Err, nat_eq, zero, suc, refl, sym, ap, subst, ◌∙◌, arith, inl, inr}
 use Rattle.std.specs.Prelude.{nat_lt}
 use Rattle.std.specs.Option.{option_map}
@@ -43,7 +43,7 @@ use Rattle.dac_settle.specs.laws.AnyPlacement.{one, same_node}
 
 -- ---- the copies of a round
 
--- what was shipped after the first so many
+-- the copies shipped after the first b
 abbrev pub since : ℕ → List Copy → List (List Operation)
 since b cs = list_map (λ (c : Copy). c.operations) (drop b cs)
 
@@ -73,11 +73,11 @@ counted_since b k cs c lt e = elim (nat_eq k 0) as (λ z. cond z None (slice_get
 
 -- ---- members
 
--- what settling sees of the two worlds in a round before which so much was shipped
+-- the members of the two worlds, in a round that began after b copies
 abbrev pub seen_in : ℕ → ModelWorld → SetWorld → Members
 seen_in b w s = record { node = members_of w s; copies = since b s.copies }
 
--- a node and its set put in place put their member in place
+-- replacing a node and its set replaces their member
 put_members : (w : ModelWorld) (s : SetWorld) (n : NodeId) (d : ModelNode) (held : Option NodeSet) (k : Member) → member_by d.running held ≡ Some k
     → (m : NodeId) → member_by (with_node w.node n d m).running (with_set s.node n held m) ≡ with_member (members_of w s) n k m
 put_members w s n d held k is m = by_test (nat_eq m.0 n.0)
@@ -86,7 +86,7 @@ put_members w s n d held k is m = by_test (nat_eq m.0 n.0)
     by_test true = is
     by_test false = refl
 
--- a node put in place that keeps its member keeps all
+-- replacing a node by one with the same member leaves all members
 keep_members : (w : ModelWorld) (s : SetWorld) (n : NodeId) (d : ModelNode) → member_by d.running (s.node n) ≡ members_of w s n → (m : NodeId) → member_by (with_node w.node n d m).running (s.node m) ≡ members_of w s m
 keep_members w s n d is m = by_test (nat_eq m.0 n.0) refl
   where
@@ -95,11 +95,12 @@ keep_members w s n d is m = by_test (nat_eq m.0 n.0) refl
     by_test false e = refl
 
 module _ (t : Table) (b : ℕ) (w : ModelWorld) (s : SetWorld) where
-  -- From here to there by one event of the members or none. Where node n ticked by this answer, it ticks there.
+  -- At most one event of the members leads from one pair of worlds to the next. If the result is a tick of node n, that
+  -- event is one too.
   abbrev pub Goes : NodeId → Answer → ModelWorld → SetWorld → Type 0
   Goes n a next later = (es : List MemberEvent) × Run t (seen_in b w s) es (seen_in b next later) × (IsTicked a → TicksIn n es)
 
-  -- so it goes if the event with its answer fits a round
+  -- an event that fits a round leads there
   abbrev pub GoesBy : NodeId → What → WorldStepped → Type 0
   GoesBy n what by = InRound t b w n what by.answer → Unites s n what by.answer → Goes n by.answer by.world (set_step s n what by.answer)
 
@@ -171,7 +172,7 @@ module _ (t : Table) (b : ℕ) (w : ModelWorld) (s : SetWorld) where
           λ i. absurd i,
         )
 
-    -- a node that hears goes on as the same incarnation with the same notes
+    -- a node that hears keeps its incarnation and its notes
     pub record HearsAs (d : ModelNode) : Type 0 where
       pub after : ModelRunning
       pub running : d.running ≡ Some after

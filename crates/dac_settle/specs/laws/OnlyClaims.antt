@@ -1,4 +1,4 @@
--- Claims alone change no more of a meaning than what is heard, what is known and the claims.
+-- Claims change only the claims of a meaning, and its heard and known dots.
 use Rattle.std.proofs.Common.{◌≡◌, ◌⊎◌, ℕ, Bool, true, false, not, cond, ◌&&◌, List, Option, Some, None, refl, sym, ap, subst, ◌∙◌, inl, inr}
 use Rattle.std.specs.declared.cmp.Ordering.{Ordering}
 use Rattle.std.specs.Cmp.{IsTotalOrder}
@@ -42,14 +42,14 @@ abbrev pub is_claim : Act → Bool
 is_claim (Claim app term how from) = true
 is_claim _ = false
 
--- x is s and claims
+-- x consists of s and of claims
 pub record AddsClaims (s x : List Operation) : Type 0 where
   pub keeps : AreOperationsOf s x
   pub new : (o : Operation) → IsOperationOf o x → IsOperationOf o s ⊎ (is_claim o.act ≡ true)
 
--- ---- what a claim isn't
+-- ---- other acts
 
--- what is so of every claim is so of an act that is one
+-- a property of every claim holds of an act that is one
 by_claim : (P : Act → Type 0) → ((app : AppId) (term : ℕ) (how : How) (from : Option NodeId) → P (Claim app term how from)) → (a : Act) → is_claim a ≡ true → P a
 by_claim P all Up h = absurd (false≢true h)
 by_claim P all (Down node inc) h = absurd (false≢true h)
@@ -75,7 +75,7 @@ no_drain a h = by_claim (λ b. drain_vote b ≡ None) (λ app term how from. ref
 no_life : (e : Dot) (a : Act) → is_claim a ≡ true → life_said e a ≡ None
 no_life e a h = by_claim (λ b. life_said e b ≡ None) (λ app term how from. refl) a h
 
--- what says a claim is one
+-- an act that says a claim is one
 pub said_is_claim : (e : Dot) (a : Act) (said : AppId × ClaimValue) → claim_said e a ≡ Some said → is_claim a ≡ true
 said_is_claim e Up said h = cc
 said_is_claim e (Down node inc) said h = cc
@@ -87,7 +87,7 @@ said_is_claim e (Claim app term how from) said h = refl
 
 -- ---- greatest values
 
--- what is said in one way and in another has one greatest value
+-- two equivalent properties have one greatest value
 one_greatest : {T : Type 0} {cmp : T → T → Ordering} → IsTotalOrder cmp → CmpEqualImpliesEq cmp → (P Q : T → Type 0) (x y : Option T) → ((v : T) → P v → Q v) → ((v : T) → Q v → P v) → IsGreatest cmp P x → IsGreatest cmp Q y → x ≡ y
 one_greatest o exact P Q None None to back g h = refl
 one_greatest o exact P Q None (Some w) to back g h = absurd (g w (back w h.0))
@@ -138,7 +138,7 @@ module _ (s x : List Operation) (adds : AddsClaims s x) where
       (λ l said. let o = of_said life_said s n l said in is_said life_said x n l (o.0, (adds.keeps o.0 o.1.0, o.1.1)))
       (lives_are x n) (lives_are s n)) ∙ sym (lives-meaning s)
 
-  -- both mean the same lives, permits, starts and drains
+  -- both sets mean the same lives, permits, starts and drains
   pub alike : MayRunAlike (meaning_of x) (meaning_of s)
   alike = record { lives = lives_alike; permits = permits_alike; starts = starts_alike; drains = drains_alike }
 

@@ -1,4 +1,5 @@
--- A tick in a round claims exactly where its node is the candidate: each candidate's verdict is due, and no term is used up.
+-- A tick in a round claims exactly the applications whose candidate its node is: each candidate's verdict is due, and
+-- no term is used up.
 use Rattle.std.proofs.Common.{◌≡◌, ℕ, ◌+◌, ◌≤◌, true, List, [], ◌∷◌, ◌++◌, Option, Some, refl, sym, ap, subst, ◌∙◌, arith, inl, inr, append_assoc, append-nil}
 use Rattle.std.specs.Prelude.{◌<◌, unwrap_or}
 use Rattle.std.specs.FinSet as set
@@ -47,7 +48,7 @@ fresh x own p i e =
     past : (a b : ℕ) → a ≤ b → a ≡ b + 1 → ⊥
     past a b le at = omega arith
 
--- so no two of them and the next claim have one dot
+-- the dots of the operations and of the next claim are distinct
 agree_more : (t : Table) (own : Origin) (x : List Operation) (app : AppId) → DotsDetermine x → DotsDetermine (x ++ claim_of t own (meaning_of x) app ∷ [])
 agree_more t own x app agree p q i j same = elim (In-append_cases p x (o ∷ []) i) [
   | inl l ↦ elim (In-append_cases q x (o ∷ []) j) [
@@ -66,11 +67,11 @@ agree_more t own x app agree p q i j same = elim (In-append_cases p x (o ∷ [])
     o : Operation
     o = claim_of t own (meaning_of x) app
 
--- ---- what is lost was lost
+-- ---- a lost claim was lost before
 
 module _ (t : Table) (s : List Operation) where
   module _ (x y : List Operation) (g : IsGrown (placed t) s x) (h : IsGrown (placed t) s y) (w : AreOperationsOf x y) (app : AppId) (claim : Claim) (lost : IsLost (meaning_of y) app claim) where
-    -- who claims well is live, so its claim isn't lost
+    -- the claimant of a good claim is live, so that claim isn't lost
     not_taken : IsTaken t s y h app → ⊥
     not_taken taken =
         let same : taken.good.claim ≡ claim = one (sym taken.greatest ∙ lost.greatest) in
@@ -107,13 +108,13 @@ module _ (t : Table) (s : List Operation) where
     abbrev waits : List (Option Noted)
     waits = waits_of t notes
 
-    -- a set on which the tick comes to an application
+    -- a set at which the tick reaches an application
     pub record IsReached (x : List Operation) : Type 0 where
       pub grown : IsGrown (placed t) s x
       pub keeps : AreOperationsOf d.held x
       pub agree : DotsDetermine x
 
-    -- the tick finds the application its own exactly if its node is the candidate
+    -- the tick claims the application if and only if its node is the candidate
     mine_if : (x : List Operation) (app : AppId) → app.0 < app_count t → IsReached x → (placed t).candidate x app ≡ Some n → is_mine t own waits now (meaning_of x) app ≡ true
     mine_if x app lt r is =
         let u = meaning_of x in
@@ -125,7 +126,7 @@ module _ (t : Table) (s : List Operation) where
     if_mine : (x : List Operation) (app : AppId) → is_mine t own waits now (meaning_of x) app ≡ true → (placed t).candidate x app ≡ Some n
     if_mine x app e = own_if own (candidate_of (verdict_of t (meaning_of x) app)) (and_parts _ _ e).0
 
-    -- it claims under its live incarnation
+    -- its origin is the node's live incarnation
     own_is : (x : List Operation) → IsReached x → own ≡ here n x
     own_is x r =
         let lives = (meaning_of x).lives in
@@ -138,7 +139,7 @@ module _ (t : Table) (s : List Operation) where
     same_claim : (x : List Operation) (app : AppId) → IsReached x → claim_at x app ≡ (placed t).claim n x app
     same_claim x app r = ap (λ o. claim_of t o (meaning_of x) app) (own_is x r)
 
-    -- with its claim the set is reached again
+    -- the set with the tick's claim is reached too
     reached_more : (x : List Operation) (app : AppId) → IsApp app (apps_of t) → IsReached x → (placed t).candidate x app ≡ Some n → IsReached (x ++ claim_at x app ∷ [])
     reached_more x app listed r is = record {
       grown = grown_by (placed t) s x (claim_at x app) r.grown (app, listed, subst (λ o. (placed t).IsWell s app o) (sym (same_claim x app r)) (well t s x r.grown app n is));
@@ -146,7 +147,7 @@ module _ (t : Table) (s : List Operation) where
       agree = agree_more t own x app r.agree;
     }
 
-    -- ---- its turn
+    -- ---- the tick's claims
 
     abbrev over_apps : Turn → List AppId → Turn
     over_apps turn apps = turn_over t own waits now turn apps
@@ -155,7 +156,7 @@ module _ (t : Table) (s : List Operation) where
     not_empty [] app e = cc
     not_empty (x ∷ xs) app e = cc
 
-    -- what was passed stays passed
+    -- an application passed stays passed
     still_passed : (apps : List AppId) (turn : Turn) → ¬ (turn.passed ≡ []) → ¬ ((over_apps turn apps).passed ≡ [])
     still_passed [] turn some = some
     still_passed (app ∷ apps) turn some =
@@ -164,11 +165,11 @@ module _ (t : Table) (s : List Operation) where
         (λ mine used. still_passed apps (passing turn app) (not_empty turn.passed app))
         (λ mine left. still_passed apps (claiming turn (claim_of t own turn.state app)) some)
 
-    -- a turn that has come to a set
+    -- the state of a tick that has reached a set
     abbrev turn_on : List Operation → List AppId → List Operation → Turn
     turn_on ops passed x = record { ops = ops; passed = passed; state = meaning_of x }
 
-    -- from there on the turn claims as the candidate
+    -- from there the tick claims as the candidate
     abbrev ClaimsFrom : List AppId → List Operation → List Operation → Turn → Type 0
     ClaimsFrom apps ops x later = (made : List Operation) × (later.ops ≡ ops ++ made) × Claims (placed t) n apps x made
 
