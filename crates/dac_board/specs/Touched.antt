@@ -17,7 +17,7 @@ use Rattle.dac_chains.specs.declared.lives.Life.{Life}
 use Rattle.dac_chains.specs.Lives.{life_cmp, IsLive, live_at}
 use Rattle.dac_wishes.specs.declared.key.Key.{Key}
 use Rattle.dac_wishes.specs.Writes.{dots_at}
-use Rattle.dac_wishes.specs.PermissionsValue.{says_true, permits_at}
+use Rattle.dac_wishes.specs.PermissionsValue.{is_permitting, permits_at}
 use Rattle.dac_wishes.specs.DrainsValue.{origin, drains_at}
 use Rattle.dac_meaning.specs.StateValue.{StateValue}
 use Rattle.dac_placement.specs.Placement.{key_at, apps_of, nodes_of}
@@ -49,7 +49,7 @@ same_life (Some l) None = false
 same_life (Some l) (Some m) = is_eq (life_cmp l m)
 
 abbrev pub same_flag : Flag → Flag → Bool
-same_flag f g = if says_true f then says_true g else not (says_true g)
+same_flag f g = if is_permitting f then is_permitting g else not (is_permitting g)
 
 abbrev pub same_vote : Dot × Flag → Dot × Flag → Bool
 same_vote p q = are_same p.0 q.0 && same_flag p.1 q.1

@@ -45,13 +45,13 @@ abbrev pub Claims : Type 0
 Claims = map.FinMap app_cmp Claim
 
 -- the claim that an operation makes, with its application, if any
-abbrev pub said_claim : Dot → ClaimAct → Option (AppId × Claim)
-said_claim d (Claimed app term how from) = Some (app, record { term = term; origin = d.origin; how = how; from = from })
-said_claim d Other = None
+abbrev pub claim_report : Dot → ClaimAct → Option (AppId × Claim)
+claim_report d (Claimed app term how from) = Some (app, record { term = term; origin = d.origin; how = how; from = from })
+claim_report d Other = None
 
 -- the greatest claim of the application among those of the operations, or None if there is none
 abbrev pub IsGreatestClaimOf : AppId → List (Dot × ClaimAct) → Option Claim → Type 0
-IsGreatestClaimOf app os claim = IsGreatest claim_cmp (IsSaid said_claim os app) claim
+IsGreatestClaimOf app os claim = IsGreatest claim_cmp (IsSaid claim_report os app) claim
 
 -- each application has its greatest claim among those of the operations
 abbrev pub AreGreatestClaims : List (Dot × ClaimAct) → Claims → Type 0

@@ -31,14 +31,14 @@ Lives = map.FinMap node_cmp Life
 
 -- the node and life that an operation reports, if any: CameUp, that its issuer is up; WentDown, that the named
 -- incarnation is down
-abbrev pub said_life : Dot → LifeAct → Option (NodeId × Life)
-said_life d CameUp = Some (d.origin.node, record { inc = d.origin.inc; flag = Up })
-said_life d (WentDown n i) = Some (n, record { inc = i; flag = Down })
-said_life d Other = None
+abbrev pub life_report : Dot → LifeAct → Option (NodeId × Life)
+life_report d CameUp = Some (d.origin.node, record { inc = d.origin.inc; flag = Up })
+life_report d (WentDown n i) = Some (n, record { inc = i; flag = Down })
+life_report d Other = None
 
 -- the life of node n: the greatest that the operations report, or None if they report none
 abbrev pub IsLifeOf : NodeId → List (Dot × LifeAct) → Option Life → Type 0
-IsLifeOf n os life = IsGreatest life_cmp (IsSaid said_life os n) life
+IsLifeOf n os life = IsGreatest life_cmp (IsSaid life_report os n) life
 
 -- each node has its life according to the operations
 abbrev pub AreLives : List (Dot × LifeAct) → Lives → Type 0

@@ -184,19 +184,19 @@ impl Piece for Claims {
     ghost use Rattle.dac_base.specs.laws.Ids.{apps_total, exact_apps};
     ghost use Rattle.dac_chains.specs.Greatest.{alone};
     ghost use Rattle.dac_chains.specs.laws.Greatest.{greatest_piece};
-    ghost use Rattle.dac_chains.specs.Claims.{AreGreatestClaims, how_cmp, said_claim};
+    ghost use Rattle.dac_chains.specs.Claims.{AreGreatestClaims, how_cmp, claim_report};
     ghost use Rattle.dac_chains.specs.laws.Claims.{claims_total, exact_hows, exact_claims};
 
     type Act = ClaimAct;
 
     ghost fits = { λ _ _. Unit {0} };
 
-    ghost delta = { λ dot act. alone (said_claim dot act) };
+    ghost delta = { λ dot act. alone (claim_report dot act) };
 
     ghost means = { AreGreatestClaims };
 
     ghost piece_laws = { greatest_piece apps_total exact_apps claims_total
-        (exact_claims how_cmp exact_hows) said_claim };
+        (exact_claims how_cmp exact_hows) claim_report };
 
     fn delta(alloc: Global, dot: Dot, act: &ClaimAct) -> Result<Self, NoMemory> {
         match act {

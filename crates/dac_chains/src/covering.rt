@@ -2,8 +2,8 @@
 ghost use Rattle.std.specs.Prelude.{◌≡◌, ◌↔◌, Some, IsTrue};
 ghost use Rattle.std.specs.Ordering.{is_le};
 ghost use Rattle.dac_chains.specs.Greatest.{AreNotAbove, alone};
-ghost use Rattle.dac_chains.specs.Lives.{life_cmp, said_life};
-ghost use Rattle.dac_chains.specs.Claims.{claim_cmp, said_claim};
+ghost use Rattle.dac_chains.specs.Lives.{life_cmp, life_report};
+ghost use Rattle.dac_chains.specs.Claims.{claim_cmp, claim_report};
 
 use crate::claims::{Claim, ClaimAct, Claims};
 use crate::lives::{Life, LifeAct, Lives};
@@ -13,7 +13,7 @@ use dac_lattice::{Dot, Flag};
 impl Lives {
     /// Whether the delta of an operation is below these lives, so that joining it would change nothing.
     pub fn covers(&self, dot: Dot, act: LifeAct) -> bool
-        ensures { IsTrue result ↔ AreNotAbove life_cmp (alone (said_life dot act)) self.now }
+        ensures { IsTrue result ↔ AreNotAbove life_cmp (alone (life_report dot act)) self.now }
     {
         match act {
             LifeAct::Up => self.reaches(
@@ -48,7 +48,7 @@ impl Lives {
 impl Claims {
     /// Whether the delta of an operation is below these claims, so that joining it would change nothing.
     pub fn covers(&self, dot: Dot, act: ClaimAct) -> bool
-        ensures { IsTrue result ↔ AreNotAbove claim_cmp (alone (said_claim dot act)) self.now }
+        ensures { IsTrue result ↔ AreNotAbove claim_cmp (alone (claim_report dot act)) self.now }
     {
         match act {
             ClaimAct::Claim {

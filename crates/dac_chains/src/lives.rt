@@ -195,19 +195,19 @@ impl Piece for Lives {
     ghost use Rattle.dac_lattice.specs.laws.Flags.{flags_exact};
     ghost use Rattle.dac_chains.specs.Greatest.{alone};
     ghost use Rattle.dac_chains.specs.laws.Greatest.{greatest_piece};
-    ghost use Rattle.dac_chains.specs.Lives.{AreLives, said_life};
+    ghost use Rattle.dac_chains.specs.Lives.{AreLives, life_report};
     ghost use Rattle.dac_chains.specs.laws.Lives.{lives_total, exact_lives};
 
     type Act = LifeAct;
 
     ghost fits = { λ _ _. Unit {0} };
 
-    ghost delta = { λ dot act. alone (said_life dot act) };
+    ghost delta = { λ dot act. alone (life_report dot act) };
 
     ghost means = { AreLives };
 
     ghost piece_laws = { greatest_piece nodes_total exact_nodes lives_total
-        (exact_lives flag_cmp flags_exact) said_life };
+        (exact_lives flag_cmp flags_exact) life_report };
 
     fn delta(alloc: Global, dot: Dot, act: &LifeAct) -> Result<Self, NoMemory> {
         match act {

@@ -29,7 +29,7 @@ use Rattle.dac_config.specs.Table.{Table, app_count}
 use Rattle.dac_placement.specs.Placement.{runner_of}
 use Rattle.dac_events.specs.declared.Command.{Command}
 use Rattle.dac_events.specs.declared.Command.TheVariants.{Down, Permit, Start, Stop, Drain, Takeover}
-use Rattle.dac_commands.specs.Commands.{KnowsItself, standing_starts, standing_permits, standing_drains, greatest_counter, next_term, claim_act, next_operation, live_or_none, live_key, live_origin, act_of}
+use Rattle.dac_commands.specs.Commands.{KnowsOwnBoot, standing_starts, standing_permits, standing_drains, greatest_counter, next_term, claim_act, next_operation, live_or_none, live_key, live_origin, act_of}
 use Rattle.dac_commands.specs.Causes.{refusal_of_command, too_many, terms_used_up, used_up}
 use Rattle.dac_commands.specs.laws.Written.{none_is, all_causes}
 use Rattle.dac_commands.specs.laws.Counters.{counter-greatest, next_none, next-is}
@@ -112,7 +112,7 @@ next_unknown own s h = above (greatest_counter own s.known) (counter-greatest s.
     above g h = omega arith
 
 -- the next dot isn't that of a boot
-next_later : (own : Origin) (s : StateValue) → KnowsItself own s → (greatest_counter own s.known + 1 == 1) ≡ false
+next_later : (own : Origin) (s : StateValue) → KnowsOwnBoot own s → (greatest_counter own s.known + 1 == 1) ≡ false
 next_later own s knows = false_from_ne_true _ (λ t. first_only (greatest_counter own s.known) (counter-greatest s.known (dot own 1) knows) (exact_unsigned_eq (greatest_counter own s.known + 1) 1 t))
   where
     first_only : (g : ℕ) → 1 ≤ g → g + 1 ≡ 1 → ⊥
@@ -138,7 +138,7 @@ starts_rising : (s : StateValue) (key : Key) → IsRising dot_cmp (standing_star
 starts_rising s key = in_order-rising dots_total exact_dots (dots_at key s.starts)
 
 -- a claim replaces nothing
-pub claims_soundly : (own : Origin) (s : StateValue) (app : AppId) (how : How) (from : Option NodeId) → KnowsItself own s → fault_of (next_of own s) (claim_act s app how from) ≡ None
+pub claims_soundly : (own : Origin) (s : StateValue) (app : AppId) (how : How) (from : Option NodeId) → KnowsOwnBoot own s → fault_of (next_of own s) (claim_act s app how from) ≡ None
 claims_soundly own s app how from knows = fault_none (next_of own s) (Claims app (next_term s app) how from) refl refl (next_later own s knows) refl
 
 -- the act of an accepted command has no fault, and a counter is left for it
@@ -146,7 +146,7 @@ pub record Issues (own : Origin) (s : StateValue) (a : Act) : Type 0 where
   pub left : used_up s own ≡ false
   pub sound : fault_of (next_operation s own a).dot a ≡ None
 
-pub issues : (t : Table) (own : Origin) (s : StateValue) (c : Command) → IsState s → KnowsItself own s → refusal_of_command t own s c ≡ None → Issues own s (act_of t s c)
+pub issues : (t : Table) (own : Origin) (s : StateValue) (c : Command) → IsState s → KnowsOwnBoot own s → refusal_of_command t own s c ≡ None → Issues own s (act_of t s c)
 issues t own s (Down node) is knows e =
     let may = may_declare t own s node e in
     record { left = may.left; sound = fault_none (next_of own s) (Downs node (live_or_none s node)) refl refl (next_later own s knows) may.other }

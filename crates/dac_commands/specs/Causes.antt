@@ -58,8 +58,8 @@ abbrev pub declared_down : Origin → StateValue → Bool
 declared_down own s = not (is_up s own)
 
 -- causes to refuse a command about an application and a node
-abbrev pub causes_to_name : Table → StateValue → AppId → NodeId → List (Bool × Refusal)
-causes_to_name t s app node = (no_app t app, UnknownApp) ∷ (no_node t node, UnknownNode) ∷
+abbrev pub causes_of_target : Table → StateValue → AppId → NodeId → List (Bool × Refusal)
+causes_of_target t s app node = (no_app t app, UnknownApp) ∷ (no_node t node, UnknownNode) ∷
     (unlisted t app node, NotInList) ∷ (not_live s node, NotLive) ∷ []
 
 -- causes to refuse an operation that replaces this many dots
@@ -69,7 +69,7 @@ causes_to_issue own s count = (too_many count, TooManyDots) ∷ (used_up s own, 
 -- causes to refuse a permit
 abbrev pub causes_to_permit : Table → Origin → StateValue → AppId → NodeId → List (Bool × Refusal)
 causes_to_permit t own s app node =
-    causes_to_name t s app node ++ causes_to_issue own s (length (standing_permits s (live_key s app node)))
+    causes_of_target t s app node ++ causes_to_issue own s (length (standing_permits s (live_key s app node)))
 
 -- causes to refuse a drain
 abbrev pub causes_to_drain : Table → Origin → StateValue → NodeId → List (Bool × Refusal)
@@ -92,10 +92,10 @@ causes_of t own s (Down node) = (no_node t node, UnknownNode) ∷ (nat_eq node.0
     (not_live s node, NotLive) ∷ (used_up s own, DotsUsedUp) ∷ []
 causes_of t own s (Permit app node value) = causes_to_permit t own s app node
 causes_of t own s (Start app node) =
-    causes_to_name t s app node ++ causes_to_issue own s (length (standing_starts s (live_key s app node)))
+    causes_of_target t s app node ++ causes_to_issue own s (length (standing_starts s (live_key s app node)))
 causes_of t own s (Stop app node) =
     let key = live_key s app node in
-    causes_to_name t s app node ++ (not_wished s key, NotStarted) ∷ causes_to_issue own s (length (standing_starts s key))
+    causes_of_target t s app node ++ (not_wished s key, NotStarted) ∷ causes_to_issue own s (length (standing_starts s key))
 causes_of t own s (Drain node value) = causes_to_drain t own s node
 causes_of t own s (Takeover app) = causes_to_take t own s app
 

@@ -30,8 +30,8 @@ use Rattle.dac_events.specs.declared.Command.TheVariants.{Down, Permit, Start, S
 
 -- ---- parts of a state
 -- the state knows the dot of the incarnation's own boot
-abbrev pub KnowsItself : Origin → StateValue → Type 0
-KnowsItself origin s = set.contains s.known (dot origin 1) ≡ true
+abbrev pub KnowsOwnBoot : Origin → StateValue → Type 0
+KnowsOwnBoot origin s = set.contains s.known (dot origin 1) ≡ true
 
 -- the live incarnation of a node
 abbrev pub live : StateValue → NodeId → Option ℕ

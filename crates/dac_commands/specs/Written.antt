@@ -107,6 +107,6 @@ pub record IsWritten (t : Table) (own : Origin) (s : StateValue) (c : Command) (
   pub says : SaysCommand t s c o.act
 
 -- an accepted command issues such an operation
-abbrev pub WritesWhatIsSaid : Type 0
-WritesWhatIsSaid = (t : Table) (own : Origin) (s : StateValue) (c : Command) → refusal_of_command t own s c ≡ None
+abbrev pub IssuesTheCommand : Type 0
+IssuesTheCommand = (t : Table) (own : Origin) (s : StateValue) (c : Command) → refusal_of_command t own s c ≡ None
     → IsWritten t own s c (next_operation s own (act_of t s c))

@@ -4,7 +4,7 @@ ghost use Rattle.std.specs.Prelude.{◌≡◌};
 ghost use Rattle.dac_commands.specs.Causes.{first, causes_of, causes_to_permit, causes_to_drain, causes_to_issue, too_many, refusal_of_command};
 
 use crate::counters::dots_used_up;
-use crate::keys::{key_of, live_of, refusal_to_name};
+use crate::keys::{key_of, live_of, refusal_of_target};
 use crate::taking::refusal_to_take;
 use dac_base::{AppId, MAX_REPLACED, NodeId};
 use dac_config::Config;
@@ -64,7 +64,7 @@ fn refusal_to_permit(
 ) -> Option<Refusal>
     ensures { result ≡ first (causes_to_permit config.now own state.now app node) }
 {
-    if let Some(why) = refusal_to_name(config, state, app, node) {
+    if let Some(why) = refusal_of_target(config, state, app, node) {
         return Some(why);
     }
     let key = key_of(state, app, node);
@@ -81,7 +81,7 @@ fn refusal_to_start(
 ) -> Option<Refusal>
     ensures { result ≡ first (causes_of config.now own state.now (Command.Start app node)) }
 {
-    if let Some(why) = refusal_to_name(config, state, app, node) {
+    if let Some(why) = refusal_of_target(config, state, app, node) {
         return Some(why);
     }
     let key = key_of(state, app, node);
@@ -98,7 +98,7 @@ fn refusal_to_stop(
 ) -> Option<Refusal>
     ensures { result ≡ first (causes_of config.now own state.now (Command.Stop app node)) }
 {
-    if let Some(why) = refusal_to_name(config, state, app, node) {
+    if let Some(why) = refusal_of_target(config, state, app, node) {
         return Some(why);
     }
     let key = key_of(state, app, node);

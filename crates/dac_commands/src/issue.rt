@@ -3,7 +3,7 @@
 ghost use Rattle.std.specs.Prelude.{◌≡◌, IfOk, map, false, None};
 ghost use Rattle.dac_origins.specs.declared.dot.Origin.{Origin as Incarnation};
 ghost use Rattle.dac_operations.specs.Operations.{operation, fault_of};
-ghost use Rattle.dac_commands.specs.Commands.{KnowsItself, next_operation, standing_starts as starts_standing, standing_permits as permits_standing, standing_drains as drains_standing, claim_act, act_of as said_by};
+ghost use Rattle.dac_commands.specs.Commands.{KnowsOwnBoot, next_operation, standing_starts as starts_standing, standing_permits as permits_standing, standing_drains as drains_standing, claim_act, act_of as said_by};
 ghost use Rattle.dac_wishes.specs.DrainsValue.{origin};
 ghost use Rattle.dac_commands.specs.Causes.{refusal_of_command, terms_used_up, used_up};
 ghost use Rattle.dac_commands.specs.Written.{IsWritten};
@@ -31,7 +31,7 @@ pub fn operation_of(
     state: &State,
     command: Command,
 ) -> Result<Op, NoMemory>
-    requires knows { KnowsItself own state.now }
+    requires knows { KnowsOwnBoot own state.now }
     requires accepted { refusal_of_command config.now own state.now command ≡ None }
     ensures next { IfOk result (λ operation. operation
         ≡ next_operation state.now own (said_by config.now state.now command)) }
@@ -50,7 +50,7 @@ pub fn operation_of(
 /// move. [`terms_used_up`](crate::terms_used_up) and [`dots_used_up`](crate::dots_used_up) return whether a term and a
 /// counter are left.
 pub fn claim(own: Origin, state: &State, app: AppId, how: How, from: Option<NodeId>) -> Op
-    requires knows { KnowsItself own state.now }
+    requires knows { KnowsOwnBoot own state.now }
     requires left { used_up state.now own ≡ false }
     requires term { terms_used_up state.now app ≡ false }
     ensures { result ≡ next_operation state.now own (claim_act state.now app how from) }

@@ -2,7 +2,7 @@
 
 ghost use Rattle.std.specs.Prelude.{◌≡◌};
 ghost use Rattle.dac_commands.specs.Commands.{live_or_none, live_key};
-ghost use Rattle.dac_commands.specs.Causes.{first, causes_to_name};
+ghost use Rattle.dac_commands.specs.Causes.{first, causes_of_target};
 
 use dac_base::{AppId, NodeId};
 use dac_config::Config;
@@ -29,13 +29,13 @@ pub(crate) fn key_of(state: &State, app: AppId, node: NodeId) -> Key
 }
 
 /// Why a command about an application and a node is refused, if it is.
-pub(crate) fn refusal_to_name(
+pub(crate) fn refusal_of_target(
     config: &Config,
     state: &State,
     app: AppId,
     node: NodeId,
 ) -> Option<Refusal>
-    ensures { result ≡ first (causes_to_name config.now state.now app node) }
+    ensures { result ≡ first (causes_of_target config.now state.now app node) }
 {
     if app.0 >= config.apps() {
         return Some(Refusal::UnknownApp);

@@ -5,11 +5,11 @@ use Rattle.std.proofs.lemmas.Result.{IfOk-weaker}
 use Rattle.dac_base.specs.declared.NoMemory.{NoMemory}
 use Rattle.dac_config.specs.declared.sink.Text.{Text}
 use Rattle.dac_config.specs.Sinks.{Gains, IsWritten, HasText}
-use Rattle.dac_config.specs.Canonical.{parted_behind}
+use Rattle.dac_config.specs.Canonical.{separated_after}
 
 -- writing these texts, the first after `before`, completes the total
 pub record Goes {S : Type 0} (H : S → List ℕ → Type 0) (start now : S) (before : List ℕ) (left : List (List ℕ)) (total : List ℕ) : Type 0 where
-  pub on : (end : S) → Gains H now end (parted_behind before left) → Gains H start end total
+  pub on : (end : S) → Gains H now end (separated_after before left) → Gains H start end total
 
 module _ {S : Type 0} {H : S → List ℕ → Type 0} where
   -- one text followed by another
@@ -24,11 +24,11 @@ module _ {S : Type 0} {H : S → List ℕ → Type 0} where
 
   pub one_more : {start a b c : S} {before text total behind : List ℕ} {left rest : List (List ℕ)} → Goes H start a before left total → left ≡ text ∷ rest → Gains H a b before → Gains H b c text → behind ≡ 44 ∷ [] → Goes H start c behind rest total
   one_more {a = a} {c = c} {before = before} {left = left} {rest = rest} so_far is p q comma = record {
-    on = λ end h. so_far.on end (subst (λ (l : List (List ℕ)). Gains H a end (parted_behind before l)) (sym is) (then p (then q (subst (λ (b : List ℕ). Gains H c end (parted_behind b rest)) comma h))));
+    on = λ end h. so_far.on end (subst (λ (l : List (List ℕ)). Gains H a end (separated_after before l)) (sym is) (then p (then q (subst (λ (b : List ℕ). Gains H c end (separated_after b rest)) comma h))));
   }
 
   pub all_taken : {start now : S} {before total : List ℕ} {left : List (List ℕ)} → Goes H start now before left total → left ≡ [] → Gains H start now total
-  all_taken {now = now} {before = before} so_far is = so_far.on now (subst (λ (l : List (List ℕ)). Gains H now now (parted_behind before l)) (sym is) nothing_more)
+  all_taken {now = now} {before = before} so_far is = so_far.on now (subst (λ (l : List (List ℕ)). Gains H now now (separated_after before l)) (sym is) nothing_more)
 
   -- the remaining texts can be replaced by equal ones
   pub same_left : {start now : S} {before total : List ℕ} {left rest : List (List ℕ)} → Goes H start now before left total → left ≡ rest → Goes H start now before rest total

@@ -14,7 +14,7 @@ use Rattle.dac_tokens.specs.Digits.{value_from}
 use Rattle.dac_tokens.specs.Scan.{is_name_byte}
 use Rattle.dac_tokens.specs.laws.NameBytes.{tells_letter, tells_name_byte}
 use Rattle.dac_tokens.specs.Words.{Word, Punctuation, Name, Number, Located}
-use Rattle.dac_tokens.specs.TokenGrammar.{Nothing, Blank, Closed, IsNameByte, Begins, IsQuotable, IsDigits, GoesOnAsNumber, IsBareAtom, bytes_of, Spells, AreSpelled, depth_behind, NestWell, AreTokensOf}
+use Rattle.dac_tokens.specs.TokenGrammar.{Nothing, Blank, Closed, IsNameByte, Begins, IsQuotable, IsDigits, ContinuesAsNumber, IsBareAtom, bytes_of, Spells, AreSpelled, depth_after_word, NestWell, AreTokensOf}
 use Rattle.dac_shapes.specs.declared.draft.SyncWait.{SyncWait}
 use Rattle.dac_shapes.specs.declared.draft.SyncWait.TheVariants.{NoSync, Forever, Ms}
 use Rattle.dac_shapes.specs.declared.param.ParamName.TheVariants as named
@@ -22,7 +22,7 @@ use Rattle.dac_shapes.specs.Written.{App, Permission, Param, Distributed, Permis
 use Rattle.dac_shapes.specs.Within.{params_in}
 use Rattle.dac_shapes.specs.Grammar.{Parted, between, IsListOf, IsPair, IsNode, IsItem, IsMs, IsTimeout, IsAppValue, IsApp, IsPermission, IsWait, IsParam, IsSection, IsFile}
 use Rattle.dac_config.specs.Table.{NodeRow, AppRow, Table}
-use Rattle.dac_config.specs.Canonical.{begins_small, is_bare, name_text, parted_behind, parted, list_text, pair_text, node_name_text, group_text, app_text, ban_text, wait_texts, param_texts, canonical_text}
+use Rattle.dac_config.specs.Canonical.{begins_small, is_bare, name_text, separated_after, parted, list_text, pair_text, node_name_text, group_text, app_text, forbidden_text, wait_texts, param_texts, canonical_text}
 use Rattle.dac_config.proofs.Names.{each_parts}
 
 -- ---- spelling
@@ -60,7 +60,7 @@ CanStand _ after = ⊥
 -- before them
 abbrev Stand : ℕ → List Word → Type 0
 Stand depth [] = Unit {0}
-Stand depth (word ∷ words) = CanStand word words × (depth_behind depth word ≤ 64) × Stand (depth_behind depth word) words
+Stand depth (word ∷ words) = CanStand word words × (depth_after_word depth word ≤ 64) × Stand (depth_after_word depth word) words
 
 -- ---- a name is bare exactly if it is a bare atom
 
@@ -98,7 +98,7 @@ ends_behind_dot [] none (inl h) = omega (arith, h)
 ends_behind_dot [] none (inr h) = omega (arith, h.1)
 ends_behind_dot (word ∷ words) none h = absurd cc
 
-ends_number : (words : List Word) → BeginsApart words → GoesOnAsNumber (spelled_words words ++ codes "\n") → ⊥
+ends_number : (words : List Word) → BeginsApart words → ContinuesAsNumber (spelled_words words ++ codes "\n") → ⊥
 ends_number (Punctuation FullStop ∷ words) apart (inl h) = omega (arith, h)
 ends_number (Punctuation FullStop ∷ words) apart (inr (inl h)) = omega (arith, h)
 ends_number (Punctuation FullStop ∷ words) apart (inr (inr h)) = ends_behind_dot words apart h
@@ -134,12 +134,12 @@ words_spelled at depth (word ∷ words) h = (
     offset = omega arith;
     spelled = word_spelled word words h.0;
   },
-  words_spelled (at + length (spelling_of word)) (depth_behind depth word) words h.2,
+  words_spelled (at + length (spelling_of word)) (depth_after_word depth word) words h.2,
 )
 
 words_nested : (at depth : ℕ) (words : List Word) → Stand depth words → NestWell depth (located at words)
 words_nested at depth [] h = tt
-words_nested at depth (word ∷ words) h = (h.1, words_nested (at + length (spelling_of word)) (depth_behind depth word) words h.2)
+words_nested at depth (word ∷ words) h = (h.1, words_nested (at + length (spelling_of word)) (depth_after_word depth word) words h.2)
 
 -- such words are the tokens of their spelling with a line feed
 words_read : (words : List Word) → Stand 0 words → AreTokensOf (spelled_words words ++ codes "\n") (located 0 words)
@@ -335,7 +335,7 @@ app_writes nodes row can =
     let word = value.is.3.0 in
     pair_writes (shaped value (λ words. IsAppValue words (written_app nodes row)) (word ∷ Punctuation Comma ∷ [], value.is.1, value.is.2 ∙ ap (λ (first : List Word). first ++ Punctuation Comma ∷ value.is.1) value.is.3.1, inr (word, refl, value.is.3.2), value.is.4)) row.name can.name
 
-ban_writes : (row : AppRow) → All IsQuotable row.name → Writes 3 (λ words. IsPermission words (ban row)) (ban_text row.name)
+ban_writes : (row : AppRow) → All IsQuotable row.name → Writes 3 (λ words. IsPermission words (ban row)) (forbidden_text row.name)
 ban_writes row can = pair_writes (name_writes 2 (codes "false") (bare_quotable (codes "false") refl)) row.name can
 
 names_write : (name : List ℕ) → All IsQuotable name → (nodes : List NodeRow) → Each (All IsQuotable) (map (λ node. node.name) nodes)
@@ -344,7 +344,7 @@ names_write name quotable nodes can = pair_writes (listed_writes 3 IsNode (λ (n
 
 -- a parameter, followed by that of the wait
 wait_writes : (param : Param) (text : List ℕ) (wait : SyncWait) → Writes 5 (λ words. IsParam words param) text → Each CanSpell (wait_params wait)
-    → Writes 5 (λ words. Parted IsParam words (param ∷ wait_params wait)) (text ++ parted_behind (codes ",") (wait_texts wait))
+    → Writes 5 (λ words. Parted IsParam words (param ∷ wait_params wait)) (text ++ separated_after (codes ",") (wait_texts wait))
 wait_writes param text NoSync w can = alone w
 wait_writes param text Forever w can = comma_writes w (alone (pair_writes (name_writes 4 (codes "infinity") (bare_quotable (codes "infinity") refl)) (codes "sync_nodes_timeout") (bare_quotable (codes "sync_nodes_timeout") refl)))
 wait_writes param text (Ms n) w can = comma_writes w (alone (pair_writes (number_writes 4 n can.0) (codes "sync_nodes_timeout") (bare_quotable (codes "sync_nodes_timeout") refl)))
@@ -352,7 +352,7 @@ wait_writes param text (Ms n) w can = comma_writes w (alone (pair_writes (number
 params_write : (table : Table) → Each CanSpell (params_of table) → Writes 5 (λ words. Parted IsParam words (params_of table)) (parted (param_texts table))
 params_write table can =
     let apps = pair_writes (listed_writes 3 IsApp (written_app table.nodes) (app_text table.nodes) CanSpellApp (app_writes table.nodes) table.apps can.0) (codes "distributed") (bare_quotable (codes "distributed") refl) in
-    let bans = pair_writes (listed_writes 3 IsPermission ban (λ row. ban_text row.name) (λ permission. All IsQuotable permission.name) ban_writes (filter (λ app. not app.permission) table.apps) can.1.0) (codes "permissions") (bare_quotable (codes "permissions") refl) in
+    let bans = pair_writes (listed_writes 3 IsPermission ban (λ row. forbidden_text row.name) (λ permission. All IsQuotable permission.name) ban_writes (filter (λ app. not app.permission) table.apps) can.1.0) (codes "permissions") (bare_quotable (codes "permissions") refl) in
     let mandatory = names_write (codes "sync_nodes_mandatory") (bare_quotable (codes "sync_nodes_mandatory") refl) (filter (λ node. node.mandatory) table.nodes) can.1.1.0 in
     let optional = names_write (codes "sync_nodes_optional") (bare_quotable (codes "sync_nodes_optional") refl) (filter (λ node. node.optional) table.nodes) can.1.1.1.0 in
     let optional_names = map (λ (node : NodeRow). node.name) (filter (λ (node : NodeRow). node.optional) table.nodes) in

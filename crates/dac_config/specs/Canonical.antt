@@ -27,13 +27,13 @@ name_text name = if is_bare name then name else codes "'" ++ (name ++ codes "'")
 -- ---- texts between brackets
 
 -- these texts, the first after `before` and each further one after a comma
-abbrev pub parted_behind : List ℕ → List (List ℕ) → List ℕ
-parted_behind before [] = []
-parted_behind before (text ∷ texts) = before ++ (text ++ parted_behind (codes ",") texts)
+abbrev pub separated_after : List ℕ → List (List ℕ) → List ℕ
+separated_after before [] = []
+separated_after before (text ∷ texts) = before ++ (text ++ separated_after (codes ",") texts)
 
 -- these texts, separated by commas
 abbrev pub parted : List (List ℕ) → List ℕ
-parted texts = parted_behind [] texts
+parted texts = separated_after [] texts
 
 -- a list of these texts
 abbrev pub list_text : List (List ℕ) → List ℕ
@@ -64,8 +64,8 @@ app_text nodes app =
     pair_text (name_text app.name) (decimal app.timeout ++ (codes "," ++ list_text (map (group_text nodes) app.groups)))
 
 -- an application that isn't permitted by default
-abbrev pub ban_text : List ℕ → List ℕ
-ban_text name = pair_text (name_text name) (codes "false")
+abbrev pub forbidden_text : List ℕ → List ℕ
+forbidden_text name = pair_text (name_text name) (codes "false")
 
 -- the parameter of the start's wait, if it is defined
 abbrev pub wait_texts : SyncWait → List (List ℕ)
@@ -77,7 +77,7 @@ wait_texts (Ms n) = pair_text (codes "sync_nodes_timeout") (decimal n) ∷ []
 abbrev pub param_texts : Table → List (List ℕ)
 param_texts table =
     pair_text (codes "distributed") (list_text (map (app_text table.nodes) table.apps))
-    ∷ pair_text (codes "permissions") (list_text (map (λ app. ban_text app.name) (filter (λ app. not app.permission) table.apps)))
+    ∷ pair_text (codes "permissions") (list_text (map (λ app. forbidden_text app.name) (filter (λ app. not app.permission) table.apps)))
     ∷ pair_text (codes "sync_nodes_mandatory") (list_text (map (λ node. name_text node.name) (filter (λ node. node.mandatory) table.nodes)))
     ∷ pair_text (codes "sync_nodes_optional") (list_text (map (λ node. name_text node.name) (filter (λ node. node.optional) table.nodes)))
     ∷ wait_texts table.sync_wait

@@ -82,6 +82,6 @@ abbrev pub is_optional : Table → NodeId → Bool
 is_optional table node = unwrap_or (option_map (λ row. row.optional) (slice_get table.nodes node.0)) false
 
 -- both configurations list the same nodes for an application, in the same groups, with the same default permission
-pub record HaveOneList (t u : Table) (app : AppId) : Type 0 where
+pub record HaveEqualLists (t u : Table) (app : AppId) : Type 0 where
   pub groups : groups_of t app ≡ groups_of u app
   pub permission : default_permission t app ≡ default_permission u app

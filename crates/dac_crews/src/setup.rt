@@ -5,7 +5,7 @@ ghost use Rattle.crossbeam_channel.specs.Ends.{sends_on, ruled_capacity};
 ghost use Rattle.dac_crews.specs.Rooms.{HaveRoom};
 
 use crate::assignments::{Assignment, Shared};
-use crate::tasks::{Caller, Listener, Shipper, Task};
+use crate::tasks::{Caller, LinkWorker, Shipper, Task};
 use dac_base::{NoMemory, NodeId};
 use dac_links::{LinkReceiver, LinkSender, link};
 use dac_workers::{CloseFault, PageReader, RunFault, Seat, SiteName, Watch};
@@ -166,16 +166,16 @@ fn shipper_of<'a, L: SiteName>(
 }
 
 /// A link worker for the other node, with the next seat. Without a link end it fails with `LinkLost`.
-fn listener_of<'a, L: SiteName, H: Watch>(
+fn link_worker_of<'a, L: SiteName, H: Watch>(
     assignment: &'a Assignment<'a, L>,
     watch: &'a H,
     seats: &mut Vec<Seat<L>>,
     other: NodeId,
     end: Option<(NodeId, LinkReceiver)>,
-) -> Result<Listener<'a, L, H>, RunFault> {
+) -> Result<LinkWorker<'a, L, H>, RunFault> {
     let seat = next_seat(assignment.node, seats)?;
     match end {
-        Some((from, link)) => Ok(Listener {
+        Some((from, link)) => Ok(LinkWorker {
             assignment,
             watch,
             from,
@@ -217,7 +217,7 @@ fn link_tasks_of<'a, L: SiteName, H: Watch>(
     for (to, out) in outs {
         let shipper = shipper_of(assignment, seats, to, out)?;
         ships.push(Task::Ship(shipper))?;
-        let listener = listener_of(assignment, watch, seats, to, ins.pop())?;
+        let listener = link_worker_of(assignment, watch, seats, to, ins.pop())?;
         hears.push(Task::Hear(listener))?;
     }
     Ok((hears, ships))

@@ -130,7 +130,7 @@ impl<L: SiteName> Shipper<'_, L> {
 
 /// The link worker of a link, at the site of the node that hears.
 #[derive(Drop)]
-pub(crate) struct Listener<'a, L: SiteName, H: Watch> {
+pub(crate) struct LinkWorker<'a, L: SiteName, H: Watch> {
     pub(crate) assignment: &'a Assignment<'a, L>,
     pub(crate) watch: &'a H,
     pub(crate) from: NodeId,
@@ -138,7 +138,7 @@ pub(crate) struct Listener<'a, L: SiteName, H: Watch> {
     pub(crate) link: LinkReceiver,
 }
 
-impl<L: SiteName, H: Watch> Listener<'_, L, H> {
+impl<L: SiteName, H: Watch> LinkWorker<'_, L, H> {
     /// Hears until the end letter.
     fn hear<R: Wait>(&mut self, rt: &R) -> Result<(), RunFault> {
         let assignment = self.assignment;
@@ -166,7 +166,7 @@ impl<L: SiteName, H: Watch> Listener<'_, L, H> {
 pub(crate) enum Task<'a, L: SiteName, H: Watch> {
     Call(Caller<'a, L>),
     Ship(Shipper<'a, L>),
-    Hear(Listener<'a, L, H>),
+    Hear(LinkWorker<'a, L, H>),
 }
 
 impl<L: SiteName, H: Watch> Task<'_, L, H> {

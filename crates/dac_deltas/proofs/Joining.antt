@@ -11,7 +11,7 @@ use Rattle.dac_lattice.specs.laws.Joins.{join_assoc}
 use Rattle.dac_deltas.proofs.Levels.{next_power}
 use Rattle.dac_deltas.specs.Blocks.{IsLongest}
 use Rattle.dac_deltas.specs.declared.blocks.TheConstants.{MOST_LEVEL}
-use Rattle.dac_deltas.specs.BlockEnds.{deltas_of, join_at, StandsFor, HasJoins, AreJoined, IsNextJoin}
+use Rattle.dac_deltas.specs.BlockEnds.{deltas_of, join_at, IsJoinOfDeltas, HasJoins, AreJoined, IsNextJoin}
 
 -- if a block fits, so does a shorter one
 pub record ItFits (begin level n : ℕ) : Type 0 where
@@ -30,11 +30,11 @@ same_long {L} es fs same = sym (length-map es (λ (x : L × List L). x.0)) ∙ (
 
 module _ {L : Type 0} (is_value : L → Type 0) (join : L → L → L) where
   -- a delta is the join of itself
-  stands_one : (x : L) → is_value x → StandsFor is_value join x (x ∷ [])
+  stands_one : (x : L) → is_value x → IsJoinOfDeltas is_value join x (x ∷ [])
   stands_one x v = record { value = v; same = λ y w. refl }
 
   -- the join of the joins of two neighbouring blocks is that of the deltas of both
-  stands_both : {below : L → L → Type 0} → IsLattice is_value below join → (x y : L) (xs ys : List L) → StandsFor is_value join x xs → StandsFor is_value join y ys → StandsFor is_value join (join x y) (xs ++ ys)
+  stands_both : {below : L → L → Type 0} → IsLattice is_value below join → (x y : L) (xs ys : List L) → IsJoinOfDeltas is_value join x xs → IsJoinOfDeltas is_value join y ys → IsJoinOfDeltas is_value join (join x y) (xs ++ ys)
   stands_both laws x y xs ys s t = record {
     value = laws.closed x y s.value t.value;
     same = λ z v.
@@ -51,7 +51,7 @@ module _ {L : Type 0} (is_value : L → Type 0) (join : L → L → L) where
   alone : (ds : List L) (x : L) → is_value x → HasJoins is_value join (ds ++ x ∷ []) (x, [])
   alone ds x v zero low fits =
       let two = length-append ds (x ∷ []) in
-      subst (StandsFor is_value join x) (sym (drop_at ds (x ∷ []) (length (ds ++ x ∷ []) - 1) (omega arith))) (stands_one x v)
+      subst (IsJoinOfDeltas is_value join x) (sym (drop_at ds (x ∷ []) (length (ds ++ x ∷ []) - 1) (omega arith))) (stands_one x v)
   alone ds x v (suc k) low fits = absurd (omega arith)
 
   -- one more delta
@@ -79,7 +79,7 @@ module _ {L : Type 0} (is_value : L → Type 0) (join : L → L → L) where
       let left = length-drop n ds in
       let pos = pow_pos k in
       let to : n + (length (drop n ds) - 2 ^ k) ≡ length ds - 2 ^ k = omega arith in
-      subst (StandsFor is_value join (join_at e k)) (sym (drop-drop (length (drop n ds) - 2 ^ k) n ds ∙ ap (λ m. drop m ds) to)) (h k low (omega arith))
+      subst (IsJoinOfDeltas is_value join (join_at e k)) (sym (drop-drop (length (drop n ds) - 2 ^ k) n ds ∙ ap (λ m. drop m ds) to)) (h k low (omega arith))
 
   -- dropping the oldest deltas
   pub joined_drop : (n : ℕ) (es : List (L × List L)) → AreJoined is_value join es → AreJoined is_value join (drop n es)
@@ -97,14 +97,14 @@ module _ {L : Type 0} (is_value : L → Type 0) (join : L → L → L) where
       has_same _ _ _ _ (sym same) (sym (get_or-take n es i d (omega arith))) (h i d (omega arith))
 
   -- the join made for a block is that of its deltas
-  pub block_there : (begin level i : ℕ) (es : List (L × List L)) (e : L × List L) → AreJoined is_value join es → begin + 2 ^ level ≤ length es → begin + 2 ^ level ≡ i + 1 → e ≡ get_or es i e → level ≤ length e.1 → StandsFor is_value join (join_at e level) (take (2 ^ level) (drop begin (deltas_of es)))
+  pub block_there : (begin level i : ℕ) (es : List (L × List L)) (e : L × List L) → AreJoined is_value join es → begin + 2 ^ level ≤ length es → begin + 2 ^ level ≡ i + 1 → e ≡ get_or es i e → level ≤ length e.1 → IsJoinOfDeltas is_value join (join_at e level) (take (2 ^ level) (drop begin (deltas_of es)))
   block_there begin level i es e h fits ends is made =
       let ds = take (i + 1) (deltas_of es) in
       let many = length-map es (λ (x : L × List L). x.0) in
       let long = length-take (i + 1) (deltas_of es) in
       let had = subst (λ f. HasJoins is_value join ds f) (sym is) (h i e (omega arith)) level made (omega arith) in
       let begins : length ds - 2 ^ level ≡ begin = omega arith in
-      subst (StandsFor is_value join (join_at e level)) (ap (λ n. drop n ds) begins ∙ (ap (λ n. drop begin (take n (deltas_of es))) (sym ends) ∙ drop-take begin (2 ^ level) (deltas_of es))) had
+      subst (IsJoinOfDeltas is_value join (join_at e level)) (ap (λ n. drop n ds) begins ∙ (ap (λ n. drop begin (take n (deltas_of es))) (sym ends) ∙ drop-take begin (2 ^ level) (deltas_of es))) had
 
   -- ---- making joins
   -- a block has the deltas of its halves
@@ -131,22 +131,22 @@ module _ {L : Type 0} (is_value : L → Type 0) (join : L → L → L) where
       let all = two_halves b p ds ∙ ap (λ n. drop b (take n ds)) whole in
       let one : f ≡ e = get_or_read es i f lt same e ∙ sym is in (
         ap (λ (g : L × List L). length g.1) one ∙ at,
-        subst (λ y. StandsFor is_value join y (drop b (take (i + 1) ds))) (sym joined) (subst (StandsFor is_value join (join (join_at m level) (join_at e level))) all both),
+        subst (λ y. IsJoinOfDeltas is_value join y (drop b (take (i + 1) ds))) (sym joined) (subst (IsJoinOfDeltas is_value join (join (join_at m level) (join_at e level))) all both),
       )
 
   -- an ending with one more join
-  grown : (ds : List L) (e : L × List L) (j : L) → HasJoins is_value join ds e → StandsFor is_value join j (drop (length ds - 2 ^ (length e.1 + 1)) ds) → HasJoins is_value join ds (e.0, e.1 ++ j ∷ [])
+  grown : (ds : List L) (e : L × List L) (j : L) → HasJoins is_value join ds e → IsJoinOfDeltas is_value join j (drop (length ds - 2 ^ (length e.1 + 1)) ds) → HasJoins is_value join ds (e.0, e.1 ++ j ∷ [])
   grown ds e j h new k low fits =
       let long = length-append e.1 (j ∷ []) in
-      elim (ltb k (length e.1 + 1)) as (λ b. ltb k (length e.1 + 1) ≡ b → StandsFor is_value join (join_at (e.0, e.1 ++ j ∷ []) k) (drop (length ds - 2 ^ k) ds)) [
+      elim (ltb k (length e.1 + 1)) as (λ b. ltb k (length e.1 + 1) ≡ b → IsJoinOfDeltas is_value join (join_at (e.0, e.1 ++ j ∷ []) k) (drop (length ds - 2 ^ k) ds)) [
         | true ↦ λ t.
             let below = ltb-true k (length e.1 + 1) t in
-            subst (λ x. StandsFor is_value join x (drop (length ds - 2 ^ k) ds)) (sym (get_or_append_left (e.0 ∷ e.1) (j ∷ []) e.0 k (omega arith))) (h k (omega arith) fits)
+            subst (λ x. IsJoinOfDeltas is_value join x (drop (length ds - 2 ^ k) ds)) (sym (get_or_append_left (e.0 ∷ e.1) (j ∷ []) e.0 k (omega arith))) (h k (omega arith) fits)
         | false ↦ λ t.
             let above = ltb-false k (length e.1 + 1) t in
             let last : length e.1 + 1 ≡ k = omega arith in
             let at : length (e.0 ∷ e.1) ≡ k = omega arith in
-            subst (λ x. StandsFor is_value join x (drop (length ds - 2 ^ k) ds)) (sym (get_or_push (e.0 ∷ e.1) j e.0 k at)) (subst (λ n. StandsFor is_value join j (drop (length ds - 2 ^ n) ds)) last new)
+            subst (λ x. IsJoinOfDeltas is_value join x (drop (length ds - 2 ^ k) ds)) (sym (get_or_push (e.0 ∷ e.1) j e.0 k at)) (subst (λ n. IsJoinOfDeltas is_value join j (drop (length ds - 2 ^ n) ds)) last new)
       ] refl
 
   deltas_set : (es : List (L × List L)) (i : ℕ) (e : L × List L) (js : List L) → e ≡ get_or es i e → deltas_of (set es i (e.0, js)) ≡ deltas_of es
@@ -165,7 +165,7 @@ module _ {L : Type 0} (is_value : L → Type 0) (join : L → L → L) where
       let long = length-take (i + 1) (deltas_of es) in
       let whole : i + 1 ≡ length ds = omega arith in
       let of_e = subst (λ f. HasJoins is_value join ds f) (sym is) (h i e lt) in
-      let new_one = subst (λ n. StandsFor is_value join j (drop (n - 2 ^ (length e.1 + 1)) ds)) whole (subst (λ n. StandsFor is_value join j (drop (i + 1 - 2 ^ (n + 1)) ds)) (sym made.0) made.1) in
+      let new_one = subst (λ n. IsJoinOfDeltas is_value join j (drop (n - 2 ^ (length e.1 + 1)) ds)) whole (subst (λ n. IsJoinOfDeltas is_value join j (drop (i + 1 - 2 ^ (n + 1)) ds)) (sym made.0) made.1) in
       let all : AreJoined is_value join (set es i y) = λ k d inside.
       elim (cases_eq k i) [
         | inl at ↦ has_same _ _ _ _ (sym (ap (λ n. take (n + 1) (deltas_of (set es i y))) at ∙ ap (take (i + 1)) same)) (sym (ap (λ n. get_or (set es i y) n d) at ∙ get_or-set_same es i y d lt)) (grown ds e j of_e new_one)
@@ -174,7 +174,7 @@ module _ {L : Type 0} (is_value : L → Type 0) (join : L → L → L) where
       (subst (AreJoined is_value join) (sym put) all, ap deltas_of put ∙ same)
 
   -- one more block is joined
-  block_joined : (ds : List L) (n m : ℕ) (joined x : L) → is_value joined → StandsFor is_value join x (take m (drop n ds)) → fold join (join joined x) (drop (n + m) ds) ≡ fold join joined (drop n ds)
+  block_joined : (ds : List L) (n m : ℕ) (joined x : L) → is_value joined → IsJoinOfDeltas is_value join x (take m (drop n ds)) → fold join (join joined x) (drop (n + m) ds) ≡ fold join joined (drop n ds)
   block_joined ds n m joined x v s =
       let rest = drop n ds in
       ap (fold join (join joined x)) (sym (drop-drop m n ds))
@@ -213,7 +213,7 @@ module _ {L : Type 0} (is_value : L → Type 0) (join : L → L → L) where
     pub rest : fold join joined (drop (number - base) ds) ≡ fold join bottom (drop (a - base) ds)
 
   -- one more block is joined, which is the longest one or a shorter one
-  pub joining_one : {below : L → L → Type 0} → IsLattice is_value below join → (bottom : L) (base a count number end most level : ℕ) (ds : List L) (joined x j : L) → base ≤ a → IsLongest number (count - number) most → level ≤ most → number < count → end ≡ number + 1 * 2 ^ level % 2 ^ 64 → StandsFor is_value join x (take (2 ^ level) (drop (number - base) ds)) → IsJoining bottom base a count number ds joined → j ≡ join joined x → IsJoining bottom base a count end ds j
+  pub joining_one : {below : L → L → Type 0} → IsLattice is_value below join → (bottom : L) (base a count number end most level : ℕ) (ds : List L) (joined x j : L) → base ≤ a → IsLongest number (count - number) most → level ≤ most → number < count → end ≡ number + 1 * 2 ^ level % 2 ^ 64 → IsJoinOfDeltas is_value join x (take (2 ^ level) (drop (number - base) ds)) → IsJoining bottom base a count number ds joined → j ≡ join joined x → IsJoining bottom base a count end ds j
   joining_one laws bottom base a count number end most level ds joined x j low top less before ends s h is =
       let small = top.small in
       let fits = top.fits in

@@ -12,7 +12,7 @@ join_at e level = slice_index_or (e.0 ∷ e.1) level e.0
 
 module _ {L : Type 0} (is_value : L → Type 0) (join : L → L → L) where
   -- x is a value, and joining it equals joining the deltas ds one after another
-  pub record StandsFor (x : L) (ds : List L) : Type 0 where
+  pub record IsJoinOfDeltas (x : L) (ds : List L) : Type 0 where
     pub value : is_value x
     pub same : (y : L) → is_value y → fold join y ds ≡ join y x
 
@@ -20,7 +20,7 @@ module _ {L : Type 0} (is_value : L → Type 0) (join : L → L → L) where
   -- joins of more deltas, made before the oldest were dropped
   abbrev pub HasJoins : List L → L × List L → Type 0
   HasJoins ds e = (k : ℕ) → k ≤ length e.1 → 2 ^ k ≤ length ds
-      → StandsFor (join_at e k) (drop (length ds - 2 ^ k) ds)
+      → IsJoinOfDeltas (join_at e k) (drop (length ds - 2 ^ k) ds)
 
   -- the joins of each ending are right
   abbrev pub AreJoined : List (L × List L) → Type 0
@@ -30,7 +30,7 @@ module _ {L : Type 0} (is_value : L → Type 0) (join : L → L → L) where
   -- the ending has joins up to the level, and `joined` is the next one
   abbrev pub IsNextJoin : List (L × List L) → ℕ → ℕ → L × List L → L → Type 0
   IsNextJoin es i level e joined = e ≡ slice_index_or es i e
-      → (length e.1 ≡ level) × StandsFor joined (drop (i + 1 - 2 ^ (level + 1)) (take (i + 1) (deltas_of es)))
+      → (length e.1 ≡ level) × IsJoinOfDeltas joined (drop (i + 1 - 2 ^ (level + 1)) (take (i + 1) (deltas_of es)))
 
   -- a buffer's contents: the newest deltas of the count, with joins of their blocks
   pub record IsKept (count : ℕ) (es : List (L × List L)) : Type 0 where

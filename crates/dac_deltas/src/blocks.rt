@@ -2,7 +2,7 @@
 ghost use Rattle.std.specs.Prelude.{List, ◌≡◌, ◌+◌, ◌-◌, ◌<◌, ◌≤◌, ◌^◌, ◌++◌, ◌∷◌, [], length, take, drop, IfOk, IfSome, OnOk, OnErr, slice_index_or};
 ghost use Rattle.dac_base.specs.declared.limits.TheConstants.{MAX_COUNTER};
 ghost use Rattle.dac_deltas.specs.Blocks.{IsLongest};
-ghost use Rattle.dac_deltas.specs.BlockEnds.{AreJoined, IsNextJoin, StandsFor, deltas_of, join_at};
+ghost use Rattle.dac_deltas.specs.BlockEnds.{AreJoined, IsNextJoin, IsJoinOfDeltas, deltas_of, join_at};
 
 use dac_base::NoMemory;
 use dac_lattice::Lattice;
@@ -128,7 +128,7 @@ pub(crate) fn join_from<L: Lattice>(
 
 /// The longest block with a join, among those that begin with the stored delta at index `begin` and have at most 2^most
 /// deltas: its level and its join.
-pub(crate) fn longest_made<L: Lattice>(
+pub(crate) fn longest_joined<L: Lattice>(
     kept: &VecDeque<BlockEnd<L>>,
     begin: usize,
     most: usize,
@@ -137,7 +137,7 @@ pub(crate) fn longest_made<L: Lattice>(
     requires fits { begin + 2 ^ most ≤ length kept.now.items }
     requires joined { AreJoined L.is_value L.join kept.now.items }
     ensures level { result.0 ≤ most }
-    ensures join { StandsFor L.is_value L.join result.1.now
+    ensures join { IsJoinOfDeltas L.is_value L.join result.1.now
         (take (2 ^ result.0) (drop begin (deltas_of kept.now.items))) }
 {
     let mut level = most;

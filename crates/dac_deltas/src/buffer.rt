@@ -6,7 +6,7 @@ ghost use Rattle.dac_deltas.specs.declared.blocks.TheConstants.{MOST_LEVEL};
 ghost use Rattle.dac_deltas.specs.declared.buffer.TheConstants.{MAX_DELTAS};
 
 use crate::blocks::{
-    BlockEnd, MOST_LEVEL, add_joined, join_from, level_at, longest_made, make_all_joins,
+    BlockEnd, MOST_LEVEL, add_joined, join_from, level_at, longest_joined, make_all_joins,
 };
 use dac_base::{MAX_COUNTER, NoMemory};
 use dac_lattice::{Bottom, Lattice};
@@ -214,24 +214,24 @@ impl<L: Bottom> Buffer<L> {
         if a < base {
             return Ok(None);
         }
-        let joined = self.joined_from(a)?;
+        let joined = self.interval_from(a)?;
         Ok(Some(joined))
     }
 
     /// The join of the deltas from number `a` on, all of which are stored.
-    fn joined_from(&self, a: u64) -> Result<L, NoMemory>
+    fn interval_from(&self, a: u64) -> Result<L, NoMemory>
         requires counted { a ≤ self.now.count }
         requires kept { self.now.base ≤ a }
         ensures { IfOk result (λ joined. joined ≡ fold L.join L.bottom (numbered_from self.now a)) }
     {
         match &self.ready {
             Some((from, joined)) if *from == a => joined.copy(),
-            _ => self.made_from(a),
+            _ => self.computed_from(a),
         }
     }
 
     /// Computes the join of the deltas from number `a` on, all of which are stored, from the joins of blocks.
-    fn made_from(&self, a: u64) -> Result<L, NoMemory>
+    fn computed_from(&self, a: u64) -> Result<L, NoMemory>
         requires counted { a ≤ self.now.count }
         requires kept { self.now.base ≤ a }
         ensures { IfOk result (λ joined. joined ≡ fold L.join L.bottom (numbered_from self.now a)) }
@@ -241,7 +241,7 @@ impl<L: Bottom> Buffer<L> {
         let mut at = a;
         while at < self.count {
             let most = level_at(at, self.count - at);
-            let (level, block) = longest_made(&self.kept, (at - base) as usize, most);
+            let (level, block) = longest_joined(&self.kept, (at - base) as usize, most);
             joined = Some(join_on(joined, block)?);
             at += 1 << level;
         }

@@ -171,14 +171,14 @@ has_gap dots r there kept some vector = from r.further refl some
 pub rows_are : (rows : List Row) (dots : Dots) → dots_in rows ≡ dots → AreKept rows → rows_of dots ≡ rows
 rows_are rows dots view kept = ap rows_of (sym view) ∙ kept_are rows kept
 
-rises_from : (low : ℕ) (ns : List ℕ) → IsRising nat_cmp (low ∷ ns) → rises_on low ns ≡ true
-rises_from low [] h = refl
-rises_from low (n ∷ ns) h =
+ascends_from : (low : ℕ) (ns : List ℕ) → IsRising nat_cmp (low ∷ ns) → rises_on low ns ≡ true
+ascends_from low [] h = refl
+ascends_from low (n ∷ ns) h =
     let parts = and_parts (is_below_all nat_cmp low (n ∷ ns)) (is_rising nat_cmp (n ∷ ns)) h in
-    and_from _ _ (lt-ltb low n (number_less low n (and_parts (is_lt (nat_cmp low n)) (is_below_all nat_cmp low ns) parts.0).0)) (rises_from n ns parts.1)
+    and_from _ _ (lt-ltb low n (number_less low n (and_parts (is_lt (nat_cmp low n)) (is_below_all nat_cmp low ns) parts.0).0)) (ascends_from n ns parts.1)
 
 pub rises_both : (low : ℕ) (ns : List ℕ) (b : Bool) → b ≡ rises_on low ns → IsTrue b ↔ IsRising nat_cmp (low ∷ ns)
-rises_both low ns b is = (λ yes. rises_to low ns (sym is ∙ yes), λ h. is ∙ rises_from low ns h)
+rises_both low ns b is = (λ yes. rises_to low ns (sym is ∙ yes), λ h. is ∙ ascends_from low ns h)
 
 pub follows_kept : (row : Row) → IsRising nat_cmp ((row.upto + 1) ∷ row.further) → IsKept row
 follows_kept row h =

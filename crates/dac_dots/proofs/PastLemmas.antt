@@ -6,7 +6,7 @@ use Rattle.std.proofs.lemmas.Bool.{and_from, ltb-true}
 use Rattle.std.proofs.lemmas.List.Folds.{list_any-append}
 use Rattle.dac_origins.specs.Keys.{is_below_all, IsRising, has_key}
 use Rattle.dac_dots.specs.Rows.{further_of, reach_of}
-use Rattle.dac_dots.specs.Spans.{from_on, counters_of_span, counters_in, span_has, any_past, are_apart, past}
+use Rattle.dac_dots.specs.Spans.{from_on, counters_of_span, counters_in, span_has, any_above, are_apart, past}
 use Rattle.dac_dots.specs.declared.spans.Span.{Span}
 use Rattle.dac_dots.proofs.SpanLemmas.{has_span, below_append, below_span, rising_after, apart_first, further_is, zero_alone}
 
@@ -103,7 +103,7 @@ rising_past low u (span ∷ spans) h =
       | false ↦ rising_past (span.last + 2) u spans is.1.1
     ]
 
-has_past : (u : ℕ) (spans : List Span) (n : ℕ) → has_key nat_cmp (past u spans) n ≡ any_past u spans n
+has_past : (u : ℕ) (spans : List Span) (n : ℕ) → has_key nat_cmp (past u spans) n ≡ any_above u spans n
 has_past u [] n = refl
 has_past u (span ∷ spans) n =
     list_any-append (eq_by_cmp nat_cmp n) (cond (nat_lt u span.first) (counters_of_span span) []) (past u spans)
@@ -145,7 +145,7 @@ further_parts spans h now view =
     further_is spans h now view (zero_if has ++ past u spans) (rising_all u spans has h) (λ n.
     list_any-append (eq_by_cmp nat_cmp n) (zero_if has) (past u spans)
     ∙ (λ i. has_zero has n i || has_past u spans n i)
-    ∙ or_turned (nat_eq n 0 && has) (any_past u spans n))
+    ∙ or_turned (nat_eq n 0 && has) (any_above u spans n))
 
 -- by cases on 0 in the set
 pub first_is_zero : (spans : List Span) → are_apart 0 spans ≡ true → (now : List ℕ) → counters_in spans ≡ now → has_key nat_cmp now 0 ≡ true → slice_get (further_of (reach_of now) now) 0 ≡ Some 0

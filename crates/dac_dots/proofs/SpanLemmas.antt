@@ -14,7 +14,7 @@ use Rattle.std.proofs.lemmas.Map.Lookups.{exact_unsigned}
 use Rattle.dac_origins.specs.laws.InOrder.{or_swap, same_rising}
 use Rattle.dac_dots.specs.laws.CounterLaws.{is_less, on_the_way, ends_there, rising_filter, has_key-filter}
 use Rattle.dac_dots.specs.Rows.{IsGreatest, further_of, reach_of}
-use Rattle.dac_dots.specs.Spans.{from_on, counters_of_span, counters_in, span_has, any_span, any_past, are_apart, AreSpans, HaveEnded, IsPlaceFor, hull, absorbed}
+use Rattle.dac_dots.specs.Spans.{from_on, counters_of_span, counters_in, span_has, any_span, any_above, are_apart, AreSpans, HaveEnded, IsPlaceFor, hull, absorbed}
 use Rattle.dac_dots.specs.declared.spans.Span.{Span}
 use Rattle.dac_dots.proofs.PlaceLemmas.{or_assoc}
 
@@ -656,27 +656,27 @@ merged_rest xs ys i j both mid new so_far first second = merged_both xs ys i j b
 
 -- ---- spans that begin above a number
 
-past_one : (upto : ℕ) (spans : List Span) (i : ℕ) (d : Span) → i < length spans → (n : ℕ) → any_past upto (take (i + 1) spans) n ≡ (any_past upto (take i spans) n || (nat_lt upto (get_or spans i d).first && span_has n (get_or spans i d)))
+past_one : (upto : ℕ) (spans : List Span) (i : ℕ) (d : Span) → i < length spans → (n : ℕ) → any_above upto (take (i + 1) spans) n ≡ (any_above upto (take i spans) n || (nat_lt upto (get_or spans i d).first && span_has n (get_or spans i d)))
 past_one upto spans i d p n = list_any_more (λ (span : Span). nat_lt upto span.first && span_has n span) spans i d p
 
-pub past_more : (upto : ℕ) (spans : List Span) (i : ℕ) (d : Span) → i < length spans → nat_lt upto (get_or spans i d).first ≡ true → (old mid new : List ℕ) → ((n : ℕ) → has_key nat_cmp mid n ≡ (any_past upto (take i spans) n || has_key nat_cmp old n)) → ((n : ℕ) → has_key nat_cmp new n ≡ (span_has n (get_or spans i d) || has_key nat_cmp mid n))
-    → (n : ℕ) → has_key nat_cmp new n ≡ (any_past upto (take (i + 1) spans) n || has_key nat_cmp old n)
+pub past_more : (upto : ℕ) (spans : List Span) (i : ℕ) (d : Span) → i < length spans → nat_lt upto (get_or spans i d).first ≡ true → (old mid new : List ℕ) → ((n : ℕ) → has_key nat_cmp mid n ≡ (any_above upto (take i spans) n || has_key nat_cmp old n)) → ((n : ℕ) → has_key nat_cmp new n ≡ (span_has n (get_or spans i d) || has_key nat_cmp mid n))
+    → (n : ℕ) → has_key nat_cmp new n ≡ (any_above upto (take (i + 1) spans) n || has_key nat_cmp old n)
 past_more upto spans i d p above old mid new so_far one n =
-    one n ∙ ap (λ b. span_has n (get_or spans i d) || b) (so_far n) ∙ or_turn (span_has n (get_or spans i d)) (any_past upto (take i spans) n) (has_key nat_cmp old n)
-    ∙ ap (λ b. b || has_key nat_cmp old n) (ap (λ t. any_past upto (take i spans) n || (t && span_has n (get_or spans i d))) (sym above) ∙ sym (past_one upto spans i d p n))
+    one n ∙ ap (λ b. span_has n (get_or spans i d) || b) (so_far n) ∙ or_turn (span_has n (get_or spans i d)) (any_above upto (take i spans) n) (has_key nat_cmp old n)
+    ∙ ap (λ b. b || has_key nat_cmp old n) (ap (λ t. any_above upto (take i spans) n || (t && span_has n (get_or spans i d))) (sym above) ∙ sym (past_one upto spans i d p n))
 
 or_false : (b : Bool) → (b || false) ≡ b
 or_false true = refl
 or_false false = refl
 
-pub past_same : (upto : ℕ) (spans : List Span) (i : ℕ) (d : Span) → i < length spans → nat_lt upto (get_or spans i d).first ≡ false → (n : ℕ) → any_past upto (take (i + 1) spans) n ≡ any_past upto (take i spans) n
-past_same upto spans i d p below n = past_one upto spans i d p n ∙ ap (λ t. any_past upto (take i spans) n || (t && span_has n (get_or spans i d))) below ∙ or_false (any_past upto (take i spans) n)
+pub past_same : (upto : ℕ) (spans : List Span) (i : ℕ) (d : Span) → i < length spans → nat_lt upto (get_or spans i d).first ≡ false → (n : ℕ) → any_above upto (take (i + 1) spans) n ≡ any_above upto (take i spans) n
+past_same upto spans i d p below n = past_one upto spans i d p n ∙ ap (λ t. any_above upto (take i spans) n || (t && span_has n (get_or spans i d))) below ∙ or_false (any_above upto (take i spans) n)
 
 -- ---- the further counters
 
 module _ (spans : List Span) (h : are_apart 0 spans ≡ true) (now : List ℕ) (view : counters_in spans ≡ now) where
   -- a span that begins no later than upto ends no later than upto
-  begins_within : (u : ℕ) → has_key nat_cmp now (u + 1) ≡ false → (l : List Span) → ((n : ℕ) → any_span l n ≡ true → has_key nat_cmp now n ≡ true) → (n : ℕ) → u < n → any_past u l n ≡ any_span l n
+  begins_within : (u : ℕ) → has_key nat_cmp now (u + 1) ≡ false → (l : List Span) → ((n : ℕ) → any_span l n ≡ true → has_key nat_cmp now n ≡ true) → (n : ℕ) → u < n → any_above u l n ≡ any_span l n
   begins_within u end [] there n p = refl
   begins_within u end (span ∷ l) there n p = (λ i. one i || begins_within u end l (λ m e. there m (or_right _ _ e)) n p i)
     where
@@ -694,14 +694,14 @@ module _ (spans : List Span) (h : are_apart 0 spans ≡ true) (now : List ℕ) (
           no_more true = refl
           no_more false = refl
 
-  none_past : (u : ℕ) (l : List Span) (n : ℕ) → n ≤ u → any_past u l n ≡ false
+  none_past : (u : ℕ) (l : List Span) (n : ℕ) → n ≤ u → any_above u l n ≡ false
   none_past u [] n p = refl
   none_past u (span ∷ l) n p = (λ i. out u n span.first span.last p i || none_past u l n p i)
     where
       out : (u n f l : ℕ) → n ≤ u → (nat_lt u f && (nat_le f n && nat_le n l)) ≡ false
       out u n f l p = grind (arith, nat_tests)
 
-  pub further_has : (n : ℕ) → (any_past (reach_of now) spans n || (nat_eq n 0 && has_key nat_cmp now 0)) ≡ ((nat_lt (reach_of now) n || nat_eq n 0) && has_key nat_cmp now n)
+  pub further_has : (n : ℕ) → (any_above (reach_of now) spans n || (nat_eq n 0 && has_key nat_cmp now 0)) ≡ ((nat_lt (reach_of now) n || nat_eq n 0) && has_key nat_cmp now n)
   further_has n = elim (cases_lt (reach_of now) n) [
     | inl past ↦
         let other : nat_eq n 0 ≡ false = not_zero n (reach_of now) past in
@@ -723,7 +723,7 @@ module _ (spans : List Span) (h : are_apart 0 spans ≡ true) (now : List ℕ) (
         | inr e ↦ ap (λ t. t && has_key nat_cmp now 0) e ∙ sym (ap (λ t. t && has_key nat_cmp now n) e)
       ]
 
-  pub further_is : (ns : List ℕ) → IsRising nat_cmp ns → ((n : ℕ) → has_key nat_cmp ns n ≡ (any_past (reach_of now) spans n || (nat_eq n 0 && has_key nat_cmp now 0))) → ns ≡ further_of (reach_of now) now
+  pub further_is : (ns : List ℕ) → IsRising nat_cmp ns → ((n : ℕ) → has_key nat_cmp ns n ≡ (any_above (reach_of now) spans n || (nat_eq n 0 && has_key nat_cmp now 0))) → ns ≡ further_of (reach_of now) now
   further_is ns rising all =
       same_rising nat_cmp_total exact_unsigned ns (further_of (reach_of now) now) rising (rising_filter (λ n. nat_lt (reach_of now) n || nat_eq n 0) now (rising_now spans h now view))
       (λ n. all n ∙ further_has n ∙ sym (has_key-filter (λ n. nat_lt (reach_of now) n || nat_eq n 0) now n))

@@ -27,8 +27,8 @@ abbrev pub any_span : List Span → ℕ → Bool
 any_span spans n = list_any (span_has n) spans
 
 -- whether any of the spans that begin above upto contains the counter
-abbrev pub any_past : ℕ → List Span → ℕ → Bool
-any_past upto spans n = list_any (λ (span : Span). nat_lt upto span.first && span_has n span) spans
+abbrev pub any_above : ℕ → List Span → ℕ → Bool
+any_above upto spans n = list_any (λ (span : Span). nat_lt upto span.first && span_has n span) spans
 
 -- the counters of the spans that begin above upto, in their order
 abbrev pub past : ℕ → List Span → List ℕ

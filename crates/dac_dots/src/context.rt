@@ -153,7 +153,7 @@ impl Context {
             Kept::One(theirs) => Context::of(self.alloc, mine.union(theirs)?),
             Kept::Many(theirs) => {
                 let both = theirs.copy()?;
-                Context::of_parts(self.alloc, both.and_all(mine)?)
+                Context::of_parts(self.alloc, both.union_rows(mine)?)
             }
         }
     }
@@ -167,7 +167,7 @@ impl Context {
             Kept::Nothing => self.copy(),
             Kept::One(theirs) => {
                 let both = mine.copy()?;
-                Context::of_parts(self.alloc, both.and_all(theirs)?)
+                Context::of_parts(self.alloc, both.union_rows(theirs)?)
             }
             Kept::Many(theirs) => Context::of_parts(self.alloc, mine.union(theirs)?),
         }

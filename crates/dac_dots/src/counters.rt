@@ -6,7 +6,7 @@ ghost use Rattle.dac_origins.specs.Keys.{IsRising, has_key};
 ghost use Rattle.dac_origins.specs.declared.dot.Dot.{Dot};
 ghost use Rattle.dac_dots.specs.DotFilters.{may_have};
 ghost use Rattle.dac_dots.specs.Rows.{IsGreatest, further_of, reach_of};
-ghost use Rattle.dac_dots.specs.Spans.{AreSpans, HaveEnded, any_past, any_span, are_apart, counters_in, past, span_has};
+ghost use Rattle.dac_dots.specs.Spans.{AreSpans, HaveEnded, any_above, any_span, are_apart, counters_in, past, span_has};
 ghost use Rattle.std.specs.List.{slice_get};
 
 use crate::filter::DotFilter;
@@ -37,13 +37,13 @@ fn list_span(counters: &mut Vec<u64>, span: Span) -> Result<(), NoMemory>
 }
 
 /// Inserts the counters of the spans that begin above `upto` into a sorted list.
-fn list_past(counters: &mut Vec<u64>, upto: u64, spans: &[Span]) -> Result<(), NoMemory>
+fn list_above(counters: &mut Vec<u64>, upto: u64, spans: &[Span]) -> Result<(), NoMemory>
     requires valid { AreSpans spans.now }
     requires rising { IsRising nat_cmp counters.old.items }
     ensures rising { IsRising nat_cmp counters.new.items }
     ensures ok { OnOk result ((n : _)
         → has_key nat_cmp counters.new.items n
-        ≡ (any_past upto spans.now n || has_key nat_cmp counters.old.items n)) }
+        ≡ (any_above upto spans.now n || has_key nat_cmp counters.old.items n)) }
 {
     for span in spans {
         if upto < span.first {
@@ -54,7 +54,7 @@ fn list_past(counters: &mut Vec<u64>, upto: u64, spans: &[Span]) -> Result<(), N
 }
 
 /// The counter at index `place` among those of the spans that begin above `low`.
-fn past_at(spans: &[Span], low: u64, place: u128) -> Option<u64>
+fn counter_above(spans: &[Span], low: u64, place: u128) -> Option<u64>
     requires { AreSpans spans.now }
     ensures { result ≡ slice_get (past low spans.now) place }
 {
@@ -121,7 +121,7 @@ fn put_dot(dots: &mut Vec<Dot>, dot: Dot) -> Result<(), NoMemory>
 }
 
 /// The number of spans that end before a counter. Tries the first span first, because a set without gaps is one span.
-fn ended_before(spans: &[Span], n: u64) -> usize
+fn spans_before(spans: &[Span], n: u64) -> usize
     requires { are_apart 0 spans.now ≡ true }
     ensures { HaveEnded spans.now result n }
 {
@@ -214,7 +214,7 @@ impl Counters {
             ↔ ((n : _) → span_has n span ≡ true → has_key nat_cmp self.now n ≡ true) }
     {
         let spans = self.spans();
-        match spans.get(ended_before(spans, span.first)) {
+        match spans.get(spans_before(spans, span.first)) {
             Some(found) => found.first <= span.first && span.last <= found.last,
             None => false,
         }
@@ -362,7 +362,7 @@ impl Counters {
         if self.contains(0) {
             insert_key(&mut further, 0)?;
         }
-        list_past(&mut further, self.upto(), self.spans())?;
+        list_above(&mut further, self.upto(), self.spans())?;
         Ok(further)
     }
 
@@ -378,7 +378,7 @@ impl Counters {
             }
             left -= 1;
         }
-        past_at(spans, self.upto(), left)
+        counter_above(spans, self.upto(), left)
     }
 
     /// Sets the slot of each dot of the origin whose counter is in the set.

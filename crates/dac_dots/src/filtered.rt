@@ -10,10 +10,10 @@ use std::marker::Model;
 
 /// The greatest number of dots that are put one by one; this many consecutive dots of one origin set every slot of
 /// their node.
-const MOST_FILTERED: usize = 128;
+const MAX_FILTERED_DOTS: usize = 128;
 
 /// The least number of expected tests for which filling a filter pays.
-const LEAST_ASKED: usize = 3;
+const MIN_TESTS: usize = 3;
 
 /// A context with a filter that makes most negative tests cheap. Contracts treat it as the context.
 #[derive(Drop)]
@@ -71,7 +71,7 @@ impl<'a> FilteredContext<'a> {
 fn filter_of(context: &Context, asked: usize) -> DotFilter
     ensures { MayHaveAll result.slots context.now }
 {
-    if asked < LEAST_ASKED || !context.has_at_most(MOST_FILTERED) {
+    if asked < MIN_TESTS || !context.has_at_most(MAX_FILTERED_DOTS) {
         return DotFilter::all();
     }
     let mut filter = DotFilter::none();

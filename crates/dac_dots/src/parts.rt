@@ -7,7 +7,7 @@ ghost use Rattle.dac_origins.specs.declared.dot.Dot.{Dot};
 ghost use Rattle.dac_dots.specs.Rows.{CanFollow, EndBefore, HasSome, IsKept, IsRowIn, dots_in, row_has, rows_of};
 ghost use Rattle.dac_dots.specs.Parts.{AreParts, HaveRows, IsPartFor, IsPlaceIn, all_rows};
 
-use crate::row::{Further, OriginRow, has_no_dots, rises_from};
+use crate::row::{Further, OriginRow, ascends_from, has_no_dots};
 use crate::rows::OriginRows;
 use dac_base::NoMemory;
 use dac_origins::{Dot, Origin};
@@ -19,7 +19,7 @@ use std::sync::Arc;
 pub(crate) const MOST: usize = 128;
 
 /// The rows of all parts are fewer than this, so that each has an index.
-const MOST_ROWS: usize = 1 << 63;
+const MAX_ROWS: usize = 1 << 63;
 
 /// The rows of a set of dots, in parts that sets share. No part is empty, and each part's origins are above those of
 /// the part before it. Contracts treat the parts as the set.
@@ -278,7 +278,7 @@ impl Parts {
     }
 
     /// The set with the dots of a row added, or the set itself if it contains them.
-    fn and_row(self, row: &OriginRow) -> Result<Self, NoMemory>
+    fn union_row(self, row: &OriginRow) -> Result<Self, NoMemory>
         requires kept { IsKept row.now }
         requires some { HasSome row.now }
         ensures { IfOk result (λ more. (q : Dot)
@@ -291,12 +291,12 @@ impl Parts {
     }
 
     /// The union of the set and these rows.
-    pub(crate) fn and_all(self, rows: &OriginRows) -> Result<Self, NoMemory>
+    pub(crate) fn union_rows(self, rows: &OriginRows) -> Result<Self, NoMemory>
         ensures { IfOk result (λ both. both ≡ set.union self rows.now) }
     {
         let mut both = self;
         for row in rows.list() {
-            both = both.and_row(row)?;
+            both = both.union_row(row)?;
         }
         Ok(both)
     }
@@ -307,7 +307,7 @@ impl Parts {
     {
         let mut both = self.copy()?;
         for part in &other.parts {
-            both = both.and_all(part)?;
+            both = both.union_rows(part)?;
         }
         Ok(both)
     }
@@ -343,7 +343,7 @@ impl Parts {
         if !self.is_below(origin) {
             return false;
         }
-        rises_from(upto, further)
+        ascends_from(upto, further)
     }
 }
 
@@ -369,7 +369,7 @@ fn count_rows(parts: &[Arc<OriginRows, Global>]) -> Option<usize>
         let more = count.checked_add(part.rows())?;
         count = more;
     }
-    if count < MOST_ROWS { Some(count) } else { None }
+    if count < MAX_ROWS { Some(count) } else { None }
 }
 
 /// Appends parts, sharing them.

@@ -277,7 +277,7 @@ pub(crate) fn has_no_dots(upto: u64, further: &[u64]) -> bool
 }
 
 /// Whether the numbers ascend strictly from above `upto + 1`.
-pub(crate) fn rises_from(upto: u64, numbers: &[u64]) -> bool
+pub(crate) fn ascends_from(upto: u64, numbers: &[u64]) -> bool
     ensures { result ≡ rises_on (upto + 1) numbers.now }
 {
     let Some(mut before) = upto.checked_add(1) else {

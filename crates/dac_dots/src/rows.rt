@@ -10,7 +10,7 @@ ghost use Rattle.dac_origins.specs.declared.dot.Dot.{Dot};
 ghost use Rattle.dac_dots.specs.Parts.{end_before};
 
 use crate::filter::DotFilter;
-use crate::row::{Further, OriginRow, has_no_dots, place_near, place_of, rises_from};
+use crate::row::{Further, OriginRow, ascends_from, has_no_dots, place_near, place_of};
 use dac_base::{MAX_COUNTER, NoMemory};
 use dac_origins::{Dot, Origin};
 use std::alloc::{AllocError, Global};
@@ -342,7 +342,7 @@ impl OriginRows {
         if !self.is_below(origin) {
             return false;
         }
-        rises_from(upto, further)
+        ascends_from(upto, further)
     }
 
     /// Appends the dots of an origin above all origins in the set: the counters 1 to `upto`, and further ones, which

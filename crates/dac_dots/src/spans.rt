@@ -163,13 +163,13 @@ fn put_among(spans: &mut Vec<Span>, span: Span) -> Result<(), NoMemory>
         ((n : _) → span_has n span ≡ true → any_span spans.old.items n ≡ false) }
 {
     let place = place_for(spans, span);
-    let joined = take_touched(spans, place, span);
+    let joined = absorb_touching(spans, place, span);
     spans.insert(place, joined)?;
     Ok(())
 }
 
 /// Removes the spans from index `place` on that touch this span or each other, and returns the hull of all of them.
-fn take_touched(spans: &mut Vec<Span>, place: usize, span: Span) -> Span
+fn absorb_touching(spans: &mut Vec<Span>, place: usize, span: Span) -> Span
     ensures front { take place spans.new.items ≡ take place spans.old.items }
     ensures value { absorbed span (drop place spans.old.items) ≡ result ∷ drop place spans.new.items }
     ensures room { ((spans.new.items ≡ spans.old.items) × (result ≡ span))

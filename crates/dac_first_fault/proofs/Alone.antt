@@ -14,7 +14,7 @@ use Rattle.dac_tokens.specs.TokenGrammar.{AreTokensOf}
 use Rattle.dac_tokens.specs.TokenFaults.{StopAt}
 use Rattle.dac_shapes.specs.Written.{Section}
 use Rattle.dac_shapes.specs.Grammar.{IsFile}
-use Rattle.dac_first_fault.specs.FirstFault.{StandsAt, Itself, InList, InTuple, CanBring, words, IsWell, IsFileWithinLimits, IsNoName, Only, Before, IsOfName, Breaks, rank, BeginsWith, IsFaultOf, Long, NoToken, Token, Ends, Nobody, CanBeginLoosely, Spoils, Brings, apps_in}
+use Rattle.dac_first_fault.specs.FirstFault.{IsLocatedAt, Itself, InList, InTuple, CanCause, words, IsWell, IsFileWithinLimits, IsNoName, Only, Before, IsOfName, Breaks, rank, BeginsWith, IsFaultOf, Long, NoToken, Token, Ends, Nobody, CanBeginLoosely, Spoils, Brings, apps_in}
 use Rattle.dac_first_fault.proofs.Order.{words_append, well_so_far}
 use Rattle.dac_first_fault.proofs.Offsets.{name_or_not}
 use Rattle.dac_first_fault.proofs.Fewer.{keeps_fewer}
@@ -25,7 +25,7 @@ use Rattle.dac_first_fault.proofs.Fewer.{keeps_fewer}
 abbrev IsNameKind : FaultKind → Type 0
 IsNameKind k = rank k < 6
 
-can_kind : (k : FaultKind) (w : Word) (name : List ℕ) → w ≡ Name name → CanBring k w → IsNameKind k
+can_kind : (k : FaultKind) (w : Word) (name : List ℕ) → w ≡ Name name → CanCause k w → IsNameKind k
 can_kind kind.BadShape w name is can = omega arith
 can_kind kind.NameTooLong w name is can = omega arith
 can_kind kind.TwiceApp w name is can = omega arith
@@ -40,7 +40,7 @@ no_mark : (w : Word) (name : List ℕ) (x : Symbol) → w ≡ Name name → w �
 no_mark w name x is other = let wrong : Name name ≡ Punctuation x = sym is ∙ other in absurd cc
 
 -- the fault of a name is at its offset
-name_kind : (a : List Located) (l : Located) (e : ConfigFault) (name : List ℕ) → l.word ≡ Name name → StandsAt a l e → (e.at ≡ l.at) × IsNameKind e.kind
+name_kind : (a : List Located) (l : Located) (e : ConfigFault) (name : List ℕ) → l.word ≡ Name name → IsLocatedAt a l e → (e.at ≡ l.at) × IsNameKind e.kind
 name_kind a l e name is (Itself offset can) = (offset, can_kind e.kind l.word name is can)
 name_kind a l e name is (InList front o parts w v k) = absurd (no_mark l.word name _ is v)
 name_kind a l e name is (InTuple front o parts w v k) = absurd (no_mark l.word name _ is v)
@@ -96,7 +96,7 @@ same_fault e f k n = ap (λ (k : FaultKind). record { kind = k; at = e.at }) k �
 abbrev IsPlainKind : FaultKind → Word → Type 0
 IsPlainKind k w = (k ≡ kind.BadShape) ⊎ (((k ≡ kind.Unsupported) × (w ≡ Text)) ⊎ ((k ≡ kind.NumberTooLarge) × ((digits : List ℕ) × (w ≡ Number false digits))))
 
-plain_kind : (k : FaultKind) (w : Word) → CanBring k w → IsNoName w → IsPlainKind k w
+plain_kind : (k : FaultKind) (w : Word) → CanCause k w → IsNoName w → IsPlainKind k w
 plain_kind kind.BadShape w can plain = inl refl
 plain_kind kind.Unsupported w can plain = inr (inl (refl, can))
 plain_kind kind.NumberTooLarge w can plain = inr (inr (refl, (can.0, can.1)))
@@ -177,7 +177,7 @@ module _ (before : List Located) (t : Located) (no_name : IsNoName t.word) where
   abbrev ws : List Word
   ws = words before ++ t.word ∷ []
 
-  shape_not : (e f : ConfigFault) (x : Symbol) → t.word ≡ Punctuation x → CanBring e.kind t.word → Spoils ws e.kind → CanBeginLoosely ws → ⊥
+  shape_not : (e f : ConfigFault) (x : Symbol) → t.word ≡ Punctuation x → CanCause e.kind t.word → Spoils ws e.kind → CanBeginLoosely ws → ⊥
   shape_not e f x is can told loosely = subst (λ (k : FaultKind). Spoils ws k) (no_closing ws t.word e.kind x is (plain_kind e.kind t.word can no_name)) told loosely
 
   no_two : (x y : Symbol) → t.word ≡ Punctuation x → t.word ≡ Punctuation y → x ≡ y
@@ -192,7 +192,7 @@ module _ (before : List Located) (t : Located) (no_name : IsNoName t.word) where
   closes_one : t.word ≡ Punctuation CloseList → t.word ≡ Punctuation CloseTuple → ⊥
   closes_one a b = let wrong : CloseList ≡ CloseTuple = no_two CloseList CloseTuple a b in absurd cc
 
-  one_here : (e f : ConfigFault) → Spoils ws e.kind → Spoils ws f.kind → StandsAt before t e → StandsAt before t f → e ≡ f
+  one_here : (e f : ConfigFault) → Spoils ws e.kind → Spoils ws f.kind → IsLocatedAt before t e → IsLocatedAt before t f → e ≡ f
   one_here e f a b (Itself p can) (Itself q other) = same_fault e f (one_plain ws t.word e.kind f.kind (plain_kind e.kind t.word can no_name) (plain_kind f.kind t.word other no_name) a b) (p ∙ sym q)
   one_here e f a b (Itself p can) (InList front o parts w v k) = absurd (shape_not e f CloseList v can a (list_told f o k b))
   one_here e f a b (Itself p can) (InTuple front o parts w v k) = absurd (shape_not e f CloseTuple v can a (tuple_told f o k b))
@@ -249,7 +249,7 @@ module _ (text : List ℕ) (s : Stream) (spelled : (ts : List Located) → (AreT
     pub well : IsWell (words before)
     pub not_well : IsWell (words before ++ t.word ∷ []) → ⊥
     pub brings : Brings t.word (words before ++ t.word ∷ []) e.kind
-    pub stands : StandsAt before t e
+    pub stands : IsLocatedAt before t e
 
   -- the cause is the end of the tokens
   pub data AtEnd (e : ConfigFault) : Type 0 where
@@ -313,7 +313,7 @@ module _ (text : List ℕ) (s : Stream) (spelled : (ts : List Located) → (AreT
   one_end e f (Empty a is listed p) (Empty b other empty q) = p ∙ sym q
 
   -- both faults have the same token as their cause
-  shared : (e f : ConfigFault) (b : ByToken e) → Brings b.t.word (words b.before ++ b.t.word ∷ []) f.kind → StandsAt b.before b.t f → e ≡ f
+  shared : (e f : ConfigFault) (b : ByToken e) → Brings b.t.word (words b.before ++ b.t.word ∷ []) f.kind → IsLocatedAt b.before b.t f → e ≡ f
   shared e f b brings stands = elim (name_or_not b.t.word) [
     | inl n ↦
         let ws = words b.before ++ b.t.word ∷ [] in
@@ -328,7 +328,7 @@ module _ (text : List ℕ) (s : Stream) (spelled : (ts : List Located) → (AreT
   one_token : (e f : ConfigFault) (b : ByToken e) (c : ByToken f) → Order b.before b.t c.before c.t → e ≡ f
   one_token e f b c (Same p q) =
       let at_t = λ (P : List Located → Located → Type 0) (k : P c.before c.t). subst (λ (ts : List Located). P ts b.t) (sym p) (subst (λ (t : Located). P c.before t) (sym q) k) in
-      shared e f b (at_t (λ ts t. Brings t.word (words ts ++ t.word ∷ []) f.kind) c.brings) (at_t (λ ts t. StandsAt ts t f) c.stands)
+      shared e f b (at_t (λ ts t. Brings t.word (words ts ++ t.word ∷ []) f.kind) c.brings) (at_t (λ ts t. IsLocatedAt ts t f) c.stands)
   one_token e f b c (Earlier x p) = absurd (b.not_well (well_to b.before b.t x (subst (λ (ts : List Located). IsWell (words ts)) p c.well)))
   one_token e f b c (Later x p) = absurd (c.not_well (well_to c.before c.t x (subst (λ (ts : List Located). IsWell (words ts)) p b.well)))
 

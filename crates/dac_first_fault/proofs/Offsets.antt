@@ -8,9 +8,9 @@ use Rattle.dac_tokens.specs.declared.fault.FaultKind.{FaultKind}
 use Rattle.dac_tokens.specs.declared.fault.FaultKind.TheVariants as kind
 use Rattle.dac_tokens.specs.declared.token.Symbol.TheVariants.{OpenList, CloseList, OpenTuple, CloseTuple, Comma, FullStop}
 use Rattle.dac_tokens.specs.Words.{Word, Punctuation, Name, Number, Text, End, Located}
-use Rattle.dac_tokens.specs.TokenGrammar.{AreTokensOf, AreSpelled, Spells, Begins, depth_behind}
+use Rattle.dac_tokens.specs.TokenGrammar.{AreTokensOf, AreSpelled, Spells, Begins, depth_after_word}
 use Rattle.dac_tokens.specs.TokenFaults.{StopAt}
-use Rattle.dac_first_fault.specs.FirstFault.{StandsAt, Itself, InList, InTuple, CanBring, IsNoName, BeginsWith, Only, Before, IsOfName, rank}
+use Rattle.dac_first_fault.specs.FirstFault.{IsLocatedAt, Itself, InList, InTuple, CanCause, IsNoName, BeginsWith, Only, Before, IsOfName, rank}
 use Rattle.dac_first_fault.proofs.Past.{Unkept, Fine}
 use Rattle.dac_first_fault.proofs.Held.{Frees, Stops}
 use Rattle.dac_first_fault.proofs.Spared.{Strict}
@@ -56,7 +56,7 @@ last_named P [] w (v ∷ named) rest loud e all = none_behind named rest (cons_t
 last_named P (u ∷ a) w (v ∷ named) rest loud e all = last_named P a w named rest loud (cons_tail u v (a ++ w ∷ []) (named ++ rest) e) all
 
 -- a fault at a token that is no name is not the fault of a name
-kind_not : (k : FaultKind) (w : Word) (bad offset : ℕ) → offset ≡ bad → CanBring k w → IsNoName w → Unkept (At bad) Strict k offset → ⊥
+kind_not : (k : FaultKind) (w : Word) (bad offset : ℕ) → offset ≡ bad → CanCause k w → IsNoName w → Unkept (At bad) Strict k offset → ⊥
 kind_not kind.BadShape w bad offset e can plain of = of.0 e
 kind_not kind.TwiceApp w bad offset e can plain of = absurd (subst IsNoName can.1 plain)
 kind_not kind.TwiceInList w bad offset e can plain of = absurd (subst IsNoName can.1 plain)
@@ -67,7 +67,7 @@ kind_not kind.Unsupported w bad offset e can plain of = of tt
 kind_not kind.NumberTooLarge w bad offset e can plain of = of tt
 kind_not _ w bad offset e can plain of = absurd can
 
-pub not_name : (a : List Located) (l : Located) (e : ConfigFault) → StandsAt a l e → IsNoName l.word → Unkept (At l.at) Strict e.kind e.at → ⊥
+pub not_name : (a : List Located) (l : Located) (e : ConfigFault) → IsLocatedAt a l e → IsNoName l.word → Unkept (At l.at) Strict e.kind e.at → ⊥
 not_name a l e (Itself offset can) plain of = kind_not e.kind l.word l.at e.at offset can plain of
 not_name a l e (InList front o is w v f) plain of = (subst (λ (f : ConfigFault). Unkept (At l.at) Strict f.kind f.at) f of) tt
 not_name a l e (InTuple front o is w v f) plain of = (subst (λ (f : ConfigFault). Unkept (At l.at) Strict f.kind f.at) f of) tt
@@ -88,7 +88,7 @@ not_kept _ offset of = absurd of
 
 -- ---- a limit that a name breaks
 
-can_name : (k : FaultKind) (w : Word) → CanBring k w → IsOfName k → (name : List ℕ) × (w ≡ Name name)
+can_name : (k : FaultKind) (w : Word) → CanCause k w → IsOfName k → (name : List ℕ) × (w ≡ Name name)
 can_name kind.NameTooLong w can of = (can.0, can.1)
 can_name kind.TwiceApp w can of = (can.0, can.1)
 can_name kind.TwiceInList w can of = (can.0, can.1)
@@ -97,7 +97,7 @@ can_name kind.TooManyNodes w can of = (can.0, can.1)
 can_name _ w can of = absurd of
 
 -- the name at whose offset the fault is
-pub name_of_it : (a : List Located) (l : Located) (e : ConfigFault) → StandsAt a l e → IsOfName e.kind → ((name : List ℕ) × (l.word ≡ Name name)) × (e.at ≡ l.at)
+pub name_of_it : (a : List Located) (l : Located) (e : ConfigFault) → IsLocatedAt a l e → IsOfName e.kind → ((name : List ℕ) × (l.word ≡ Name name)) × (e.at ≡ l.at)
 name_of_it a l e (Itself offset can) of = (can_name e.kind l.word can of, offset)
 name_of_it a l e (InList front o is w v f) of = absurd (subst (λ (f : ConfigFault). IsOfName f.kind) f of)
 name_of_it a l e (InTuple front o is w v f) of = absurd (subst (λ (f : ConfigFault). IsOfName f.kind) f of)
@@ -177,7 +177,7 @@ apart_spelled offset bytes (t ∷ ts) is = (t.at + length is.0, omega (arith, is
 
 apart_stopped : (offset depth : ℕ) (bytes : List ℕ) (ts : List Located) (e : ConfigFault) → StopAt offset depth bytes ts e → Apart offset ts
 apart_stopped offset depth bytes [] e is = tt
-apart_stopped offset depth bytes (t ∷ ts) e is = (t.at + length is.0, omega (arith, is.2.offset), omega (arith, own_some t.word is.0 is.1 is.2.spelled), apart_stopped (t.at + length is.0) (depth_behind depth t.word) is.1 ts e is.4)
+apart_stopped offset depth bytes (t ∷ ts) e is = (t.at + length is.0, omega (arith, is.2.offset), omega (arith, own_some t.word is.0 is.1 is.2.spelled), apart_stopped (t.at + length is.0) (depth_after_word depth t.word) is.1 ts e is.4)
 
 apart_later : (offset : ℕ) (a : List Located) (l : Located) (b : List Located) → Apart offset (a ++ l ∷ b) → offset ≤ l.at
 apart_later offset [] l b is = is.1

@@ -7,7 +7,7 @@ use Rattle.dac_tokens.specs.Words.{End, Located}
 use Rattle.dac_shapes.specs.Limits.{Seen}
 use Rattle.dac_shapes.specs.Shape.{State, fails}
 use Rattle.dac_shapes.specs.laws.AgainLists.{at}
-use Rattle.dac_first_fault.specs.FirstFault.{StandsAt, Itself, InList, InTuple}
+use Rattle.dac_first_fault.specs.FirstFault.{IsLocatedAt, Itself, InList, InTuple}
 
 -- A reader can have a bound on the number of tokens: `Room i n` holds if the bound of i suffices for n. `AtEnd` is the
 -- result at the end of a text if it needs more.
@@ -36,7 +36,7 @@ module _ {I A : Type 0} (Room : I → ℕ → Type 0) (AtEnd : Located → Resul
     pub e : ConfigFault
     pub whole : us ≡ a ++ l ∷ b
     pub goes : (i : I) (last : Result Located ConfigFault) (rest : List Located) → Room i (length (a ++ l ∷ rest)) → read i (at last (a ++ l ∷ rest) seen) ≡ Err e
-    pub stands : StandsAt a l e
+    pub stands : IsLocatedAt a l e
     pub wants : Wants Room AtEnd read a seen
 
   pub data Outcome : Type 0 where
@@ -44,7 +44,7 @@ module _ {I A : Type 0} (Room : I → ℕ → Type 0) (AtEnd : Located → Resul
     Failed : Fails → Outcome
     Asked : Wants Room AtEnd read us seen → Outcome
 
-stands_behind : (a before : List Located) (t : Located) (e : ConfigFault) → StandsAt before t e → StandsAt (a ++ before) t e
+stands_behind : (a before : List Located) (t : Located) (e : ConfigFault) → IsLocatedAt before t e → IsLocatedAt (a ++ before) t e
 stands_behind a before t e (Itself offset kind) = Itself offset kind
 stands_behind a before t e (InList front o is w v k) = InList (a ++ front) o (ap (λ (l : List Located). a ++ l) is ∙ sym (append_assoc a front (o ∷ []))) w v k
 stands_behind a before t e (InTuple front o is w v k) = InTuple (a ++ front) o (ap (λ (l : List Located). a ++ l) is ∙ sym (append_assoc a front (o ∷ []))) w v k

@@ -10,7 +10,7 @@ use Rattle.dac_tokens.specs.Words.{Word, Punctuation, Name, Number, Text, End, L
 use Rattle.dac_shapes.specs.Limits.{Seen}
 use Rattle.dac_shapes.specs.Shape.{State, fails, byte_of, is_symbol, token, symbol_at, pair_at, closed}
 use Rattle.dac_shapes.specs.laws.AgainLists.{at}
-use Rattle.dac_first_fault.specs.FirstFault.{StandsAt, Itself, CanBring}
+use Rattle.dac_first_fault.specs.FirstFault.{IsLocatedAt, Itself, CanCause}
 use Rattle.dac_first_fault.proofs.Outcomes.{Took, Failed, Asked, further, Always, Plain, Reader, Gives, IsReader, Wanting, then}
 
 -- ---- a reader that begins with one token
@@ -22,7 +22,7 @@ module _ {A : Type 0} (f : Reader A) (t : Located) (b : List Located) (seen : Se
   pub first_taken : (x : A) (after : Seen) → ((last : Result Located ConfigFault) (rest : List Located) → f (at last (t ∷ rest) seen) ≡ Ok (x, at last rest after)) → Gives f (t ∷ b) seen
   first_taken x after same = Took (record { a = t ∷ []; b = b; x = x; after = after; whole = refl; some = omega arith; goes = λ i last rest room. same last rest })
 
-  pub first_fails : (e : ConfigFault) → ((last : Result Located ConfigFault) (rest : List Located) → f (at last (t ∷ rest) seen) ≡ Err e) → StandsAt [] t e → Wanting f [] seen → Gives f (t ∷ b) seen
+  pub first_fails : (e : ConfigFault) → ((last : Result Located ConfigFault) (rest : List Located) → f (at last (t ∷ rest) seen) ≡ Err e) → IsLocatedAt [] t e → Wanting f [] seen → Gives f (t ∷ b) seen
   first_fails e same stands wants = Failed (record { a = []; l = t; b = b; e = e; whole = refl; goes = λ i last rest room. same last rest; stands = stands; wants = wants })
 
 pub wants_token : {A : Type 0} (next : Located × State → Result (A × State) ConfigFault) → ((t : Located) (s : State) → t.word ≡ End → next (t, s) ≡ fails BadShape t.at) → (seen : Seen) → Wanting (λ s. token s >>= next) [] seen
@@ -31,15 +31,15 @@ wants_token next ends seen = record { more = λ i p room. refl; end = λ i t is 
 -- ---- a token's fault is at its offset
 
 abbrev pub Here : {K : Type 0} → Located → Result K ConfigFault → Type 0
-Here t r = (e : ConfigFault) → r ≡ Err e → StandsAt [] t e
+Here t r = (e : ConfigFault) → r ≡ Err e → IsLocatedAt [] t e
 
 pub here_ok : {K : Type 0} (t : Located) (x : K) → Here t (Ok x)
 here_ok t x e q = absurd cc
 
-pub here_fails : {K : Type 0} (t : Located) (kind : FaultKind) → CanBring kind t.word → Here {K = K} t (fails kind t.at)
+pub here_fails : {K : Type 0} (t : Located) (kind : FaultKind) → CanCause kind t.word → Here {K = K} t (fails kind t.at)
 here_fails t kind can e q =
     let d : record { kind = kind; at = t.at } ≡ e = cc in
-    Itself (sym (ap (λ (f : ConfigFault). f.at) d)) (subst (λ (f : ConfigFault). CanBring f.kind t.word) d can)
+    Itself (sym (ap (λ (f : ConfigFault). f.at) d)) (subst (λ (f : ConfigFault). CanCause f.kind t.word) d can)
 
 pub here_if : {K : Type 0} (t : Located) (c : Bool) (r q : Result K ConfigFault) → (c ≡ true → Here t r) → (c ≡ false → Here t q) → Here t (cond c r q)
 here_if t true r q a b = a refl

@@ -20,25 +20,25 @@ abbrev pub IsShortName : Word → Type 0
 IsShortName word = (name : List ℕ) × (word ≡ Name name) × (length name ≤ MAX_NAME)
 
 -- The faults that a token can cause at its own offset, which excludes those of empty brackets.
-abbrev pub CanBring : FaultKind → Word → Type 0
-CanBring BadShape word = Unit {0}
-CanBring Unsupported word = word ≡ Text
-CanBring NumberTooLarge word = (digits : List ℕ) × (word ≡ Number false digits) × (ms_bound ≤ value_from 0 digits)
-CanBring NameTooLong word = (name : List ℕ) × (word ≡ Name name) × (MAX_NAME < length name)
-CanBring TwiceApp word = IsShortName word
-CanBring TwiceInList word = IsShortName word
-CanBring TooManyApps word = IsShortName word
-CanBring TooManyNodes word = IsShortName word
-CanBring _ word = ⊥
+abbrev pub CanCause : FaultKind → Word → Type 0
+CanCause BadShape word = Unit {0}
+CanCause Unsupported word = word ≡ Text
+CanCause NumberTooLarge word = (digits : List ℕ) × (word ≡ Number false digits) × (ms_bound ≤ value_from 0 digits)
+CanCause NameTooLong word = (name : List ℕ) × (word ≡ Name name) × (MAX_NAME < length name)
+CanCause TwiceApp word = IsShortName word
+CanCause TwiceInList word = IsShortName word
+CanCause TooManyApps word = IsShortName word
+CanCause TooManyNodes word = IsShortName word
+CanCause _ word = ⊥
 
 -- A fault caused by the token t, after the tokens `before`. Its offset is that of t, or, for empty brackets, that of
 -- the bracket before t, which t closes.
-pub data StandsAt (before : List Located) (t : Located) (e : ConfigFault) : Type 0 where
-  Itself : e.at ≡ t.at → CanBring e.kind t.word → StandsAt before t e
+pub data IsLocatedAt (before : List Located) (t : Located) (e : ConfigFault) : Type 0 where
+  Itself : e.at ≡ t.at → CanCause e.kind t.word → IsLocatedAt before t e
   InList : (front : List Located) (o : Located) → before ≡ front ++ o ∷ [] → o.word ≡ Punctuation OpenList
-      → t.word ≡ Punctuation CloseList → e ≡ record { kind = EmptyList; at = o.at } → StandsAt before t e
+      → t.word ≡ Punctuation CloseList → e ≡ record { kind = EmptyList; at = o.at } → IsLocatedAt before t e
   InTuple : (front : List Located) (o : Located) → before ≡ front ++ o ∷ [] → o.word ≡ Punctuation OpenTuple
-      → t.word ≡ Punctuation CloseTuple → e ≡ record { kind = EmptyTuple; at = o.at } → StandsAt before t e
+      → t.word ≡ Punctuation CloseTuple → e ≡ record { kind = EmptyTuple; at = o.at } → IsLocatedAt before t e
 
 abbrev pub words : List Located → List Word
 words ts = map (λ t. t.word) ts
@@ -152,7 +152,7 @@ pub data IsFaultOf (text : List ℕ) (e : ConfigFault) : Type 0 where
   -- begins with them; otherwise no file does.
   Token : (before : List Located) (t : Located) → length text ≤ MAX_TEXT → BeginsWith text (before ++ t ∷ [])
       → IsWell (words before) → ¬ IsWell (words before ++ t.word ∷ [])
-      → Brings t.word (words before ++ t.word ∷ []) e.kind → StandsAt before t e → IsFaultOf text e
+      → Brings t.word (words before ++ t.word ∷ []) e.kind → IsLocatedAt before t e → IsFaultOf text e
   -- the text ends with a valid prefix that isn't a file
   Ends : (ts : List Located) → length text ≤ MAX_TEXT → AreTokensOf text ts → IsWell (words ts)
       → ((sections : List Section) → ¬ IsFile (words ts) sections) → e ≡ record { kind = BadShape; at = length text }

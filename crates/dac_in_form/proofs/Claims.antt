@@ -19,15 +19,15 @@ use Rattle.dac_placement.specs.declared.verdicts.Verdict.TheVariants.{Start, Fai
 use Rattle.dac_placement.specs.Placement.{IsFirst, IsVerdict, candidate_of}
 use Rattle.dac_decide.specs.FailoverWait.{Note, IsHeldAt}
 use Rattle.dac_bytes.specs.declared.version.Version.TheVariants.{Two}
-use Rattle.dac_part_bytes.specs.ChainForm.{IsFromFor}
+use Rattle.dac_part_bytes.specs.ChainForm.{IsConsistentOrigin}
 use Rattle.dac_wire.specs.Form.{IsOperation}
 use Rattle.dac_commands.specs.Commands.{claim_act, next_operation}
 use Rattle.dac_commands.specs.laws.Counters.{next-is}
 use Rattle.dac_commands.specs.laws.Terms.{next_term_only}
-use Rattle.dac_ticks.specs.InWords.{IsMine, IsClaimOf, ComesBy, IsTurn}
+use Rattle.dac_ticks.specs.InWords.{IsMine, IsClaimOf, ComesBy, IsSweep}
 use Rattle.dac_ticks.specs.laws.Claimed.{own_claim, other_claim}
 use Rattle.dac_ticks.specs.laws.Counters.{knows_after}
-use Rattle.dac_ticks.specs.laws.Turning.{AreBelow}
+use Rattle.dac_ticks.specs.laws.Sweeping.{AreBelow}
 use Rattle.dac_model_node.specs.laws.Options.{some_same}
 use Rattle.dac_model_world.specs.laws.Carried.{none_some}
 use Rattle.dac_in_form.specs.InForm.{AreInForm}
@@ -54,12 +54,12 @@ module _ (t : Table) (own : Origin) (s : StateValue) (may : MayClaim t own s) (a
   holder_there holder held = subst (λ (n : NodeId). n.0 < node_count t) held.2 (may.claimers app held.0 held.1)
 
   -- the former holder fits the kind of claim
-  from_is : (verdict : Verdict) (how : How) (from : Option NodeId) → ComesBy s app verdict how from → IsFromFor (node_count t) how from
-  from_is (Start n) how from by = subst (λ h. IsFromFor (node_count t) h from) (sym by.0) by.1
-  from_is (Failover n) how from by = subst (λ h. IsFromFor (node_count t) h from) (sym by.0) (by.1, by.2.1, holder_there by.1 by.2.0)
+  from_is : (verdict : Verdict) (how : How) (from : Option NodeId) → ComesBy s app verdict how from → IsConsistentOrigin (node_count t) how from
+  from_is (Start n) how from by = subst (λ h. IsConsistentOrigin (node_count t) h from) (sym by.0) by.1
+  from_is (Failover n) how from by = subst (λ h. IsConsistentOrigin (node_count t) h from) (sym by.0) (by.1, by.2.1, holder_there by.1 by.2.0)
   from_is (Halted n) how from by = absurd by
-  from_is (Move n) how from by = subst (λ h. IsFromFor (node_count t) h from) (sym by.0) by.1
-  from_is (Takeover n) how from by = subst (λ h. IsFromFor (node_count t) h from) (sym by.0) (by.1, by.2.1, holder_there by.1 by.2.0)
+  from_is (Move n) how from by = subst (λ h. IsConsistentOrigin (node_count t) h from) (sym by.0) by.1
+  from_is (Takeover n) how from by = subst (λ h. IsConsistentOrigin (node_count t) h from) (sym by.0) (by.1, by.2.1, holder_there by.1 by.2.0)
   from_is (Kept n) how from by = absurd by
   from_is Nobody how from by = absurd by
 
@@ -91,15 +91,15 @@ module _ (t : Table) (own : Origin) (s : StateValue) (may : MayClaim t own s) (a
     may_go_on : MayClaim t own (join s (meaning_of (o ∷ [])))
     may_go_on = subst (λ (x : Operation). MayClaim t own (join s (meaning_of (x ∷ [])))) same_claim (may_after claim.how claim.from)
 
--- each claim of a turn is in form
-pub turn_is : (t : Table) (own : Origin) (notes : List Note) (now : ℕ) (apps : List AppId) → AreBelow (app_count t) apps → (s : StateValue) → MayClaim t own s → (ops : List Operation) (passed : List AppId) → IsTurn t own notes now s apps ops passed → AreInForm t ops
-turn_is t own notes now [] below s may ops passed turn = λ o i. absurd (subst (IsOperationOf o) turn.0 i)
-turn_is t own notes now (app ∷ apps) below s may ops passed (inl left) = turn_is t own notes now apps below.1 s may ops passed left.1
-turn_is t own notes now (app ∷ apps) below s may ops passed (inr (inl claimed)) =
+-- each claim of a sweep is in form
+pub sweep_is : (t : Table) (own : Origin) (notes : List Note) (now : ℕ) (apps : List AppId) → AreBelow (app_count t) apps → (s : StateValue) → MayClaim t own s → (ops : List Operation) (passed : List AppId) → IsSweep t own notes now s apps ops passed → AreInForm t ops
+sweep_is t own notes now [] below s may ops passed sweep = λ o i. absurd (subst (IsOperationOf o) sweep.0 i)
+sweep_is t own notes now (app ∷ apps) below s may ops passed (inl left) = sweep_is t own notes now apps below.1 s may ops passed left.1
+sweep_is t own notes now (app ∷ apps) below s may ops passed (inr (inl claimed)) =
     let o = claimed.1 in
     let mine = claimed.3.1.0 in
     let claim = claimed.3.1.1.0 in
     subst (AreInForm t) (sym claimed.3.0)
     (one_more t o claimed.2 (claimed_is t own s may app below.0 notes now claimed.0 o mine claim)
-    (turn_is t own notes now apps below.1 (join s (meaning_of (o ∷ []))) (may_go_on t own s may app below.0 notes now claimed.0 o mine claim) claimed.2 passed claimed.3.1.1.1))
-turn_is t own notes now (app ∷ apps) below s may ops passed (inr (inr gone)) = turn_is t own notes now apps below.1 s may ops gone.1 gone.2.1.1.1
+    (sweep_is t own notes now apps below.1 (join s (meaning_of (o ∷ []))) (may_go_on t own s may app below.0 notes now claimed.0 o mine claim) claimed.2 passed claimed.3.1.1.1))
+sweep_is t own notes now (app ∷ apps) below s may ops passed (inr (inr gone)) = sweep_is t own notes now apps below.1 s may ops gone.1 gone.2.1.1.1

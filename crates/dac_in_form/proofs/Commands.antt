@@ -32,7 +32,7 @@ use Rattle.dac_placement.specs.Placement.{RunsAt, runner_of}
 use Rattle.dac_placement.specs.laws.Tests.{runner_is}
 use Rattle.dac_bytes.specs.Ranges.{IsIncarnation, IsOrigin, IsDot}
 use Rattle.dac_bytes.specs.declared.version.Version.TheVariants.{Two}
-use Rattle.dac_part_bytes.specs.ChainForm.{IsFromFor}
+use Rattle.dac_part_bytes.specs.ChainForm.{IsConsistentOrigin}
 use Rattle.dac_part_bytes.specs.KeyedForm.{IsKey}
 use Rattle.dac_part_bytes.specs.Reading.{is_listed}
 use Rattle.dac_wire.specs.Codes.{IsKindIn, kind_of_act}
@@ -110,7 +110,7 @@ module _ (t : Table) (own : Origin) (s : StateValue) (may : MayIssue t own s) wh
       by_claim None is e = none_some e
       by_claim (Some c) is e = subst (λ (q : Origin). q.node.0 < node_count t) (some_same c.origin (record { node = n; inc = runs.inc }) e) (may.claim.claimers app c is)
 
-  taken_from : (app : AppId) (o : Option NodeId) → runner_of t s app ≡ o → not (is_some o) ≡ false → IsFromFor (node_count t) TakenOver o
+  taken_from : (app : AppId) (o : Option NodeId) → runner_of t s app ≡ o → not (is_some o) ≡ false → IsConsistentOrigin (node_count t) TakenOver o
   taken_from app None is e = absurd (true≢false e)
   taken_from app (Some n) is e = (n, refl, runner_there app n ((runner_is t s app n).0 is))
 

@@ -24,10 +24,10 @@ use Rattle.dac_meaning.specs.Meaning.{IsOperationOf, DotsDetermine, meaning_of}
 use Rattle.dac_config.specs.Table.{Table, node_count, app_count}
 use Rattle.dac_bytes.specs.Ranges.{IsIncarnation, IsOrigin, IsDot, InRange}
 use Rattle.dac_bytes.specs.declared.version.Version.TheVariants.{Two}
-use Rattle.dac_part_bytes.specs.ChainForm.{IsFromFor}
+use Rattle.dac_part_bytes.specs.ChainForm.{IsConsistentOrigin}
 use Rattle.dac_part_bytes.specs.Reading.{is_listed}
 use Rattle.dac_wire.specs.Form.{IsOperation}
-use Rattle.dac_commands.specs.Commands.{KnowsItself}
+use Rattle.dac_commands.specs.Commands.{KnowsOwnBoot}
 use Rattle.dac_commands.specs.Written.{IsNextTerm}
 use Rattle.dac_commands.specs.laws.Terms.{next_term_only}
 use Rattle.dac_model_node.specs.Step.{up}
@@ -36,7 +36,7 @@ use Rattle.dac_in_form.specs.InForm.{AreInForm}
 -- The incarnation is in form and knows its own boot, and nodes of the configuration made all claims.
 pub record MayClaim (t : Table) (own : Origin) (s : StateValue) : Type 0 where
   pub origin : IsOrigin Two (node_count t) own
-  pub knows : KnowsItself own s
+  pub knows : KnowsOwnBoot own s
   pub claimers : (app : AppId) (c : ClaimValue) → map.get s.claims app ≡ Some c → c.origin.node.0 < node_count t
 
 -- The incarnation can claim, and the dots and lives of the state are in form.
@@ -89,7 +89,7 @@ module _ (t : Table) (own : Origin) (s : StateValue) (may : MayClaim t own s) (d
       after g n e = omega arith
 
   -- a claim under the next term by a node of the application's list
-  pub claim_is : (app : AppId) (term : ℕ) (how : How) (from : Option NodeId) → IsNextTerm s app term → term ≤ MAX_COUNTER → app.0 < app_count t → is_listed t app own.node ≡ true → IsFromFor (node_count t) how from
+  pub claim_is : (app : AppId) (term : ℕ) (how : How) (from : Option NodeId) → IsNextTerm s app term → term ≤ MAX_COUNTER → app.0 < app_count t → is_listed t app own.node ≡ true → IsConsistentOrigin (node_count t) how from
       → IsOperation Two t (operation d (Claim app term how from))
   claim_is app term how from is most there listed came = record {
     dot = next_is_dot;

@@ -33,7 +33,7 @@ use Rattle.dac_chains.specs.Lives.{life_cmp}
 use Rattle.dac_chains.specs.Claims.{claim_cmp}
 use Rattle.dac_wishes.specs.laws.KeyedWrites.{tied_is}
 use Rattle.dac_wishes.specs.Writes.{Write}
-use Rattle.dac_wishes.specs.PermissionsValue.{says_true}
+use Rattle.dac_wishes.specs.PermissionsValue.{is_permitting}
 use Rattle.dac_wishes.specs.DrainsValue.{DrainWrite, says_drained}
 use Rattle.dac_operations.specs.declared.act.Act.{Act}
 use Rattle.dac_operations.specs.declared.act.Act.TheVariants.{Up, Down, Permit, Start, Stop, Drain, Claim}
@@ -185,7 +185,7 @@ module _ (t : Table) (os : List Operation) (agree : DotsDetermine os) (form : Ar
     permit_in_form w h =
         let f = stands (map.get s.permits w) h in
         let p = ((permits os agree w f.0).0 f.1).0 in
-        record { key = (act_in_form p.0 (Permit w.key (says_true f.0) p.1.1.1.0) p.1.0 p.1.1.1.1).0; dot = known_dot p.0 w.dot p.1.0 p.1.1.0 ((states os).permits w h) }
+        record { key = (act_in_form p.0 (Permit w.key (is_permitting f.0) p.1.1.1.0) p.1.0 p.1.1.1.1).0; dot = known_dot p.0 w.dot p.1.0 p.1.1.0 ((states os).permits w h) }
 
     start_in_form : (w : Write) → set.contains s.starts w ≡ true → IsKnownWrite (IsKey Two t) Two t s.known w
     start_in_form w h =

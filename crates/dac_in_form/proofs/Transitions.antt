@@ -14,9 +14,9 @@ use Rattle.dac_messages.specs.declared.event.Event.{Event}
 use Rattle.dac_messages.specs.declared.event.Event.TheVariants.{Boot, Crash, Command as Commanded, Tick, Ship, Hear, HearOp}
 use Rattle.dac_commands.specs.Causes.{no_node}
 use Rattle.dac_commands.specs.laws.Written.{none_is}
-use Rattle.dac_ticks.specs.Ticks.{turn_of}
-use Rattle.dac_ticks.specs.laws.Turning.{apps_below}
-use Rattle.dac_ticks.specs.laws.Words.{turn_in_words}
+use Rattle.dac_ticks.specs.Ticks.{sweep_of}
+use Rattle.dac_ticks.specs.laws.Sweeping.{apps_below}
+use Rattle.dac_ticks.specs.laws.Words.{sweep_in_words}
 use Rattle.dac_peers.specs.Peers.{is_up_to_date}
 use Rattle.dac_model_node.specs.Effect.{issued_by}
 use Rattle.dac_model_node.specs.ModelNode.{ModelRunning, joined, running_shown}
@@ -30,7 +30,7 @@ use Rattle.dac_model_world.specs.ModelWorld.{shipped_by}
 use Rattle.dac_in_form.specs.InForm.{AreInForm}
 use Rattle.dac_in_form.proofs.MayIssue.{MayIssue}
 use Rattle.dac_in_form.proofs.Commands.{command_is}
-use Rattle.dac_in_form.proofs.Claims.{one_more, turn_is}
+use Rattle.dac_in_form.proofs.Claims.{one_more, sweep_is}
 use Rattle.dac_in_form.proofs.Heads.{IsHead, AreGot, got_by_is, head_is}
 
 -- the operations, message and peer table of a transition are in form
@@ -47,10 +47,10 @@ module _ (t : Table) (r : ModelRunning) (may : MayIssue t r.origin (joined r.log
   tick_is now notes none Shut = record { issued = none_issued t; shipped = tt; got = got }
   tick_is now notes none GiveUp = record { issued = none_issued t; shipped = tt; got = got }
   tick_is now notes none Opened =
-      let turn = turn_of t r.origin (waits_of t notes) now (joined r.log) in
+      let sweep = sweep_of t r.origin (waits_of t notes) now (joined r.log) in
       let below = apps_below 0 (app_count t) (app_count t) (omega arith) in
       record {
-        issued = turn_is t r.origin notes now (apps_of t) below (joined r.log) may.claim turn.ops turn.passed (turn_in_words t r.origin notes now (joined r.log) (leaves_room t (running_shown t r) now none));
+        issued = sweep_is t r.origin notes now (apps_of t) below (joined r.log) may.claim sweep.ops sweep.passed (sweep_in_words t r.origin notes now (joined r.log) (leaves_room t (running_shown t r) now none));
         shipped = tt;
         got = got;
       }

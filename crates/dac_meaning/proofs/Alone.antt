@@ -43,7 +43,7 @@ use Rattle.dac_operations.specs.declared.act.Act.TheVariants.{Up, Down, Permit, 
 use Rattle.dac_operations.specs.Operations.{Operation, over_list, replaces_itself}
 use Rattle.dac_operations.specs.Seen.{wish_in, permit_in, drain_in, without, seen_by, seen_wish}
 use Rattle.dac_meaning.specs.StateValue.{permissions_of, wishes_of, drains_of}
-use Rattle.dac_meaning.specs.Meaning.{meaning_of, has_dot, replaces, names, wishes, is_start, is_same, flag_said, vote_says, vote_at, permit_vote, drain_vote, life_said, claim_said}
+use Rattle.dac_meaning.specs.Meaning.{meaning_of, has_dot, replaces, names, wishes, is_start, is_same, flag_written, vote_says, vote_at, permit_vote, drain_vote, life_said, claim_said}
 use Rattle.dac_meaning.specs.laws.Chained.{greatest-one}
 use Rattle.dac_meaning.specs.laws.Readers.{or-false, heard-meaning, known-meaning, starts-meaning, permits-meaning, lives-meaning, claims-meaning, drains-meaning}
 use Rattle.dac_meaning.specs.DeltaLaws.{OneIsHeard, PermitDeltaIsMeaning, DrainDeltaIsMeaning, WishDeltaIsMeaning, LifeDeltaIsMeaning, ClaimDeltaIsMeaning}
@@ -153,17 +153,17 @@ wish_delta_is_meaning o = same_wishes (wish.wish_delta o.dot (seen_wish o.dot o.
 
 -- b: the act replaces its own dot; n, y: it writes the value for Down, for Up, at the key; e: it has the dot; r: it
 -- replaces the dot
-vote_alone : (b n y e r : Bool) → (e ≡ true → r ≡ b) → cond e (cond b None (flag_said n y)) None ≡ cond (r || false) None (flag_said ((n && e) || false) ((y && e) || false))
-vote_alone b n y true r h = (λ i. cond (sym (h refl) i) None (flag_said n y)) ∙ sides n y r
+vote_alone : (b n y e r : Bool) → (e ≡ true → r ≡ b) → cond e (cond b None (flag_written n y)) None ≡ cond (r || false) None (flag_written ((n && e) || false) ((y && e) || false))
+vote_alone b n y true r h = (λ i. cond (sym (h refl) i) None (flag_written n y)) ∙ sides n y r
   where
-    sides : (n y r : Bool) → cond r None (flag_said n y) ≡ cond (r || false) None (flag_said ((n && true) || false) ((y && true) || false))
+    sides : (n y r : Bool) → cond r None (flag_written n y) ≡ cond (r || false) None (flag_written ((n && true) || false) ((y && true) || false))
     sides n y true = refl
     sides true y false = refl
     sides false true false = refl
     sides false false false = refl
 vote_alone b n y false r h = nothing n y r
   where
-    nothing : (n y r : Bool) → ◌≡◌ {A = Option Flag} None (cond (r || false) None (flag_said ((n && false) || false) ((y && false) || false)))
+    nothing : (n y r : Bool) → ◌≡◌ {A = Option Flag} None (cond (r || false) None (flag_written ((n && false) || false) ((y && false) || false)))
     nothing n y true = refl
     nothing true true false = refl
     nothing true false false = refl
@@ -171,7 +171,7 @@ vote_alone b n y false r h = nothing n y r
     nothing false false false = refl
 
 -- the flag at a key, from a vote's value
-one_said : (down : Bool) (flag : Bool → Flag) → flag down ≡ IsDown → flag (not down) ≡ IsUp → (k v : Bool) → cond k (Some (flag v)) None ≡ flag_said (k && is_same v down) (k && is_same v (not down))
+one_said : (down : Bool) (flag : Bool → Flag) → flag down ≡ IsDown → flag (not down) ≡ IsUp → (k v : Bool) → cond k (Some (flag v)) None ≡ flag_written (k && is_same v down) (k && is_same v (not down))
 one_said true flag p q true true = ap (λ f. Some f) p
 one_said true flag p q true false = ap (λ f. Some f) q
 one_said false flag p q true true = ap (λ f. Some f) q
@@ -188,12 +188,12 @@ module _ {K : Type 0} {R : K → K → Ordering} (total : IsTotalOrder R) (exact
     {A : Type 0} (over_of : A → List Dot) (votes : A → Option (K × Flag)) (nothing : List Dot → A) (sees : Act → A)
     (of_nothing : (ds : List Dot) → over_of (nothing ds) ≡ ds) (of_seen : (a : Act) → over_of (sees a) ≡ over_list a)
     (no_vote : (ds : List Dot) → votes (nothing ds) ≡ None) (same_vote : (a : Act) → votes (sees a) ≡ as_flag flag (vote a)) where
-  one_told : (key : K) (u : Option (K × Bool)) → says_of R key (as_flag flag u) ≡ flag_said (vote_says R key down u) (vote_says R key (not down) u)
+  one_told : (key : K) (u : Option (K × Bool)) → says_of R key (as_flag flag u) ≡ flag_written (vote_says R key down u) (vote_says R key (not down) u)
   one_told key None = refl
   one_told key (Some u) = one_said down flag is_down is_up (eq_by_cmp R key u.0) u.1
 
-  seen_says : (o : Operation) (key : K) → says_of R key (votes (seen_by nothing sees o.dot o.act)) ≡ cond (replaces_itself o.dot o.act) None (flag_said (vote_says R key down (vote o.act)) (vote_says R key (not down) (vote o.act)))
-  seen_says o key = elim (replaces_itself o.dot o.act) as (λ b. says_of R key (votes (cond b (nothing (without o.dot (over_list o.act))) (sees o.act))) ≡ cond b None (flag_said (vote_says R key down (vote o.act)) (vote_says R key (not down) (vote o.act)))) [
+  seen_says : (o : Operation) (key : K) → says_of R key (votes (seen_by nothing sees o.dot o.act)) ≡ cond (replaces_itself o.dot o.act) None (flag_written (vote_says R key down (vote o.act)) (vote_says R key (not down) (vote o.act)))
+  seen_says o key = elim (replaces_itself o.dot o.act) as (λ b. says_of R key (votes (cond b (nothing (without o.dot (over_list o.act))) (sees o.act))) ≡ cond b None (flag_written (vote_says R key down (vote o.act)) (vote_says R key (not down) (vote o.act)))) [
     | true ↦ ap (says_of R key) (no_vote (without o.dot (over_list o.act)))
     | false ↦ ap (says_of R key) (same_vote o.act) ∙ one_told key (vote o.act)
   ]

@@ -5,8 +5,8 @@ use Rattle.std.specs.FinMap as map
 use Rattle.dac_origins.specs.declared.dot.Dot.{Dot}
 use Rattle.dac_lattice.specs.Pieces.{joined}
 use Rattle.dac_chains.specs.Greatest.{alone, greater}
-use Rattle.dac_chains.specs.Lives.{life_cmp, said_life}
-use Rattle.dac_chains.specs.Claims.{claim_cmp, said_claim}
+use Rattle.dac_chains.specs.Lives.{life_cmp, life_report}
+use Rattle.dac_chains.specs.Claims.{claim_cmp, claim_report}
 use Rattle.dac_wishes.specs.WishesValue.{join_wishes, no_wishes}
 use Rattle.dac_wishes.specs.WishMeaning.{wish_delta}
 use Rattle.dac_wishes.specs.PermissionsValue.{join_permissions, no_permissions}
@@ -69,7 +69,7 @@ pub drains_are_joined : DrainsAreJoined
 drains_are_joined = are_joined join_drains no_drains drain_delta drains_of seen_drain refl drains-join drain_delta_is_meaning
 
 pub lives_are_joined : LivesAreJoined
-lives_are_joined = are_joined (greater life_cmp) map.empty (λ d a. alone (said_life d a)) (λ s. s.lives) (λ _ a. seen_life a) refl lives-join life_delta_is_meaning
+lives_are_joined = are_joined (greater life_cmp) map.empty (λ d a. alone (life_report d a)) (λ s. s.lives) (λ _ a. seen_life a) refl lives-join life_delta_is_meaning
 
 pub claims_are_joined : ClaimsAreJoined
-claims_are_joined = are_joined (greater claim_cmp) map.empty (λ d a. alone (said_claim d a)) (λ s. s.claims) (λ _ a. seen_claim a) refl claims-join claim_delta_is_meaning
+claims_are_joined = are_joined (greater claim_cmp) map.empty (λ d a. alone (claim_report d a)) (λ s. s.claims) (λ _ a. seen_claim a) refl claims-join claim_delta_is_meaning

@@ -2,8 +2,8 @@
 use Rattle.std.specs.Prelude.{◌≡◌, [], ◌∷◌}
 use Rattle.std.specs.FinSet as set
 use Rattle.dac_chains.specs.Greatest.{alone}
-use Rattle.dac_chains.specs.Lives.{said_life}
-use Rattle.dac_chains.specs.Claims.{said_claim}
+use Rattle.dac_chains.specs.Lives.{life_report}
+use Rattle.dac_chains.specs.Claims.{claim_report}
 use Rattle.dac_wishes.specs.WishMeaning.{wish_delta}
 use Rattle.dac_wishes.specs.PermitMeaning.{permit_delta}
 use Rattle.dac_wishes.specs.DrainMeaning.{drain_delta}
@@ -27,7 +27,7 @@ abbrev pub DrainDeltaIsMeaning : Type 0
 DrainDeltaIsMeaning = (o : Operation) → drain_delta o.dot (seen_drain o.dot o.act) ≡ drains_of (meaning_of (o ∷ []))
 
 abbrev pub LifeDeltaIsMeaning : Type 0
-LifeDeltaIsMeaning = (o : Operation) → alone (said_life o.dot (seen_life o.act)) ≡ (meaning_of (o ∷ [])).lives
+LifeDeltaIsMeaning = (o : Operation) → alone (life_report o.dot (seen_life o.act)) ≡ (meaning_of (o ∷ [])).lives
 
 abbrev pub ClaimDeltaIsMeaning : Type 0
-ClaimDeltaIsMeaning = (o : Operation) → alone (said_claim o.dot (seen_claim o.act)) ≡ (meaning_of (o ∷ [])).claims
+ClaimDeltaIsMeaning = (o : Operation) → alone (claim_report o.dot (seen_claim o.act)) ≡ (meaning_of (o ∷ [])).claims

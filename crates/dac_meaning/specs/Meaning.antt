@@ -17,8 +17,8 @@ use Rattle.dac_lattice.specs.Pieces.{joined}
 use Rattle.dac_chains.specs.declared.lives.Life.{Life}
 use Rattle.dac_chains.specs.declared.claims.Claim.{Claim as ClaimValue}
 use Rattle.dac_chains.specs.Greatest.{alone, greater}
-use Rattle.dac_chains.specs.Lives.{Lives, life_cmp, said_life}
-use Rattle.dac_chains.specs.Claims.{Claims, claim_cmp, said_claim}
+use Rattle.dac_chains.specs.Lives.{Lives, life_cmp, life_report}
+use Rattle.dac_chains.specs.Claims.{Claims, claim_cmp, claim_report}
 use Rattle.dac_wishes.specs.declared.key.Key.{Key}
 use Rattle.dac_wishes.specs.Keys.{key_cmp, same_key}
 use Rattle.dac_wishes.specs.KeyedWrites.{KeyedWrite, keyed_write, keyed_write_cmp}
@@ -91,10 +91,10 @@ is_same false v = not v
 
 -- The flag written: Down if the value for Down is written, otherwise Up if the other value is. Operations with distinct
 -- dots don't write both.
-abbrev pub flag_said : Bool → Bool → Option Flag
-flag_said true b = Some Down
-flag_said false true = Some Up
-flag_said false false = None
+abbrev pub flag_written : Bool → Bool → Option Flag
+flag_written true b = Some Down
+flag_written false true = Some Up
+flag_written false false = None
 
 -- the act's vote, if any, writes this value at this key
 abbrev pub vote_says : {K : Type 0} → (K → K → Ordering) → K → Bool → Option (K × Bool) → Bool
@@ -119,12 +119,12 @@ module _ {K : Type 0} (R : K → K → Ordering) (vote : Act → Option (K × Bo
 
   module _ (down : Bool) where
     -- the flag of this vote, from the operations that write it
-    abbrev pub vote_said : KeyedWrite K → List Operation → Option Flag
-    vote_said w os = flag_said (list_any (is_vote w down) os) (list_any (is_vote w (not down)) os)
+    abbrev pub vote_flag : KeyedWrite K → List Operation → Option Flag
+    vote_flag w os = flag_written (list_any (is_vote w down) os) (list_any (is_vote w (not down)) os)
 
     -- the flag of this vote, if it stands
     abbrev pub vote_at : List Operation → KeyedWrite K → Option Flag
-    vote_at os w = if is_replaced w.dot os then None else vote_said w os
+    vote_at os w = if is_replaced w.dot os then None else vote_flag w os
 
     -- The standing votes: a vote stands with a value exactly if an operation writes it with this value and none
     -- replaces it.
@@ -180,11 +180,11 @@ greatest_of cmp tells os = joined (greater cmp) map.empty (λ d a. alone (tells 
 
 -- the node and life that an act reports, if any
 abbrev pub life_said : Dot → Act → Option (NodeId × Life)
-life_said d a = said_life d (seen_life a)
+life_said d a = life_report d (seen_life a)
 
 -- the application that an act claims, if any, with the claim
 abbrev pub claim_said : Dot → Act → Option (AppId × ClaimValue)
-claim_said d a = said_claim d (seen_claim a)
+claim_said d a = claim_report d (seen_claim a)
 
 -- The life of each node: the greatest reported, by an Up that it is up, by a Down that it is down.
 abbrev pub lives_of : List Operation → Lives

@@ -16,7 +16,7 @@ use Rattle.dac_wishes.specs.declared.key.Key.{Key}
 use Rattle.dac_wishes.specs.KeyedWrites.{KeyedWrite}
 use Rattle.dac_wishes.specs.Writes.{Write}
 use Rattle.dac_wishes.specs.WishesValue.{SomeStands}
-use Rattle.dac_wishes.specs.PermissionsValue.{says_true, IsPermitted}
+use Rattle.dac_wishes.specs.PermissionsValue.{is_permitting, IsPermitted}
 use Rattle.dac_wishes.specs.DrainsValue.{DrainWrite, origin, says_drained, IsDrained}
 use Rattle.dac_operations.specs.declared.act.Act.{Act}
 use Rattle.dac_operations.specs.declared.act.Act.TheVariants.{Up, Down, Permit, Start, Drain, Claim}
@@ -61,7 +61,7 @@ Permits key value o = (over : List Dot) × (o.act ≡ Permit key value over)
 
 -- the operation writes the permit, with this value
 abbrev pub IsPermit : Write → Flag → Operation → Type 0
-IsPermit w f o = (o.dot ≡ w.dot) × Permits w.key (says_true f) o
+IsPermit w f o = (o.dot ≡ w.dot) × Permits w.key (is_permitting f) o
 
 -- a permit stands with a value exactly if an operation writes it with this value and none replaces it, provided that no
 -- two different operations have the same dot
@@ -133,13 +133,13 @@ WishedHaveStarts = (os : List Operation) (key : Key)
     → SomeStands key (wishes_of (meaning_of os)) ↔ ((o : Operation) × (IsOperationOf o os × (Starts key o × Stands o.dot os)))
 
 -- an operation that none replaces permits the key, or forbids it
-abbrev pub StandsSaying : Key → Bool → List Operation → Type 0
-StandsSaying key value os = (o : Operation) × (IsOperationOf o os × (Permits key value o × Stands o.dot os))
+abbrev pub StandingPermit : Key → Bool → List Operation → Type 0
+StandingPermit key value os = (o : Operation) × (IsOperationOf o os × (Permits key value o × Stands o.dot os))
 
 -- no permit of the key stands and the default is true, or one that is true stands and none that is false
 abbrev pub IsPermittedBy : Key → Bool → List Operation → Type 0
-IsPermittedBy key default os = (((value : Bool) → ¬ (StandsSaying key value os)) × (default ≡ true))
-    ⊎ (StandsSaying key true os × ¬ (StandsSaying key false os))
+IsPermittedBy key default os = (((value : Bool) → ¬ (StandingPermit key value os)) × (default ≡ true))
+    ⊎ (StandingPermit key true os × ¬ (StandingPermit key false os))
 
 -- a key is permitted in a meaning exactly if the operations permit it, provided that no two different ones have the
 -- same dot

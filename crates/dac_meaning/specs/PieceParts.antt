@@ -5,8 +5,8 @@ use Rattle.std.specs.FinMap as map
 use Rattle.dac_origins.specs.declared.dot.Dot.{Dot}
 use Rattle.dac_lattice.specs.Pieces.{joined}
 use Rattle.dac_chains.specs.Greatest.{alone, greater}
-use Rattle.dac_chains.specs.Lives.{life_cmp, said_life}
-use Rattle.dac_chains.specs.Claims.{claim_cmp, said_claim}
+use Rattle.dac_chains.specs.Lives.{life_cmp, life_report}
+use Rattle.dac_chains.specs.Claims.{claim_cmp, claim_report}
 use Rattle.dac_wishes.specs.WishesValue.{join_wishes, no_wishes}
 use Rattle.dac_wishes.specs.WishMeaning.{wish_delta}
 use Rattle.dac_wishes.specs.PermissionsValue.{join_permissions, no_permissions}
@@ -37,10 +37,10 @@ DrainsAreJoined = (os : List Operation) → DotsDetermine os
 
 abbrev pub LivesAreJoined : Type 0
 LivesAreJoined = (os : List Operation) → DotsDetermine os
-    → joined (greater life_cmp) map.empty (λ d a. alone (said_life d a)) (as_seen (λ _ a. seen_life a) os)
+    → joined (greater life_cmp) map.empty (λ d a. alone (life_report d a)) (as_seen (λ _ a. seen_life a) os)
     ≡ (meaning_of os).lives
 
 abbrev pub ClaimsAreJoined : Type 0
 ClaimsAreJoined = (os : List Operation) → DotsDetermine os
-    → joined (greater claim_cmp) map.empty (λ d a. alone (said_claim d a)) (as_seen (λ _ a. seen_claim a) os)
+    → joined (greater claim_cmp) map.empty (λ d a. alone (claim_report d a)) (as_seen (λ _ a. seen_claim a) os)
     ≡ (meaning_of os).claims

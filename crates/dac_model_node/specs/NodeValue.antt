@@ -9,7 +9,7 @@ use Rattle.dac_deltas.specs.KeptDeltas.{KeptDeltas}
 use Rattle.dac_peers.specs.Peers.{PeersValue, coded_peers}
 use Rattle.dac_decide.specs.declared.waits.Noted.{Noted}
 use Rattle.dac_decide.specs.FailoverWait.{coded_noted}
-use Rattle.dac_commands.specs.Commands.{KnowsItself}
+use Rattle.dac_commands.specs.Commands.{KnowsOwnBoot}
 use Rattle.dac_decide.specs.declared.moments.Moments.{Moments}
 
 -- A running node: its incarnation, the moments of its boot and last tick, and whether its start gate is open; its
@@ -25,7 +25,7 @@ pub record RunningValue : Type 0 where
 
 -- the node knows its own boot, and its last tick isn't before it
 pub record IsSound (own : Origin) (moments : Moments) (s : StateValue) : Type 0 where
-  pub knows : KnowsItself own s
+  pub knows : KnowsOwnBoot own s
   pub order : moments.booted ≤ moments.last
 
 -- the number of the last incarnation, and its running part

@@ -195,8 +195,8 @@ IsAnsweredBy t v e why = IsRefused t v e why ⊎ ((why ≡ NoMemory) × IsFree t
 -- ---- the laws of the table of causes
 
 -- a refused event is refused for the least cause that holds
-abbrev pub AnswersTheLeast : Type 0
-AnswersTheLeast =
+abbrev pub RefusesForTheLeast : Type 0
+RefusesForTheLeast =
     (t : Table) (v : NodeValue) (e : Event) (why : Refusal) → refusal_of t v e ≡ Some why → IsRefused t v e why
 
 -- if an event is accepted, no cause to refuse it holds
@@ -204,5 +204,5 @@ abbrev pub RefusesNoOther : Type 0
 RefusesNoOther = (t : Table) (v : NodeValue) (e : Event) → refusal_of t v e ≡ None → IsFree t v e
 
 -- the table never refuses because of memory
-abbrev pub NeverWantsMemory : Type 0
-NeverWantsMemory = (t : Table) (v : NodeValue) (e : Event) → ¬ (refusal_of t v e ≡ Some NoMemory)
+abbrev pub NeverRefusesForMemory : Type 0
+NeverRefusesForMemory = (t : Table) (v : NodeValue) (e : Event) → ¬ (refusal_of t v e ≡ Some NoMemory)

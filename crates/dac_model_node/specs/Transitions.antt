@@ -15,7 +15,7 @@ use Rattle.dac_decide.specs.declared.start_gate.Opening.TheVariants.{Shut, Opene
 use Rattle.dac_decide.specs.declared.waits.Noted.{Noted}
 use Rattle.dac_decide.specs.FailoverWait.{Note}
 use Rattle.dac_decide.specs.StartGate.{opening_of}
-use Rattle.dac_ticks.specs.Ticks.{Turn, turn_of}
+use Rattle.dac_ticks.specs.Ticks.{Sweep, sweep_of}
 use Rattle.dac_messages.specs.declared.message.Body.{Body}
 use Rattle.dac_messages.specs.declared.message.Body.TheVariants.{Whole, Interval, Nothing}
 use Rattle.dac_messages.specs.declared.message.Message.{Message}
@@ -102,9 +102,9 @@ abbrev pub meanings : List Operation → List StateValue
 meanings os = map (λ (o : Operation). meaning_of (o ∷ [])) os
 
 -- the node makes a pass over its applications
-abbrev pub looks_after : RunningValue → ℕ → Turn → Transition
-looks_after r now turn =
-    record (keeps r (Ticked turn.ops turn.passed) (meanings turn.ops)) { last = now; is_open = true; notes = true }
+abbrev pub looks_after : RunningValue → ℕ → Sweep → Transition
+looks_after r now sweep =
+    record (keeps r (Ticked sweep.ops sweep.passed) (meanings sweep.ops)) { last = now; is_open = true; notes = true }
 
 -- the node still waits at its start gate
 abbrev pub holds_back : RunningValue → ℕ → Transition
@@ -114,7 +114,7 @@ holds_back r now = record (keeps r Held []) { last = now; is_open = false }
 abbrev pub ticks_by : Opening → Table → RunningValue → List (Option Noted) → ℕ → Transition
 ticks_by Shut t r noted now = holds_back r now
 ticks_by GiveUp t r noted now = goes_down r GaveUp
-ticks_by Opened t r noted now = looks_after r now (turn_of t r.origin noted now r.state)
+ticks_by Opened t r noted now = looks_after r now (sweep_of t r.origin noted now r.state)
 
 -- the state of the start gate, which stays open after it opens
 abbrev pub opening_at : Table → RunningValue → ℕ → Opening

@@ -11,7 +11,7 @@ use Rattle.dac_decide.specs.declared.start_gate.Opening.{Opening}
 use Rattle.dac_decide.specs.declared.start_gate.Opening.TheVariants.{Shut, Opened, GiveUp}
 use Rattle.dac_decide.specs.StartGate.{IsOpening}
 use Rattle.dac_decide.specs.FailoverWait.{Note, waits_of}
-use Rattle.dac_ticks.specs.InWords.{IsTurn}
+use Rattle.dac_ticks.specs.InWords.{IsSweep}
 use Rattle.dac_messages.specs.Bodies.{content_of}
 use Rattle.dac_messages.specs.declared.message.Message.{Message}
 use Rattle.dac_messages.specs.declared.event.Event.{Event}
@@ -32,7 +32,7 @@ IsAsked t r now opening = (r.is_open ≡ false) × IsOpening t r.state (now - r.
 abbrev pub TicksSo : Table → RunningValue → ℕ → Reply → Type 0
 TicksSo t r now (Ticked ops passed) =
     ((r.is_open ≡ true) ⊎ IsAsked t r now Opened)
-    × ((notes : List Note) → r.waits ≡ waits_of t notes → IsTurn t r.origin (record { state = r.state; moment = now } ∷ notes) now r.state (apps_of t) ops passed)
+    × ((notes : List Note) → r.waits ≡ waits_of t notes → IsSweep t r.origin (record { state = r.state; moment = now } ∷ notes) now r.state (apps_of t) ops passed)
 TicksSo t r now Held = IsAsked t r now Shut
 TicksSo t r now GaveUp = IsAsked t r now GiveUp
 TicksSo t r now _ = ⊥

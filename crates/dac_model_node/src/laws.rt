@@ -1,5 +1,5 @@
 //! The laws of refusals, ticks, ships and dropped deltas, each as a clause of a function that does nothing.
-ghost use Rattle.dac_model_node.specs.Refused.{AnswersTheLeast, RefusesNoOther, NeverWantsMemory};
+ghost use Rattle.dac_model_node.specs.Refused.{RefusesForTheLeast, RefusesNoOther, NeverRefusesForMemory};
 ghost use Rattle.dac_model_node.specs.Again.{SecondTickClaimsNothing};
 ghost use Rattle.dac_model_node.specs.Shipping.{ShipsInWords};
 ghost use Rattle.dac_model_node.specs.Dropping.{DropsInWords};
@@ -10,9 +10,9 @@ ghost use Rattle.dac_model_node.specs.HeldBack.{HeldTicksCount, HeldTicksNoteNot
 /// The table of causes refuses an event for the cause with the least number, of those that the event can have and that
 /// hold in words. It accepts an event only if none of them holds, and never refuses because of memory.
 pub fn refusals_in_words()
-    ensures least { AnswersTheLeast }
+    ensures least { RefusesForTheLeast }
     ensures free { RefusesNoOther }
-    ensures memory { NeverWantsMemory }
+    ensures memory { NeverRefusesForMemory }
 {}
 
 /// After a node's pass over its applications, a second tick at the same moment claims nothing.

@@ -182,7 +182,7 @@ impl Change {
         match event {
             Event::Boot { now: _ } => unreachable!(),
             Event::Crash => Ok(Change::crash(last)),
-            Event::Command(command) => Change::obey(config, last, running, *command),
+            Event::Command(command) => Change::command_effect(config, last, running, *command),
             Event::Tick { now } => tick(config, last, running, *now),
             Event::Ship { to } => Change::ship(last, running, *to),
             Event::Hear(message) => {
@@ -197,7 +197,7 @@ impl Change {
     }
 
     /// The effect of an accepted command at a running controller.
-    fn obey(
+    fn command_effect(
         config: &Config,
         last: u64,
         running: &Running,

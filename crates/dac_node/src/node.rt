@@ -301,7 +301,7 @@ impl Node {
             self.last = *last;
             return Ok(());
         };
-        self.come_to(outcome)?;
+        self.replace_running(outcome)?;
         self.last = *last;
         Ok(())
     }
@@ -343,7 +343,7 @@ impl Node {
     }
 
     /// Replaces the running value by the outcome's. The reply stays in the outcome.
-    fn come_to(&mut self, outcome: &mut Outcome) -> Result<(), NoMemory>
+    fn replace_running(&mut self, outcome: &mut Outcome) -> Result<(), NoMemory>
         requires numbers { FitsIn self.old.running outcome.old.after }
         requires ships { ShipsOwnIn self.old.running outcome.old.reply }
         ensures new { OnOk result (self.new ≡ record {

@@ -7,8 +7,8 @@ ghost use Rattle.dac_meaning.specs.StateValue.{join};
 ghost use Rattle.dac_messages.specs.declared.event.Event.TheVariants.{Tick};
 ghost use Rattle.dac_decide.specs.FailoverWait.{Note, waits_of};
 ghost use Rattle.dac_model_node.specs.dac_ticks.Boards.{Shows};
-ghost use Rattle.dac_model_node.specs.dac_ticks.Ticks.{turn_of};
-ghost use Rattle.dac_model_node.specs.dac_ticks.TurnSoFar.{IsMade};
+ghost use Rattle.dac_model_node.specs.dac_ticks.Ticks.{sweep_of};
+ghost use Rattle.dac_model_node.specs.dac_ticks.SweepSoFar.{IsMade};
 ghost use Rattle.dac_model_node.specs.EventRefusals.{refusal_to_tick, too_few_left};
 ghost use Rattle.dac_model_node.specs.Transitions.{meanings, opening_at};
 ghost use Rattle.dac_node.specs.Knowing.{ticking};
@@ -23,7 +23,7 @@ use dac_config::Config;
 use dac_decide::{Board, Moments, Opening, Waits, gate};
 use dac_lattice::Lattice;
 use dac_messages::Reply;
-use dac_model_node::dac_ticks::{Turn, board_under, turn_of};
+use dac_model_node::dac_ticks::{Sweep, board_under, sweep_of};
 use dac_state::{Op, State};
 use std::alloc::Global;
 use std::sync::Arc;
@@ -58,8 +58,8 @@ fn open_tick(config: &Config, last: u64, running: &Running, now: u64) -> Result<
     let known = &running.knowledge;
     let board = board_under(running.board(), config);
     let noted = known.note(config, board, now)?;
-    let turn = known.turn(config, board, &noted, now)?;
-    let Turn { ops, passed, left } = turn;
+    let sweep = known.sweep(config, board, &noted, now)?;
+    let Sweep { ops, passed, left } = sweep;
     let deltas = deltas_of(known.alloc, ops.as_slice())?;
     let state = known.left_by(left)?;
     let next = known.after_tick(now, true, noted, state, deltas)?;
@@ -132,19 +132,19 @@ impl Knowledge {
     }
 
     /// The claims of a tick at this moment, with these waits.
-    fn turn(
+    fn sweep(
         &self,
         config: &Config,
         board: Option<&Board>,
         waits: &Waits,
         now: u64,
-    ) -> Result<Turn, NoMemory>
+    ) -> Result<Sweep, NoMemory>
         requires room { too_few_left config.now self.now.state self.now.origin ≡ false }
         requires shows { IfSome (option_copied board) (λ b. Shows config.now b self.now.state) }
         ensures { IfOk result (IsMade self.now.state
-            (turn_of config.now self.now.origin waits.now now self.now.state)) }
+            (sweep_of config.now self.now.origin waits.now now self.now.state)) }
     {
-        turn_of(
+        sweep_of(
             self.alloc,
             config,
             self.origin,

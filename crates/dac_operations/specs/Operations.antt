@@ -27,9 +27,9 @@ over_list (Drain node inc value over) = over
 over_list _ = []
 
 -- whether the act is an Up
-abbrev pub says_up : Act → Bool
-says_up Up = true
-says_up _ = false
+abbrev pub reports_up : Act → Bool
+reports_up Up = true
+reports_up _ = false
 
 -- the act replaces its own dot
 abbrev pub replaces_itself : Dot → Act → Bool
@@ -41,7 +41,7 @@ has_bad_over over = not (is_rising dot_cmp over) || nat_lt MAX_REPLACED (length 
 
 -- the counter is 1 and the act isn't an Up, or the act is an Up with another counter
 abbrev pub has_bad_counter : Dot → Act → Bool
-has_bad_counter d a = if says_up a then not (d.n == 1) else d.n == 1
+has_bad_counter d a = if reports_up a then not (d.n == 1) else d.n == 1
 
 -- the act declares its issuer's node down
 abbrev pub is_on_self : Dot → Act → Bool
@@ -66,6 +66,6 @@ pub record IsSound (o : Operation) : Type 0 where
   -- the replaced dots are at most 1,024
   pub few : length (over_list o.act) ≤ MAX_REPLACED
   -- only an Up has counter 1, and each Up has it
-  pub counter : says_up o.act ≡ (o.dot.n == 1)
+  pub counter : reports_up o.act ≡ (o.dot.n == 1)
   -- no node declares itself down
   pub other : is_on_self o.dot o.act ≡ false

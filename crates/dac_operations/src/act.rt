@@ -1,6 +1,6 @@
 //! Acts: the effects of operations.
 ghost use Rattle.std.specs.Prelude.{◌≡◌, ◌↔◌, IfOk, IsTrue};
-ghost use Rattle.dac_operations.specs.Operations.{says_up, over_list};
+ghost use Rattle.dac_operations.specs.Operations.{reports_up, over_list};
 
 use dac_base::{AppId, NoMemory, NodeId};
 use dac_chains::How;
@@ -92,8 +92,8 @@ impl Act {
     }
 
     /// Whether the act is [`Act::Up`].
-    pub fn says_up(&self) -> bool
-        ensures { result ≡ says_up self.now }
+    pub fn reports_up(&self) -> bool
+        ensures { result ≡ reports_up self.now }
     {
         match self {
             Act::Up => true,

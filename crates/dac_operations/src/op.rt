@@ -121,7 +121,7 @@ fn fault_in(dot: Dot, act: &Act) -> Option<OpFault>
     if is_bad_over(over) {
         return Some(OpFault::BadOver);
     }
-    if act.says_up() != (dot.n == 1) {
+    if act.reports_up() != (dot.n == 1) {
         return Some(OpFault::BadCounter);
     }
     if is_on_self(dot, act) {

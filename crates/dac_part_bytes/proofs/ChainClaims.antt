@@ -21,7 +21,7 @@ use Rattle.dac_bytes.specs.Spelling.{origin_bytes}
 use Rattle.dac_bytes.specs.Takes.{TakesAs, Again}
 use Rattle.dac_bytes.specs.laws.Takes.{TakesAs-more, TakesAs-made, TakesAs-both, TakesAs-guard, TakesAs-wanted, Again-made, Again-both, Again-guard, Again-wanted}
 use Rattle.dac_bytes.specs.laws.Ascending.{IsNext}
-use Rattle.dac_part_bytes.specs.ChainForm.{IsFromFor, IsClaimInForm}
+use Rattle.dac_part_bytes.specs.ChainForm.{IsConsistentOrigin, IsClaimInForm}
 use Rattle.dac_part_bytes.specs.Reading.{app_at, is_listed, how_of, how_at, from_code_at, is_from_of, fitting_code_at, from_of, from_at, manner_at, claimer_at, claim_of, term_and_claimer_at, claim_fields_at, listed_claim_at, claim_at}
 use Rattle.dac_part_bytes.specs.Spelling.{app_bytes, how_code, from_code, manner_bytes, claim_bytes}
 use Rattle.dac_part_bytes.proofs.Apps.{app_takes, app_again}
@@ -85,7 +85,7 @@ some_from nodes zero le some = absurd (omega arith)
 some_from nodes (suc n) le some = (record { 0 = n }, refl, omega arith)
 
 -- a consistent code is that of a consistent node
-fits_from : (nodes : ℕ) (how : How) (n : ℕ) → n ≤ nodes → is_from_of how n ≡ true → IsFromFor nodes how (from_of n)
+fits_from : (nodes : ℕ) (how : How) (n : ℕ) → n ≤ nodes → is_from_of how n ≡ true → IsConsistentOrigin nodes how (from_of n)
 fits_from nodes Normal n le fits = ap from_of (eqb-true n 0 fits)
 fits_from nodes Failover n le fits = some_from nodes n le (ltb-true 0 n fits)
 fits_from nodes Takeover n le fits = some_from nodes n le (ltb-true 0 n fits)
@@ -97,7 +97,7 @@ some_code nodes from is =
     (omega arith, lt-ltb 0 (from_code from) (omega arith))
 
 -- a consistent node has a consistent code
-fits_code : (nodes : ℕ) (how : How) (from : Option NodeId) → IsFromFor nodes how from → (from_code from ≤ nodes) × (is_from_of how (from_code from) ≡ true)
+fits_code : (nodes : ℕ) (how : How) (from : Option NodeId) → IsConsistentOrigin nodes how from → (from_code from ≤ nodes) × (is_from_of how (from_code from) ≡ true)
 fits_code nodes Normal from is = let same : from_code from ≡ 0 = ap from_code is in (omega arith, ap (λ n. is_from_of Normal n) same)
 fits_code nodes Failover from is = some_code nodes from is
 fits_code nodes Takeover from is = some_code nodes from is
@@ -111,7 +111,7 @@ module _ (nodes : ℕ) where
       (TakesAs-guard (number_at w8) u8_bytes (λ n. n < 2 ^ 8) (λ n. nat_lt nodes n) BadName u8_takes) (λ n is. ltb-false nodes n is.1)
 
   abbrev IsManner : How × Option NodeId → Type 0
-  IsManner m = IsFromFor nodes m.0 m.1
+  IsManner m = IsConsistentOrigin nodes m.0 m.1
 
   abbrev manner : How × Option NodeId → List ℕ
   manner m = manner_bytes m.0 m.1
@@ -124,16 +124,16 @@ module _ (nodes : ℕ) where
     unfolding fitting_code_at
     fitting_code_takes = TakesAs-wanted (from_code_at nodes) u8_bytes (λ n. n ≤ nodes) (is_from_of how) BadNumber from_code_takes
 
-    from_takes : TakesAs (from_at nodes how) from_bytes (IsFromFor nodes how)
+    from_takes : TakesAs (from_at nodes how) from_bytes (IsConsistentOrigin nodes how)
     unfolding from_at
     from_takes =
-        TakesAs-made (fitting_code_at nodes how) u8_bytes IsFitting from_of from_bytes (IsFromFor nodes how)
+        TakesAs-made (fitting_code_at nodes how) u8_bytes IsFitting from_of from_bytes (IsConsistentOrigin nodes how)
         fitting_code_takes (λ n is. (ap u8_bytes (from_of_code n), fits_from nodes how n is.0 is.1))
 
   pub manner_takes : TakesAs (manner_at nodes) manner IsManner
   unfolding manner_at manner_bytes
   manner_takes =
-      TakesAs-both how_at how_bytes (λ _. Unit {0}) (λ how r. from_at nodes how r) (λ _. from_bytes) (λ how from. IsFromFor nodes how from)
+      TakesAs-both how_at how_bytes (λ _. Unit {0}) (λ how r. from_at nodes how r) (λ _. from_bytes) (λ how from. IsConsistentOrigin nodes how from)
       (λ how from. (how, from)) manner IsManner
       how_takes (λ how _. from_takes how) (λ how from p q. (refl, q))
 
@@ -142,7 +142,7 @@ module _ (nodes : ℕ) where
     unfolding from_code_at
     from_code_again n le = Again-guard (number_at w8) (λ n. nat_lt nodes n) BadName (u8_bytes n) n (u8_again n (omega arith)) (le-ltb nodes n le)
 
-    from_again : (how : How) (from : Option NodeId) → IsFromFor nodes how from → Again (from_at nodes how) (from_bytes from) from
+    from_again : (how : How) (from : Option NodeId) → IsConsistentOrigin nodes how from → Again (from_at nodes how) (from_bytes from) from
     unfolding from_at fitting_code_at
     from_again how from is =
         let n = from_code from in
@@ -166,16 +166,16 @@ abbrev term_and_claimer_bytes : Version → Claim → List ℕ
 term_and_claimer_bytes version c = u64_bytes c.term ++ (origin_bytes version c.origin ++ manner_bytes c.how c.from)
 
 abbrev IsClaimer : Version → ℕ → Origin × (How × Option NodeId) → Type 0
-IsClaimer version nodes c = IsOrigin version nodes c.0 × IsFromFor nodes c.1.0 c.1.1
+IsClaimer version nodes c = IsOrigin version nodes c.0 × IsConsistentOrigin nodes c.1.0 c.1.1
 
 abbrev IsTermAndClaimer : Version → ℕ → Claim → Type 0
-IsTermAndClaimer version nodes c = ((1 ≤ c.term) × (c.term ≤ MAX_COUNTER)) × (IsOrigin version nodes c.origin × IsFromFor nodes c.how c.from)
+IsTermAndClaimer version nodes c = ((1 ≤ c.term) × (c.term ≤ MAX_COUNTER)) × (IsOrigin version nodes c.origin × IsConsistentOrigin nodes c.how c.from)
 
 module _ (version : Version) (nodes : ℕ) where
   claimer_takes : TakesAs (claimer_at version nodes) (claimer_bytes version) (IsClaimer version nodes)
   unfolding claimer_at
   claimer_takes =
-      TakesAs-both (origin_at version nodes) (origin_bytes version) (IsOrigin version nodes) (λ _ r. manner_at nodes r) (λ _ m. manner_bytes m.0 m.1) (λ _ m. IsFromFor nodes m.0 m.1)
+      TakesAs-both (origin_at version nodes) (origin_bytes version) (IsOrigin version nodes) (λ _ r. manner_at nodes r) (λ _ m. manner_bytes m.0 m.1) (λ _ m. IsConsistentOrigin nodes m.0 m.1)
       (λ origin m. (origin, m)) (claimer_bytes version) (IsClaimer version nodes)
       (origin_takes version nodes) (λ _ _. manner_takes nodes) (λ origin m p q. (refl, (p, q)))
 

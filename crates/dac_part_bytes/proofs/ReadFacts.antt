@@ -35,7 +35,7 @@ use Rattle.dac_config.specs.Table.{Table, node_count}
 use Rattle.dac_bytes.specs.declared.fault.ReadFaultKind.TheVariants.{BadNumber, BadOrder, NotKnown}
 use Rattle.dac_bytes.specs.Reading.{Rest, Field, fault, ◌>>=◌, number_at, range_at, node_at, origin_at, origin_above_at, dot_at, dot_above_at, items_at, is_above}
 use Rattle.dac_bytes.specs.laws.Takes.{bind_ok, guard_ok, wanted_ok, ok_is}
-use Rattle.dac_part_bytes.specs.Reading.{known_dot_at, said_flag, vote_at, some_at, votes_of_key_at, key_above_at, listed_key_at, keyed_votes_at, permits_of_key_at, drains_of_key_at, dots_of_key_at, keyed_dots_at, node_above_at, inc_and_flag_at, life_at, claim_at, listed_claim_at}
+use Rattle.dac_part_bytes.specs.Reading.{known_dot_at, flag_of_code, vote_at, some_at, votes_of_key_at, key_above_at, listed_key_at, keyed_votes_at, permits_of_key_at, drains_of_key_at, dots_of_key_at, keyed_dots_at, node_above_at, inc_and_flag_at, life_at, claim_at, listed_claim_at}
 use Rattle.dac_bytes.specs.laws.Ascending.{IsNext, counted_chain, items_chain, chain_each}
 use Rattle.dac_part_bytes.proofs.InOrder.{not_empty, not_empty_set}
 use Rattle.dac_bytes.specs.declared.version.Version.{Version}
@@ -58,9 +58,9 @@ known_dot_next version nodes known s r x e =
 pub vote_next : (version : Version) (nodes : ℕ) (known : Dots) (truth : Flag) (s : Option Dot) (r : Rest) (x : (Dot × Flag) × Rest) → vote_at version nodes known truth s r ≡ Ok x → IsNext dot_cmp (λ (p : Dot × Flag). p.0) (λ p. IsKnown known p.0) s x.0
 unfolding vote_at
 vote_next version nodes known truth s r x e =
-    let a = bind_ok (known_dot_at version nodes known s r) (λ d. range_at w8 0 1 d.1 >>= λ value. Ok ((d.0, said_flag truth value.0), value.1)) x e in
-    let b = bind_ok (range_at w8 0 1 a.0.1) (λ value. Ok ((a.0.0, said_flag truth value.0), value.1)) x a.2 in
-    let made : (Dot × Flag) × Rest = ((a.0.0, said_flag truth b.0.0), b.0.1) in
+    let a = bind_ok (known_dot_at version nodes known s r) (λ d. range_at w8 0 1 d.1 >>= λ value. Ok ((d.0, flag_of_code truth value.0), value.1)) x e in
+    let b = bind_ok (range_at w8 0 1 a.0.1) (λ value. Ok ((a.0.0, flag_of_code truth value.0), value.1)) x a.2 in
+    let made : (Dot × Flag) × Rest = ((a.0.0, flag_of_code truth b.0.0), b.0.1) in
     subst (λ (y : (Dot × Flag) × Rest). IsNext dot_cmp (λ (p : Dot × Flag). p.0) (λ p. IsKnown known p.0) s y.0) (ok_is made x b.2) (known_dot_next version nodes known s r a.0 a.1)
 
 or_none : (a b : Bool) → (a || b) ≡ false → a ≡ false

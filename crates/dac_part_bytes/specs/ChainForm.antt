@@ -32,10 +32,10 @@ pub record AreLivesInForm (version : Version) (nodes : ℕ) (lives : Lives) : Ty
 -- ---- claims
 
 -- A manner is consistent: `Normal` has no previous node, and the others have an existing one.
-abbrev pub IsFromFor : ℕ → How → Option NodeId → Type 0
-IsFromFor nodes Normal from = from ≡ None
-IsFromFor nodes Failover from = (node : NodeId) × (from ≡ Some node) × (node.0 < nodes)
-IsFromFor nodes Takeover from = (node : NodeId) × (from ≡ Some node) × (node.0 < nodes)
+abbrev pub IsConsistentOrigin : ℕ → How → Option NodeId → Type 0
+IsConsistentOrigin nodes Normal from = from ≡ None
+IsConsistentOrigin nodes Failover from = (node : NodeId) × (from ≡ Some node) × (node.0 < nodes)
+IsConsistentOrigin nodes Takeover from = (node : NodeId) × (from ≡ Some node) × (node.0 < nodes)
 
 -- the claim of an application is well-formed
 pub record IsClaimInForm (version : Version) (t : Table) (e : AppId × Claim) : Type 0 where
@@ -48,7 +48,7 @@ pub record IsClaimInForm (version : Version) (t : Table) (e : AppId × Claim) : 
   -- that node is in the application's list
   pub listed : is_listed t e.0 e.1.origin.node ≡ true
   -- its manner is consistent
-  pub from : IsFromFor (node_count t) e.1.how e.1.from
+  pub from : IsConsistentOrigin (node_count t) e.1.how e.1.from
 
 -- the claims of some applications are well-formed
 pub record AreClaimsInForm (version : Version) (t : Table) (claims : Claims) : Type 0 where

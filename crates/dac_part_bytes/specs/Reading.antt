@@ -77,18 +77,18 @@ known_dot_at version nodes known before r = do
   if set.contains known d.0 then Ok d else fault NotKnown r
 
 -- the flag of a vote's code, given the flag that represents true
-abbrev pub said_flag : Flag → ℕ → Flag
-said_flag Up zero = Down
-said_flag Up (suc n) = Up
-said_flag Down zero = Up
-said_flag Down (suc n) = Down
+abbrev pub flag_of_code : Flag → ℕ → Flag
+flag_of_code Up zero = Down
+flag_of_code Up (suc n) = Up
+flag_of_code Down zero = Up
+flag_of_code Down (suc n) = Down
 
 -- a vote: its dot and its value
 unfoldable pub vote_at : Version → ℕ → Dots → Flag → Option Dot → Rest → Field (Dot × Flag)
 vote_at version nodes known truth before r = do
   d ← known_dot_at version nodes known before r
   value ← range_at w8 0 1 d.1
-  Ok ((d.0, said_flag truth value.0), value.1)
+  Ok ((d.0, flag_of_code truth value.0), value.1)
 
 -- a count of at least one
 abbrev pub some_at : Rest → Field ℕ

@@ -47,15 +47,15 @@ key_bytes version key = app_bytes key.app ++ origin_bytes version (key_origin ke
 -- ---- votes: permits and drains
 
 -- the code of a vote's value, 0 for false and 1 for true, given the flag that represents true
-abbrev pub said_code : Flag → Flag → ℕ
-said_code Up Up = 1
-said_code Up Down = 0
-said_code Down Up = 0
-said_code Down Down = 1
+abbrev pub code_of_flag : Flag → Flag → ℕ
+code_of_flag Up Up = 1
+code_of_flag Up Down = 0
+code_of_flag Down Up = 0
+code_of_flag Down Down = 1
 
 -- a vote: its dot and its value
 unfoldable pub vote_bytes : Version → Flag → Dot × Flag → List ℕ
-vote_bytes version truth p = dot_bytes version p.0 ++ u8_bytes (said_code truth p.1)
+vote_bytes version truth p = dot_bytes version p.0 ++ u8_bytes (code_of_flag truth p.1)
 
 -- the number of a key's votes, and these
 unfoldable pub votes_of_key_bytes : Version → Flag → DotFlags → List ℕ

@@ -3,7 +3,7 @@ ghost use Rattle.std.specs.Prelude.{◌≡◌, ◌<◌, IfOk};
 ghost use Rattle.dac_config.specs.Table.{app_count};
 ghost use Rattle.dac_bytes.specs.Reading.{IsOfBytes};
 ghost use Rattle.dac_bytes.specs.Takes.{IsFoundAs, IsReadAgain};
-ghost use Rattle.dac_part_bytes.specs.ChainForm.{IsFromFor};
+ghost use Rattle.dac_part_bytes.specs.ChainForm.{IsConsistentOrigin};
 ghost use Rattle.dac_part_bytes.specs.KeyedForm.{IsKeyAbove};
 ghost use Rattle.dac_part_bytes.specs.Spelling.{app_bytes, key_bytes, manner_bytes};
 ghost use Rattle.dac_part_bytes.specs.Reading.{app_at, fitting_code_at, flag_of, from_at, from_code_at, from_of, how_at, how_of, inc_and_flag_at, is_from_of, is_listed, key_above_at, key_fields_at, known_dot_at, listed_key_at, manner_at, node_above_at, some_at};
@@ -346,10 +346,10 @@ pub fn read_manner<'a>(
     ensures exact { result ≡ manner_at nodes reader.entry }
     ensures real { IsOfBytes result }
     // The returned manner is consistent, with these bytes as its spelling.
-    ensures found { IsFoundAs (λ x. x) (λ m. manner_bytes m.0 m.1) (λ m. IsFromFor nodes m.0 m.1)
+    ensures found { IsFoundAs (λ x. x) (λ m. manner_bytes m.0 m.1) (λ m. IsConsistentOrigin nodes m.0 m.1)
         reader.entry result }
     // A consistent manner is read from its spelling.
-    ensures again { IsReadAgain (λ x. x) (λ m. manner_bytes m.0 m.1) (λ m. IsFromFor nodes m.0 m.1)
+    ensures again { IsReadAgain (λ x. x) (λ m. manner_bytes m.0 m.1) (λ m. IsConsistentOrigin nodes m.0 m.1)
         reader.entry result }
 {
     read_how_and_from(reader, nodes)

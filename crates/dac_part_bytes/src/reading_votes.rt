@@ -6,7 +6,7 @@ ghost use Rattle.dac_bytes.specs.declared.version.Version.TheVariants.{Two};
 ghost use Rattle.dac_config.specs.Table.{node_count};
 ghost use Rattle.dac_origins.specs.Dots.{origin_cmp};
 ghost use Rattle.dac_part_bytes.specs.KeyedForm.{AreDrainsInForm, ArePermitsInForm};
-ghost use Rattle.dac_part_bytes.specs.Reading.{all_drains_at, all_permits_at, all_votes_at, drains_of_key_at, key_above_at, keyed_votes_at, permits_of_key_at, said_flag, vote_at, votes_by_key_at, votes_of_key_at};
+ghost use Rattle.dac_part_bytes.specs.Reading.{all_drains_at, all_permits_at, all_votes_at, drains_of_key_at, key_above_at, keyed_votes_at, permits_of_key_at, flag_of_code, vote_at, votes_by_key_at, votes_of_key_at};
 ghost use Rattle.dac_part_bytes.specs.Spelling.{drains_bytes, permits_bytes};
 ghost use Rattle.dac_store.specs.DotFuns.{has_dot};
 ghost use Rattle.dac_store.specs.DotMaps.{has_in};
@@ -23,8 +23,8 @@ use dac_wishes::{Drains, Key, Permissions};
 use std::alloc::Global;
 
 /// The flag of a vote's code, given the flag `truth` that represents true.
-fn said_flag(truth: Flag, code: u8) -> Flag
-    ensures { result ≡ said_flag truth code }
+fn flag_of_code(truth: Flag, code: u8) -> Flag
+    ensures { result ≡ flag_of_code truth code }
 {
     match truth {
         Flag::Up => match code {
@@ -53,7 +53,7 @@ fn read_vote<'a>(
 {
     let (dot, rest) = read_known_dot(reader, version, nodes, known, before)?;
     let (value, rest) = rest.read_u8_in(0, 1)?;
-    Ok(((dot, said_flag(truth, value)), rest))
+    Ok(((dot, flag_of_code(truth, value)), rest))
 }
 
 /// `count` votes of a key.

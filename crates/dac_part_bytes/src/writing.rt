@@ -1,6 +1,6 @@
 //! Writes the parts: each function appends one to a writer.
 ghost use Rattle.std.specs.Prelude.{◌≡◌, ◌++◌, IfOk};
-ghost use Rattle.dac_part_bytes.specs.Spelling.{claim_bytes, claims_bytes, down_code, drains_bytes, from_code, how_code, key_bytes, keyed_dots_bytes, keyed_votes_bytes, life_bytes, lives_bytes, manner_bytes, permits_bytes, said_code, starts_bytes, vote_bytes, votes_bytes, votes_of_key_bytes};
+ghost use Rattle.dac_part_bytes.specs.Spelling.{claim_bytes, claims_bytes, down_code, drains_bytes, from_code, how_code, key_bytes, keyed_dots_bytes, keyed_votes_bytes, life_bytes, lives_bytes, manner_bytes, permits_bytes, code_of_flag, starts_bytes, vote_bytes, votes_bytes, votes_of_key_bytes};
 ghost use Rattle.dac_bytes.specs.declared.version.Version.TheVariants.{One, Two};
 ghost use Rattle.dac_bytes.specs.Spelling.{origin_bytes};
 ghost use Rattle.dac_origins.specs.Dots.{origin_cmp};
@@ -46,8 +46,8 @@ fn long_key(key: Key) -> [u8; 11]
 }
 
 /// The code of a vote, 0 for false and 1 for true, given the flag `truth` that represents true.
-fn said_code(truth: Flag, flag: Flag) -> u8
-    ensures { result ≡ said_code truth flag }
+fn code_of_flag(truth: Flag, flag: Flag) -> u8
+    ensures { result ≡ code_of_flag truth flag }
 {
     match truth {
         Flag::Up => match flag {
@@ -73,7 +73,7 @@ fn write_vote(
 {
     let written = writer
         .write_dot(version, dot)?
-        .write_u8(said_code(truth, flag))?;
+        .write_u8(code_of_flag(truth, flag))?;
     Ok(written)
 }
 

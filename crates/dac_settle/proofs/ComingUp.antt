@@ -52,7 +52,7 @@ use Rattle.dac_commands.specs.Commands.{greatest_counter, live_key, live, live_o
 use Rattle.dac_commands.specs.Causes.{first, no_node, unlisted, not_live, too_many, used_up, terms_used_up}
 use Rattle.dac_commands.specs.laws.Counters.{next-is}
 use Rattle.dac_peers.specs.Peers.{no_peers}
-use Rattle.dac_ticks.specs.Ticks.{Turn, turn_of, turn_from, claim_of, claimed_by, is_mine}
+use Rattle.dac_ticks.specs.Ticks.{Sweep, sweep_of, sweep_from, claim_of, claimed_by, is_mine}
 use Rattle.dac_ticks.specs.laws.Words.{if_own}
 use Rattle.dac_model_world.specs.ModelNode.{ModelNode, joined, shown, base_after}
 use Rattle.dac_model_world.specs.EventRefusals.{refusal_of, otherwise}
@@ -78,8 +78,8 @@ module _ (n : NodeId) (rest : List Operation) (none : SayNoLife rest) where
   abbrev pub lone : List Operation
   lone = up_of n ∷ rest
 
-  said_life : (m : NodeId) (l : Life) → SaysFor life_said lone m l → (n ≡ m) × (up_life ≡ l)
-  said_life m l says = elim says.1.0 [
+  life_report : (m : NodeId) (l : Life) → SaysFor life_said lone m l → (n ≡ m) × (up_life ≡ l)
+  life_report m l says = elim says.1.0 [
     | inl same ↦ pair_of (sym (ap (λ (q : Operation). life_said q.dot q.act) same) ∙ says.1.1)
     | inr more ↦ absurd (none says.0 more m l says.1.1)
   ]
@@ -89,13 +89,13 @@ module _ (n : NodeId) (rest : List Operation) (none : SayNoLife rest) where
     where
       by_life : (o : Option Life) → IsGreatest life_cmp (IsSaid life_said (pairs lone) n) o → o ≡ Some up_life
       by_life None nothing = absurd (nothing up_life (is_said life_said lone n up_life (up_of n, (inl refl, refl))))
-      by_life (Some l) is = ap (λ k. Some k) (sym (said_life n l (of_said life_said lone n l is.0)).1)
+      by_life (Some l) is = ap (λ k. Some k) (sym (life_report n l (of_said life_said lone n l is.0)).1)
 
   live_only : (m : NodeId) (inc : ℕ) → IsLive (meaning_of lone).lives m inc → (n ≡ m) × (1 ≡ inc)
   live_only m inc alive =
       let l : Life = record { inc = inc; flag = IsUpFlag } in
       let is : IsGreatest life_cmp (IsSaid life_said (pairs lone) m) (Some l) = subst (IsGreatest life_cmp (IsSaid life_said (pairs lone) m)) (sym (ap (λ lives. map.get lives m) (lives-meaning lone)) ∙ alive) (lives_are lone m) in
-      let said = said_life m l (of_said life_said lone m l is.0) in
+      let said = life_report m l (of_said life_said lone m l is.0) in
       (said.0, ap (λ (k : Life). k.inc) said.1)
 
 -- ---- counters
@@ -265,8 +265,8 @@ pub record CanClaim (n : NodeId) : Type 0 where
   pub started : IsStartedAt (begun_state n) (key_at the_app n 1)
   pub agree : DotsDetermine (begun n)
 
-own_turn_by : NodeId → StateValue → Turn
-own_turn_by n u = turn_of worked_table (first_of n) (waits_of worked_table (record { state = u; moment = 0 } ∷ [])) 0 u
+own_sweep_by : NodeId → StateValue → Sweep
+own_sweep_by n u = sweep_of worked_table (first_of n) (waits_of worked_table (record { state = u; moment = 0 } ∷ [])) 0 u
 
 module _ (n : NodeId) (can : CanClaim n) where
   abbrev own_state : StateValue
@@ -326,14 +326,14 @@ module _ (n : NodeId) (can : CanClaim n) where
   own_act : claimed_by own_state the_app (verdict_of worked_table own_state the_app) ≡ Claims the_app 1 Normal None
   own_act = ap (claimed_by own_state the_app) starts_it ∙ ap (λ (c : Option Claim). Claims the_app (option_map_or (λ (k : Claim). k.term) c 0 + 1) Normal None) (none_claimed n the_app)
 
-  abbrev claims_so : Operation → Turn
+  abbrev claims_so : Operation → Sweep
   claims_so o = record { ops = o ∷ []; passed = []; state = join own_state (meaning_of (o ∷ [])) }
 
-  pub turn_alone : turn_of worked_table (first_of n) (waits_of worked_table (record { state = joined (begun_log n); moment = 0 } ∷ [])) 0 (joined (begun_log n)) ≡ claims_so (claiming_at n)
-  unfolding own_turn_by
-  turn_alone =
+  pub sweep_alone : sweep_of worked_table (first_of n) (waits_of worked_table (record { state = joined (begun_log n); moment = 0 } ∷ [])) 0 (joined (begun_log n)) ≡ claims_so (claiming_at n)
+  unfolding own_sweep_by
+  sweep_alone =
       let o = claim_of worked_table (first_of n) own_state the_app in
-      (λ i. own_turn_by n (begun_is i))
-      ∙ (λ i. cond (own_mine i) (cond (terms_used_up own_state the_app) (record { ops = []; passed = the_app ∷ []; state = own_state }) (claims_so o)) (turn_from own_state))
+      (λ i. own_sweep_by n (begun_is i))
+      ∙ (λ i. cond (own_mine i) (cond (terms_used_up own_state the_app) (record { ops = []; passed = the_app ∷ []; state = own_state }) (claims_so o)) (sweep_from own_state))
       ∙ (λ i. cond (own_terms i) (record { ops = []; passed = the_app ∷ []; state = own_state }) (claims_so o))
       ∙ (λ i. claims_so (operation (dot (first_of n) (begun_counter n i)) (own_act i)))

@@ -31,7 +31,7 @@ use Rattle.dac_events.specs.declared.refusal.Refusal.{Refusal}
 use Rattle.dac_events.specs.declared.refusal.Refusal.TheVariants.{DeclaredDown, MomentBack, DotsUsedUp}
 use Rattle.dac_commands.specs.Commands.{greatest_counter}
 use Rattle.dac_commands.specs.Causes.{first, terms_used_up}
-use Rattle.dac_ticks.specs.Ticks.{Turn, turn_of, turn_from, claim_of, is_mine, is_mine_by}
+use Rattle.dac_ticks.specs.Ticks.{Sweep, sweep_of, sweep_from, claim_of, is_mine, is_mine_by}
 use Rattle.dac_model_world.specs.ModelNode.{ModelNode, ModelRunning, joined, shown, base_after}
 use Rattle.dac_model_world.specs.EventRefusals.{refusal_of}
 use Rattle.dac_model_world.specs.Transitions.{meanings}
@@ -45,10 +45,10 @@ use Rattle.dac_settle.specs.WorldRounds.{members_of, AreRounds, EndsInRounds}
 use Rattle.dac_settle.specs.Worked.{first_node, second_node, IsEither, the_app, worked_table, first_of, up_of, both_go_round}
 use Rattle.dac_settle.specs.WorkedLoss.{lost_node, lost_claim, losing, RunsCanFailOver}
 use Rattle.dac_settle.specs.laws.WorldsSettle.{worlds_settle}
-use Rattle.dac_settle.proofs.ComingUp.{CanClaim, start_at, started_op, booted, starts_on, begun, begun_log, begun_node, ticks_alone, turn_alone}
+use Rattle.dac_settle.proofs.ComingUp.{CanClaim, start_at, started_op, booted, starts_on, begun, begun_log, begun_node, ticks_alone, sweep_alone}
 use Rattle.dac_settle.proofs.Handed.{Answer, w0, pushed, known_there, run_of, waiting, with_op, base_with, hearing, few_by, longer, hears_op, wide}
 use Rattle.dac_settle.proofs.Losing.{claiming, loss_set, loss_state, loss_note, is_live, only_live, late, claimed, is_lost, few, up_there, terms_left, mine, claims_it, verdict_is, the_claim, fails_over}
-use Rattle.dac_settle.proofs.RoundOfTwo.{happens_so, is_ready, told, turn, turn_is, the_rounds}
+use Rattle.dac_settle.proofs.RoundOfTwo.{happens_so, is_ready, told, sweep, sweep_is, the_rounds}
 
 -- ---- the events before operations are handed
 abbrev w1 : ModelWorld
@@ -80,7 +80,7 @@ abbrev w3 : ModelWorld
 w3 = (answered_by w2 lost_node d3 (Ok (Ticked (claiming ∷ []) []))).world
 
 is3 : happens worked_table w2 (record { node = lost_node; what = Ticking 0 }) ≡ answered_by w2 lost_node d3 (Ok (Ticked (claiming ∷ []) []))
-is3 = happens_so w2 lost_node (Ticking 0) (Tick 0) refl refl (ticks_alone lost_node lost_can) ∙ ap (λ (u : Turn). answered_by w2 lost_node d3 (Ok (Ticked u.ops u.passed))) (turn_alone lost_node lost_can)
+is3 = happens_so w2 lost_node (Ticking 0) (Tick 0) refl refl (ticks_alone lost_node lost_can) ∙ ap (λ (u : Sweep). answered_by w2 lost_node d3 (Ok (Ticked u.ops u.passed))) (sweep_alone lost_node lost_can)
 
 abbrev gone : ModelNode
 gone = record { last = 1; running = None }
@@ -425,24 +425,24 @@ not_mine n =
     ∙ (λ i. (first_node.0 == n.0) && due i)
     ∙ and_none (first_node.0 == n.0)
 
-own_turn_by : NodeId → StateValue → Turn
-own_turn_by n u = turn_of worked_table (first_of n) (waits_of worked_table (record { state = u; moment = 0 } ∷ [])) 0 u
+own_sweep_by : NodeId → StateValue → Sweep
+own_sweep_by n u = sweep_of worked_table (first_of n) (waits_of worked_table (record { state = u; moment = 0 } ∷ [])) 0 u
 
-claims_so : NodeId → Turn
+claims_so : NodeId → Sweep
 claims_so n = let o = claim_of worked_table (first_of n) loss_state the_app in record { ops = o ∷ []; passed = []; state = join loss_state (meaning_of (o ∷ [])) }
 
-abbrev passes : Turn
+abbrev passes : Sweep
 passes = record { ops = []; passed = the_app ∷ []; state = loss_state }
 
-own_turn : (n : NodeId) → IsEither n → turn_of worked_table (first_of n) (waits_of worked_table (record { state = joined (log3 n); moment = 0 } ∷ [])) 0 (joined (log3 n)) ≡ turn_from loss_state
-unfolding own_turn_by claims_so
-own_turn n either = (λ i. own_turn_by n (known_at n either i)) ∙ (λ i. cond (not_mine n i) (cond (terms_used_up loss_state the_app) passes (claims_so n)) (turn_from loss_state))
+own_sweep : (n : NodeId) → IsEither n → sweep_of worked_table (first_of n) (waits_of worked_table (record { state = joined (log3 n); moment = 0 } ∷ [])) 0 (joined (log3 n)) ≡ sweep_from loss_state
+unfolding own_sweep_by claims_so
+own_sweep n either = (λ i. own_sweep_by n (known_at n either i)) ∙ (λ i. cond (not_mine n i) (cond (terms_used_up loss_state the_app) passes (claims_so n)) (sweep_from loss_state))
 
-abbrev noting : NodeId → StateValue → Turn → ModelNode
+abbrev noting : NodeId → StateValue → Sweep → ModelNode
 noting n s u = record { last = 1; running = Some (run_of n true (record { state = s; moment = 0 } ∷ []) (log3 n ++ meanings u.ops) (base_after (base3 n) (length (log3 n ++ meanings u.ops)) 0)) }
 
 abbrev noted_node : NodeId → ModelNode
-noted_node n = noting n loss_state (turn_from loss_state)
+noted_node n = noting n loss_state (sweep_from loss_state)
 
 abbrev w15 : ModelWorld
 w15 = (answered_by w14 first_node (noted_node first_node) (Ok (Ticked [] []))).world
@@ -450,7 +450,7 @@ w15 = (answered_by w14 first_node (noted_node first_node) (Ok (Ticked [] []))).w
 is15 : happens worked_table w14 (record { node = first_node; what = Ticking 0 }) ≡ answered_by w14 first_node (noted_node first_node) (Ok (Ticked [] []))
 is15 =
     happens_so w14 first_node (Ticking 0) (Tick 0) refl refl (ticks_first first_node (inl refl))
-    ∙ (λ i. answered_by w14 first_node (noting first_node (known_at first_node (inl refl) i) (own_turn first_node (inl refl) i)) (Ok (Ticked (own_turn first_node (inl refl) i).ops (own_turn first_node (inl refl) i).passed)))
+    ∙ (λ i. answered_by w14 first_node (noting first_node (known_at first_node (inl refl) i) (own_sweep first_node (inl refl) i)) (Ok (Ticked (own_sweep first_node (inl refl) i).ops (own_sweep first_node (inl refl) i).passed)))
 
 abbrev w16 : ModelWorld
 w16 = (answered_by w15 second_node (noted_node second_node) (Ok (Ticked [] []))).world
@@ -458,7 +458,7 @@ w16 = (answered_by w15 second_node (noted_node second_node) (Ok (Ticked [] [])))
 is16 : happens worked_table w15 (record { node = second_node; what = Ticking 0 }) ≡ answered_by w15 second_node (noted_node second_node) (Ok (Ticked [] []))
 is16 =
     happens_so w15 second_node (Ticking 0) (Tick 0) refl refl (ticks_first second_node (inr refl))
-    ∙ (λ i. answered_by w15 second_node (noting second_node (known_at second_node (inr refl) i) (own_turn second_node (inr refl) i)) (Ok (Ticked (own_turn second_node (inr refl) i).ops (own_turn second_node (inr refl) i).passed)))
+    ∙ (λ i. answered_by w15 second_node (noting second_node (known_at second_node (inr refl) i) (own_sweep second_node (inr refl) i)) (Ok (Ticked (own_sweep second_node (inr refl) i).ops (own_sweep second_node (inr refl) i).passed)))
 
 abbrev the_replies : List Answer
 the_replies = as14 ++ Ok (Ticked [] []) ∷ Ok (Ticked [] []) ∷ []
@@ -516,25 +516,25 @@ world_is_ready : IsReady (members_of w16 s16)
 world_is_ready = is_ready loss_state are_open own_notes is_live only_live few terms_left (λ n either. late) (λ n either app claim lost. lost) log4 base4 holding w16.operations w14.node s14.node s16.issued short4 known4 means alike no_run no_set
 
 -- ---- the first tick fails over
-abbrev turn_of_node : NodeId → Turn
-turn_of_node = turn loss_state are_open own_notes is_live only_live few terms_left (λ n either. late) (λ n either app claim lost. lost) log4 base4 holding w16.operations w14.node s14.node s16.issued short4 known4 means alike no_run no_set
+abbrev sweep_of_node : NodeId → Sweep
+sweep_of_node = sweep loss_state are_open own_notes is_live only_live few terms_left (λ n either. late) (λ n either app claim lost. lost) log4 base4 holding w16.operations w14.node s14.node s16.issued short4 known4 means alike no_run no_set
 
-first_turn : turn_of_node first_node ≡ claims_it
-first_turn =
-    turn_is loss_state are_open own_notes is_live only_live few terms_left (λ n either. late) (λ n either app claim lost. lost) log4 base4 holding w16.operations w14.node s14.node s16.issued short4 known4 means alike no_run no_set first_node (inl refl)
-    ∙ (λ i. cond (mine i) (cond (terms_used_up loss_state the_app) passes claims_it) (turn_from loss_state))
+first_sweep : sweep_of_node first_node ≡ claims_it
+first_sweep =
+    sweep_is loss_state are_open own_notes is_live only_live few terms_left (λ n either. late) (λ n either app claim lost. lost) log4 base4 holding w16.operations w14.node s14.node s16.issued short4 known4 means alike no_run no_set first_node (inl refl)
+    ∙ (λ i. cond (mine i) (cond (terms_used_up loss_state the_app) passes claims_it) (sweep_from loss_state))
     ∙ (λ i. cond (terms_left i) passes claims_it)
 
 -- the results after the first tick
 abbrev later_answers : List Answer
-later_answers = Ok (Ticked (turn_of_node second_node).ops (turn_of_node second_node).passed) ∷ told loss_state are_open own_notes is_live only_live few terms_left (λ n either. late) (λ n either app claim lost. lost) log4 base4 holding w16.operations w14.node s14.node s16.issued short4 known4 means alike no_run no_set
+later_answers = Ok (Ticked (sweep_of_node second_node).ops (sweep_of_node second_node).passed) ∷ told loss_state are_open own_notes is_live only_live few terms_left (λ n either. late) (λ n either app claim lost. lost) log4 base4 holding w16.operations w14.node s14.node s16.issued short4 known4 means alike no_run no_set
 
 -- the results of the round
 abbrev all_answers : List Answer
 all_answers = Ok (Ticked (the_claim ∷ []) []) ∷ later_answers
 
 round_comes : AreRounds worked_table (app_count worked_table) w16 s16 both_go_round all_answers
-round_comes = the_rounds loss_state are_open own_notes is_live only_live few terms_left (λ n either. late) (λ n either app claim lost. lost) log4 base4 holding w16.operations w14.node s14.node s16.issued short4 known4 means alike no_run no_set claims_it (turn_of_node second_node) first_turn refl
+round_comes = the_rounds loss_state are_open own_notes is_live only_live few terms_left (λ n either. late) (λ n either app claim lost. lost) log4 base4 holding w16.operations w14.node s14.node s16.issued short4 known4 means alike no_run no_set claims_it (sweep_of_node second_node) first_sweep refl
 
 holds_at : (n : NodeId) → IsEither n → s16.node n ≡ Some (holding_set n)
 holds_at n either = elim either [

@@ -41,7 +41,7 @@ use Rattle.dac_decide.specs.laws.Kept.{kept_is}
 use Rattle.dac_commands.specs.Commands.{greatest_counter}
 use Rattle.dac_commands.specs.Causes.{first, terms_used_up}
 use Rattle.dac_commands.specs.laws.Counters.{next-is}
-use Rattle.dac_ticks.specs.Ticks.{Turn, claim_of, claimed_by, is_mine}
+use Rattle.dac_ticks.specs.Ticks.{Sweep, claim_of, claimed_by, is_mine}
 use Rattle.dac_ticks.specs.laws.Words.{if_own}
 use Rattle.dac_ticks.specs.laws.Claimed.{MayRunAlike}
 use Rattle.dac_settle.specs.Settling.{IsLate}
@@ -278,7 +278,7 @@ terms_left = ap (λ c. nat_lt MAX_COUNTER (option_map_or (λ (claim : Claim). cl
 abbrev pub the_claim : Operation
 the_claim = claim_of worked_table (first_of first_node) loss_state the_app
 
-abbrev pub claims_it : Turn
+abbrev pub claims_it : Sweep
 claims_it = record { ops = the_claim ∷ []; passed = []; state = join loss_state (meaning_of (the_claim ∷ [])) }
 
 pub fails_over : the_claim.act ≡ Claims the_app 2 FailedOver (Some lost_node)

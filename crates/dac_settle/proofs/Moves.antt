@@ -48,7 +48,7 @@ use Rattle.dac_commands.specs.Commands.{greatest_counter, live, live_or_none, li
 use Rattle.dac_commands.specs.Causes.{first, not_live, too_many, used_up, terms_used_up}
 use Rattle.dac_commands.specs.laws.Counters.{next-is, used_up_is}
 use Rattle.dac_commands.specs.laws.Standing.{drains_at-has}
-use Rattle.dac_ticks.specs.Ticks.{Turn, turn_from, claim_of, claimed_by, is_mine, is_mine_by}
+use Rattle.dac_ticks.specs.Ticks.{Sweep, sweep_from, claim_of, claimed_by, is_mine, is_mine_by}
 use Rattle.dac_model_world.specs.ModelNode.{ModelNode, joined, shown, base_after}
 use Rattle.dac_model_world.specs.EventRefusals.{refusal_of, otherwise}
 use Rattle.dac_model_world.specs.Transitions.{meanings}
@@ -70,9 +70,9 @@ use Rattle.dac_settle.specs.laws.Started.{AreStarts, are_live}
 use Rattle.dac_settle.specs.laws.BothTick.{no_row}
 use Rattle.dac_settle.specs.laws.MovedRound.{drained_state, is_live, only_live, claimed, said_by, never_lost, is_drained, terms_left, to_move}
 use Rattle.dac_settle.specs.laws.WorldsSettle.{held_shown, set_there, worlds_settle}
-use Rattle.dac_settle.proofs.ComingUp.{CanClaim, none_some, none_claimed, named_in, bare_by, number_of, below, empty_if, start_at, started_op, booted, starts_on, begun as begun_alone, begun_log, begun_node, begun_is, ticks_alone, turn_alone}
+use Rattle.dac_settle.proofs.ComingUp.{CanClaim, none_some, none_claimed, named_in, bare_by, number_of, below, empty_if, start_at, started_op, booted, starts_on, begun as begun_alone, begun_log, begun_node, begun_is, ticks_alone, sweep_alone}
 use Rattle.dac_settle.proofs.Handed.{Answer, w0, pushed, known_there, run_of, running_so, waiting, with_op, base_with, hearing, few_by, longer, hears_op, wide}
-use Rattle.dac_settle.proofs.RoundOfTwo.{happens_so, is_ready, told, turn, turn_is, the_rounds, all_hold}
+use Rattle.dac_settle.proofs.RoundOfTwo.{happens_so, is_ready, told, sweep, sweep_is, the_rounds, all_hold}
 
 -- a property of both nodes holds of either
 at_either : (P : NodeId → Type 0) → P first_node → P second_node → (n : NodeId) → IsEither n → P n
@@ -182,8 +182,8 @@ abbrev notes3 : List Note
 notes3 = record { state = joined (begun_log first_node); moment = 0 } ∷ []
 
 -- the first node after this effect of its tick
-abbrev claimed_by_turn : Turn → ModelNode
-claimed_by_turn u = running_so first_node true notes3 (begun_log first_node ++ meanings u.ops) (base_after base0 (length (begun_log first_node ++ meanings u.ops)) 0)
+abbrev claimed_by_sweep : Sweep → ModelNode
+claimed_by_sweep u = running_so first_node true notes3 (begun_log first_node ++ meanings u.ops) (base_after base0 (length (begun_log first_node ++ meanings u.ops)) 0)
 
 abbrev log3 : List StateValue
 log3 = begun_log first_node ++ meaning_of (claiming ∷ []) ∷ []
@@ -312,7 +312,7 @@ w3 = (answered_by w2 first_node (running_so first_node true notes3 log3 base3) (
 is3 : happens worked_table w2 e3 ≡ answered_by w2 first_node (running_so first_node true notes3 log3 base3) (Ok (Ticked (claiming ∷ []) []))
 is3 =
     happens_so w2 first_node (Ticking 0) (Tick 0) refl refl (ticks_alone first_node first_can)
-    ∙ ap (λ (u : Turn). answered_by w2 first_node (claimed_by_turn u) (Ok (Ticked u.ops u.passed))) (turn_alone first_node first_can)
+    ∙ ap (λ (u : Sweep). answered_by w2 first_node (claimed_by_sweep u) (Ok (Ticked u.ops u.passed))) (sweep_alone first_node first_can)
 
 run3 : Run worked_table w0 (e1 ∷ e2 ∷ e3 ∷ []) (a1 ∷ a2 ∷ a3 ∷ []) w3
 run3 = pushed w2 (e1 ∷ e2 ∷ []) (a1 ∷ a2 ∷ []) e3 (running_so first_node true notes3 log3 base3) (Ticked (claiming ∷ []) []) run2 is3
@@ -663,24 +663,24 @@ not_mine = ap (is_mine_by worked_table (first_of first_node) (the_waits first_no
 mine : is_mine worked_table (first_of second_node) (the_waits second_node) 5000 drained_state the_app ≡ true
 mine = ap (is_mine_by worked_table (first_of second_node) (the_waits second_node) 5000 drained_state the_app) to_move
 
-abbrev passes : Turn
+abbrev passes : Sweep
 passes = record { ops = []; passed = the_app ∷ []; state = drained_state }
 
-abbrev claims_so : Operation → Turn
+abbrev claims_so : Operation → Sweep
 claims_so o = record { ops = o ∷ []; passed = []; state = join drained_state (meaning_of (o ∷ [])) }
 
 abbrev the_claim : Operation
 the_claim = claim_of worked_table (first_of second_node) drained_state the_app
 
-first_turn : turn drained_state are_open notes is_live only_live few terms_left late noted log base holding w12.operations w10.node s10.node s12.issued short known means alike no_run no_set first_node ≡ turn_from drained_state
-first_turn =
-    turn_is drained_state are_open notes is_live only_live few terms_left late noted log base holding w12.operations w10.node s10.node s12.issued short known means alike no_run no_set first_node (inl refl)
-    ∙ (λ i. cond (not_mine i) (cond (terms_used_up drained_state the_app) passes (claims_so (claim_of worked_table (first_of first_node) drained_state the_app))) (turn_from drained_state))
+first_sweep : sweep drained_state are_open notes is_live only_live few terms_left late noted log base holding w12.operations w10.node s10.node s12.issued short known means alike no_run no_set first_node ≡ sweep_from drained_state
+first_sweep =
+    sweep_is drained_state are_open notes is_live only_live few terms_left late noted log base holding w12.operations w10.node s10.node s12.issued short known means alike no_run no_set first_node (inl refl)
+    ∙ (λ i. cond (not_mine i) (cond (terms_used_up drained_state the_app) passes (claims_so (claim_of worked_table (first_of first_node) drained_state the_app))) (sweep_from drained_state))
 
-second_turn : turn drained_state are_open notes is_live only_live few terms_left late noted log base holding w12.operations w10.node s10.node s12.issued short known means alike no_run no_set second_node ≡ claims_so the_claim
-second_turn =
-    turn_is drained_state are_open notes is_live only_live few terms_left late noted log base holding w12.operations w10.node s10.node s12.issued short known means alike no_run no_set second_node (inr refl)
-    ∙ (λ i. cond (mine i) (cond (terms_used_up drained_state the_app) passes (claims_so the_claim)) (turn_from drained_state))
+second_sweep : sweep drained_state are_open notes is_live only_live few terms_left late noted log base holding w12.operations w10.node s10.node s12.issued short known means alike no_run no_set second_node ≡ claims_so the_claim
+second_sweep =
+    sweep_is drained_state are_open notes is_live only_live few terms_left late noted log base holding w12.operations w10.node s10.node s12.issued short known means alike no_run no_set second_node (inr refl)
+    ∙ (λ i. cond (mine i) (cond (terms_used_up drained_state the_app) passes (claims_so the_claim)) (sweep_from drained_state))
     ∙ (λ i. cond (terms_left i) passes (claims_so the_claim))
 
 -- the results after both ticks, and all results of the round
@@ -691,7 +691,7 @@ abbrev all_answers : List Answer
 all_answers = Ok (Ticked [] []) ∷ Ok (Ticked (the_claim ∷ []) []) ∷ later_answers
 
 round_comes : AreRounds worked_table (app_count worked_table) w12 s12 both_go_round all_answers
-round_comes = the_rounds drained_state are_open notes is_live only_live few terms_left late noted log base holding w12.operations w10.node s10.node s12.issued short known means alike no_run no_set (turn_from drained_state) (claims_so the_claim) first_turn second_turn
+round_comes = the_rounds drained_state are_open notes is_live only_live few terms_left late noted log base holding w12.operations w10.node s10.node s12.issued short known means alike no_run no_set (sweep_from drained_state) (claims_so the_claim) first_sweep second_sweep
 
 takes : the_claim.act ≡ Claims the_app 2 Normal None
 takes =
@@ -764,7 +764,7 @@ held_then v ran n state runs =
     let sets = set_run no_sets (drains_first ++ both_go_round) (the_replies ++ all_answers) in
     let sound = sound_run worked_table w0 no_sets (drains_first ++ both_go_round) (the_replies ++ all_answers) ran.final (sound_start worked_table) ran.run in
     let set = set_there (sets.node (numbered n)) state (held_shown worked_table ran.final sets v ran.shows sound n state runs) in
-    let same = all_hold drained_state are_open notes is_live only_live few terms_left late noted log base holding w12.operations w10.node s10.node s12.issued short known means alike no_run no_set (turn_from drained_state) (claims_so the_claim) first_turn second_turn (numbered n) set.0 set.1 in
+    let same = all_hold drained_state are_open notes is_live only_live few terms_left late noted log base holding w12.operations w10.node s10.node s12.issued short known means alike no_run no_set (sweep_from drained_state) (claims_so the_claim) first_sweep second_sweep (numbered n) set.0 set.1 in
     sym set.2 ∙ meaning-same set.0.operations all_held same.0 same.1
 
 holds_at : (n : NodeId) → IsEither n → s12.node n ≡ Some (holding_set n)

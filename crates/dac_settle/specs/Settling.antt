@@ -15,7 +15,7 @@ use Rattle.dac_config.specs.Table.{Table, app_count, timeout_of}
 use Rattle.dac_placement.specs.declared.verdicts.Verdict.{Verdict}
 use Rattle.dac_placement.specs.declared.verdicts.Verdict.TheVariants.{Start, Failover, Halted, Move, Takeover, Kept, Nobody}
 use Rattle.dac_decide.specs.FailoverWait.{Note, IsLost, IsLostByNewest, IsNotedSince}
-use Rattle.dac_ticks.specs.Ticks.{Turn}
+use Rattle.dac_ticks.specs.Ticks.{Sweep}
 use Rattle.dac_ticks.specs.Again.{noting, tick_of}
 use Rattle.dac_settle.specs.Rounds.{InCopies}
 use Rattle.dac_settle.specs.Rules.{judged}
@@ -41,8 +41,8 @@ abbrev pub own_of : NodeId → Member → Origin
 own_of n d = record { node = n; inc = d.inc }
 
 -- the effect of a tick of the node at this moment
-abbrev pub turn_at : Table → NodeId → Member → ℕ → Turn
-turn_at t n d now = tick_of t (own_of n d) d.notes now (meaning_of d.held)
+abbrev pub sweep_at : Table → NodeId → Member → ℕ → Sweep
+sweep_at t n d now = tick_of t (own_of n d) d.notes now (meaning_of d.held)
 
 -- the node with more operations in its set
 abbrev pub holding : Member → List Operation → Member
@@ -68,12 +68,12 @@ pub data MemberEvent : Type 0 where
 pub record IsTick (t : Table) (n : NodeId) (d : Member) (now : ℕ) : Type 0 where
   pub agree : DotsDetermine d.held
   pub late : IsLate t d.notes now
-  pub passed : (turn_at t n d now).passed ≡ []
+  pub passed : (sweep_at t n d now).passed ≡ []
 
 -- one event
 abbrev pub Happens : Table → Members → MemberEvent → Members → Type 0
 Happens t w (Tick n now) next = (d : Member) × (w.node n ≡ Some d) × IsTick t n d now
-    × (next ≡ record { node = with_member w.node n (ticked d now (turn_at t n d now).ops); copies = w.copies })
+    × (next ≡ record { node = with_member w.node n (ticked d now (sweep_at t n d now).ops); copies = w.copies })
 Happens t w (Ship n) next =
     (d : Member) × (w.node n ≡ Some d) × (next ≡ record { node = w.node; copies = w.copies ++ d.held ∷ [] })
 Happens t w (Deliver n) next = (d : Member) × (y : List Operation) × (w.node n ≡ Some d) × InCopies y w.copies

@@ -41,10 +41,10 @@ SeatDiffers p rs (s ∷ ss) =
     DifferAt p (calls_of s.number rs) s.calls ⊎ ((calls_of s.number rs ≡ s.calls) × SeatDiffers p rs ss)
 
 -- the place of the first record that belongs to none of these seats; the first of the records has the place `at`
-abbrev pub StrangerFrom : ℕ → ℕ → List SeatValue → List Record → Type 0
-StrangerFrom p at seats [] = ⊥
-StrangerFrom p at seats (r ∷ rs) =
-    (All (λ s. s.number ≢ r.seat) seats × (p ≡ at)) ⊎ (IsOneOf r.seat (λ s. s.number) seats × StrangerFrom p (suc at) seats rs)
+abbrev pub FirstUnseated : ℕ → ℕ → List SeatValue → List Record → Type 0
+FirstUnseated p at seats [] = ⊥
+FirstUnseated p at seats (r ∷ rs) =
+    (All (λ s. s.number ≢ r.seat) seats × (p ≡ at)) ⊎ (IsOneOf r.seat (λ s. s.number) seats × FirstUnseated p (suc at) seats rs)
 
 -- the journal and the seats don't match, first at this place; seats are compared before records of no seat are looked
 -- for
@@ -52,7 +52,7 @@ pub record DontMatch (o : Beginning) (seats : List SeatValue) (p : ℕ) : Type 0
   pub records : List Record
   pub history : AreHistory o records
   pub apart : SeatDiffers p records seats
-      ⊎ (All (λ s. calls_of s.number records ≡ s.calls) seats × StrangerFrom p 1 seats records)
+      ⊎ (All (λ s. calls_of s.number records ≡ s.calls) seats × FirstUnseated p 1 seats records)
 
 -- the journal and the seats when closing fails
 abbrev pub NotClosed : CloseFault → Beginning → List SeatValue → Type 0

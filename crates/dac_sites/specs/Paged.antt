@@ -36,10 +36,10 @@ abbrev pub page_after : Beginning → List Record → Page
 page_after o rs = page_of o.table (length rs) (shown o.table (node_after o rs))
 
 -- a journal, and its published page
-pub record DeskValue : Type 0 where
+pub record PagedJournalValue : Type 0 where
   pub journal : JournalValue
   pub page : Page
 
-abbrev pub coded_desk : Coded JournalValue → Coded Page → Coded DeskValue
-coded_desk journal page = code_by (JournalValue × Page) (coded× journal page) (λ d. (d.journal, d.page))
+abbrev pub coded_paged_journal : Coded JournalValue → Coded Page → Coded PagedJournalValue
+coded_paged_journal journal page = code_by (JournalValue × Page) (coded× journal page) (λ d. (d.journal, d.page))
     (λ p. record { journal = p.0; page = p.1 }) (λ _. refl)

@@ -99,11 +99,11 @@ impl Model for PagedJournal {
     ghost use Rattle.std.specs.Prelude.{◌≡◌};
     ghost use Rattle.dac_journal.specs.contracts.journal.Journal as journal_row;
     ghost use Rattle.dac_pages.specs.contracts.page.Page as page_row;
-    ghost use Rattle.dac_sites.specs.Paged.{DeskValue, coded_desk, page_after};
+    ghost use Rattle.dac_sites.specs.Paged.{PagedJournalValue, coded_paged_journal, page_after};
 
-    ghost Value = { DeskValue };
+    ghost Value = { PagedJournalValue };
 
-    ghost coded = { coded_desk journal_row.the_row.coded page_row.the_row.coded };
+    ghost coded = { coded_paged_journal journal_row.the_row.coded page_row.the_row.coded };
 
     ghost view = { λ d. record { journal = d.journal; page = d.pages.shown } };
 

@@ -3,7 +3,7 @@
 ghost use Rattle.std.specs.Prelude.{◌≡◌, ◌≢◌, ◌↔◌, ◌+◌, ◌<◌, length, Some, Ok, Err, IfOk, IfErr, MatchOption, All, sum_by, vec_len};
 ghost use Rattle.dac_journal.specs.declared.limits.TheConstants.{MAX_RECORDS};
 ghost use Rattle.dac_journal.specs.Journals.{calls_of};
-ghost use Rattle.dac_sites.specs.Behind.{WentOn, NotTaken, SeatDiffers, StrangerFrom, NotClosed};
+ghost use Rattle.dac_sites.specs.Behind.{WentOn, NotTaken, SeatDiffers, FirstUnseated, NotClosed};
 ghost use Rattle.dac_sites.specs.Paged.{page_after};
 ghost use Rattle.dac_sites.specs.Receipts.{note_of};
 ghost use Rattle.dac_sites.specs.Added.{Added, AddedRefused, CallAdded, CallRefused};
@@ -191,9 +191,9 @@ fn seat_at<L: SiteName>(seats: &[Seat<L>], number: u16) -> Option<usize>
 }
 
 /// The place of the first record that belongs to none of these seats.
-fn stranger<L: SiteName>(records: &[Record], seats: &[Seat<L>]) -> Option<u64>
+fn unseated_record<L: SiteName>(records: &[Record], seats: &[Seat<L>]) -> Option<u64>
     ensures { MatchOption result (All (λ r. IsOneOf r.seat (λ s. s.number) seats.now) records.now)
-        (λ p. StrangerFrom p 1 seats.now records.now) }
+        (λ p. FirstUnseated p 1 seats.now records.now) }
 {
     for i in 0..records.len() {
         let one = &records[i];
@@ -285,7 +285,7 @@ impl<L: SiteName> Site<L> {
         if let Some(place) = mismatch(journal.records(), seats.as_slice()) {
             return Err(CloseFault::Mismatch { place });
         }
-        if let Some(place) = stranger(journal.records(), seats.as_slice()) {
+        if let Some(place) = unseated_record(journal.records(), seats.as_slice()) {
             return Err(CloseFault::Mismatch { place });
         }
         let none = seats[0].share.empty();

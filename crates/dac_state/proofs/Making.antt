@@ -13,7 +13,7 @@ use Rattle.dac_wishes.specs.DrainsValue.{DrainsValue, AreDrains, AreDrainsBelow,
 use Rattle.dac_wishes.specs.laws.DrainsValue.{drains_laws}
 use Rattle.dac_meaning.specs.StateValue.{StateValue, IsState, permissions_of, wishes_of, drains_of, join}
 use Rattle.dac_meaning.specs.laws.StateLaws.{heard-join, permissions-join, wishes-join, lives-join, claims-join, drains-join}
-use Rattle.dac_state.specs.Heard.{heard_beside}
+use Rattle.dac_state.specs.Heard.{heard_given}
 use Rattle.dac_state.specs.declared.heard.Heard.{Heard}
 use Rattle.dac_state.specs.Parts.{AreParts, state_of_parts}
 
@@ -70,8 +70,8 @@ module _ {h g : Dots} {p q : PermissionsValue} {w v : WishesValue} {l m : Lives}
   known_of_drains e = e ∙ sym (λ i. set.union (one.drained i) (other.drained i))
 
   -- the dots heard, given joined wishes, are those heard on either side
-  pub heard_joined : {k : Dots} {y : WishesValue} (n : Heard) → k ≡ set.union w.known v.known → heard_beside n k ≡ set.union h g → y ≡ join_wishes w v → heard_beside n y.known ≡ set.union h g
-  heard_joined n known heard wishes = ap (λ (z : WishesValue). heard_beside n z.known) wishes ∙ ap (heard_beside n) (known-join w v ∙ sym known) ∙ heard
+  pub heard_joined : {k : Dots} {y : WishesValue} (n : Heard) → k ≡ set.union w.known v.known → heard_given n k ≡ set.union h g → y ≡ join_wishes w v → heard_given n y.known ≡ set.union h g
+  heard_joined n known heard wishes = ap (λ (z : WishesValue). heard_given n z.known) wishes ∙ ap (heard_given n) (known-join w v ∙ sym known) ∙ heard
 
   -- if wishes know no more dots, neither do permissions or drains
   pub permissions_within : IsSubset w.known v.known → IsSubset p.known q.known

@@ -6,7 +6,7 @@ ghost use Rattle.dac_wishes.specs.PermitMeaning.{over_of as over_of_permit};
 ghost use Rattle.dac_wishes.specs.WishMeaning.{over_of as over_of_wish};
 ghost use Rattle.dac_meaning.specs.StateValue.{drains_of, permissions_of, wishes_of};
 ghost use Rattle.dac_meaning.specs.Meaning.{meaning_of};
-ghost use Rattle.dac_state.specs.Heard.{heard_beside};
+ghost use Rattle.dac_state.specs.Heard.{heard_given};
 
 use crate::heard::Heard;
 use dac_base::NoMemory;
@@ -30,7 +30,7 @@ pub(crate) fn replaced_by(alloc: Global, op: &Op) -> Result<DotList, NoMemory>
 pub(crate) fn heard_by(alloc: Global, op: &Op, known: &Context) -> Result<Heard, NoMemory>
     requires { known.now ≡ (meaning_of (op.now ∷ [])).known }
     ensures { IfOk result
-        (λ heard. heard_beside heard known.now ≡ (meaning_of (op.now ∷ [])).heard) }
+        (λ heard. heard_given heard known.now ≡ (meaning_of (op.now ∷ [])).heard) }
 {
     laws::delta_is_meaning();
     if op.act().over().is_empty() {
@@ -106,7 +106,7 @@ pub(crate) fn permissions_by(
     laws::delta_is_meaning();
     op.tells_invariant();
     let act = permit_act(op.act(), over);
-    let permissions = Permissions::delta_beside(alloc, op.dot(), &act, known)?;
+    let permissions = Permissions::delta_with_context(alloc, op.dot(), &act, known)?;
     match act {
         PermitAct::Permit {
             key: _,
@@ -174,6 +174,6 @@ pub(crate) fn drains_by(
     laws::delta_is_meaning();
     op.tells_invariant();
     let act = drain_act(op.act(), over);
-    let drains = Drains::delta_beside(alloc, op.dot(), &act, known)?;
+    let drains = Drains::delta_with_context(alloc, op.dot(), &act, known)?;
     Ok(drains)
 }

@@ -1,7 +1,7 @@
 //! The parts of a state.
 ghost use Rattle.std.specs.Prelude.{◌≡◌, ◌↔◌, IsTrue, IfOk};
 ghost use Rattle.dac_meaning.specs.StateValue.{IsState, IsBelow, drains_of, join, permissions_of, wishes_of};
-ghost use Rattle.dac_state.specs.Heard.{heard_beside};
+ghost use Rattle.dac_state.specs.Heard.{heard_given};
 ghost use Rattle.dac_state.specs.Parts.{AreParts, state_of_parts};
 
 use crate::heard::Heard;
@@ -27,17 +27,17 @@ pub(crate) struct Parts {
 
 impl Model for Parts {
     ghost use Rattle.dac_meaning.specs.StateValue.{StateValue, coded_state};
-    ghost use Rattle.dac_state.specs.Heard.{heard_beside};
+    ghost use Rattle.dac_state.specs.Heard.{heard_given};
     ghost use Rattle.dac_state.specs.Parts.{AreParts, state_of_parts};
 
     ghost Value = { StateValue };
 
     ghost coded = { coded_state };
 
-    ghost view = { λ a. state_of_parts (heard_beside a.heard a.wishes.known) a.permissions a.wishes
+    ghost view = { λ a. state_of_parts (heard_given a.heard a.wishes.known) a.permissions a.wishes
         a.lives a.claims a.drains };
 
-    ghost invariant = { λ a. AreParts (heard_beside a.heard a.wishes.known) a.permissions a.wishes
+    ghost invariant = { λ a. AreParts (heard_given a.heard a.wishes.known) a.permissions a.wishes
         a.lives a.claims a.drains };
 }
 
@@ -69,10 +69,10 @@ impl Parts {
         claims: Claims,
         drains: Drains,
     ) -> Self
-        requires { AreParts (heard_beside heard wishes.known) permissions wishes lives claims
+        requires { AreParts (heard_given heard wishes.known) permissions wishes lives claims
             drains }
         ensures { result
-            ≡ state_of_parts (heard_beside heard wishes.known) permissions wishes lives claims
+            ≡ state_of_parts (heard_given heard wishes.known) permissions wishes lives claims
             drains }
     {
         Parts {
@@ -154,11 +154,13 @@ impl Parts {
         let mine = self.wishes.context();
         let theirs = other.wishes.context();
         let (known, heard) = self.heard.join(mine, &other.heard, theirs)?;
-        let permissions = self.permissions.join_beside(&other.permissions, &known)?;
-        let wishes = self.wishes.join_beside(&other.wishes, &known)?;
+        let permissions = self
+            .permissions
+            .join_with_context(&other.permissions, &known)?;
+        let wishes = self.wishes.join_with_context(&other.wishes, &known)?;
         let lives = self.lives.join(&other.lives)?;
         let claims = self.claims.join(&other.claims)?;
-        let drains = self.drains.join_beside(&other.drains, &known)?;
+        let drains = self.drains.join_with_context(&other.drains, &known)?;
         Ok(Parts {
             alloc: self.alloc,
             heard,
@@ -178,16 +180,16 @@ impl Parts {
         if !self.heard.leq(known, &other.heard, other.wishes.context()) {
             return false;
         }
-        if !self.permissions.leq_beside(&other.permissions) {
+        if !self.permissions.leq_with_contexts(&other.permissions) {
             return false;
         }
-        if !self.wishes.leq_beside(&other.wishes) {
+        if !self.wishes.leq_with_contexts(&other.wishes) {
             return false;
         }
         if !self.lives.leq(&other.lives) {
             return false;
         }
-        self.claims.leq(&other.claims) && self.drains.leq_beside(&other.drains)
+        self.claims.leq(&other.claims) && self.drains.leq_with_contexts(&other.drains)
     }
 
     /// Whether the parts are equal. The wishes come first, because the known dots are paired with them and differ most
@@ -210,7 +212,7 @@ impl Parts {
         if !self.permissions.equal(&other.permissions) {
             return false;
         }
-        self.drains.leq_beside(&other.drains) && other.drains.leq_beside(&self.drains)
+        self.drains.leq_with_contexts(&other.drains) && other.drains.leq_with_contexts(&self.drains)
     }
 
     /// A copy, which can share immutable memory.

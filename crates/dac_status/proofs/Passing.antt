@@ -31,7 +31,7 @@ use Rattle.dac_wishes.specs.Keys.{key_cmp, same_key}
 use Rattle.dac_wishes.specs.laws.Keys.{exact_keys, keys_total, same_key_is}
 use Rattle.dac_wishes.specs.Writes.{Writes, same_dot, write}
 use Rattle.dac_wishes.specs.laws.KeyedWrites.{same_dot_itself}
-use Rattle.dac_wishes.specs.PermissionsValue.{is_permitted_by, permits_at, says_true}
+use Rattle.dac_wishes.specs.PermissionsValue.{is_permitted_by, permits_at, is_permitting}
 use Rattle.dac_wishes.specs.PermitsByKey.{permits_by_key}
 use Rattle.dac_wishes.specs.laws.PermitsByKey.{are_permits, by_key_again, permits_stored}
 use Rattle.dac_wishes.specs.StoredPermits.{DotFlags}
@@ -214,7 +214,7 @@ started_left key s left same =
     (λ h. let d = words.0 h in kept_if_some key s.starts d.0 d.1)
 
 -- if there are permits, all must say true
-pub by_permits : (default : Bool) (ps : DotFlags) → nat_eq (length ps) 0 ≡ false → is_permitted_by default ps ≡ list_all (λ (p : Dot × Flag). says_true p.1) ps
+pub by_permits : (default : Bool) (ps : DotFlags) → nat_eq (length ps) 0 ≡ false → is_permitted_by default ps ≡ list_all (λ (p : Dot × Flag). is_permitting p.1) ps
 by_permits default [] e = absurd (true≢false e)
 by_permits default (p ∷ ps) e = refl
 

@@ -8,7 +8,7 @@ ghost use Rattle.dac_lattice.specs.declared.flags.Flag.{Flag as FlagValue};
 ghost use Rattle.dac_lattice.specs.Search.{IsInOrder};
 ghost use Rattle.dac_store.specs.Parts.{HasSameFrom};
 ghost use Rattle.dac_wishes.specs.Keys.{key_cmp};
-ghost use Rattle.dac_wishes.specs.PermissionsValue.{says_true, is_permitted_by};
+ghost use Rattle.dac_wishes.specs.PermissionsValue.{is_permitting, is_permitted_by};
 ghost use Rattle.dac_config.specs.Table.{app_count};
 ghost use Rattle.dac_placement.specs.Placement.{is_drained_at, is_permitted_at, is_started_at};
 ghost use Rattle.dac_status.specs.Summaries.{mark_at};
@@ -131,8 +131,8 @@ fn store_from<'a, S: DotStore>(left: &mut Entries<'a, Key, S>, key: Key) -> Opti
 }
 
 /// Whether a permit says true.
-fn says_true(flag: Flag) -> bool
-    ensures { result ≡ says_true flag }
+fn is_permitting(flag: Flag) -> bool
+    ensures { result ≡ is_permitting flag }
 {
     match flag {
         Flag::Up => true,
@@ -153,7 +153,7 @@ fn permitted_by(default: bool, permits: &[(Dot, Flag)]) -> bool
 
 /// Whether each permit says true.
 fn all_say_true(permits: &[(Dot, Flag)]) -> bool
-    ensures { result ≡ list_all (λ (p : DotValue × FlagValue). says_true p.1) permits.now }
+    ensures { result ≡ list_all (λ (p : DotValue × FlagValue). is_permitting p.1) permits.now }
 {
-    permits.iter().all(|permit| says_true(permit.1))
+    permits.iter().all(|permit| is_permitting(permit.1))
 }

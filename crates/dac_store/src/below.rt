@@ -15,7 +15,7 @@ use dac_origins::MapKey;
 use std::cmp::Ordering;
 
 /// Whether both stores are known to be equal, which means that one is below the other with any contexts.
-fn is_surely_below<S: DotStore>(mine: Option<&S>, theirs: &S) -> bool
+fn are_known_equal<S: DotStore>(mine: Option<&S>, theirs: &S) -> bool
     ensures { result ≡ true → (c d : Dots)
         → S.below (store_at S.nothing (option_copied mine.entry)) c theirs.now d }
 {
@@ -88,7 +88,7 @@ pub(crate) fn are_below<K: MapKey, S: DotStore>(
             continue;
         }
         let mine = store_from(left, *key);
-        let same = is_surely_below(mine, theirs);
+        let same = are_known_equal(mine, theirs);
         differed = !same;
         if same {
             continue;

@@ -100,7 +100,7 @@ impl<S: DotStore> Causal<S> {
     }
 
     /// The join with the other value. It shares `union`, the union of both contexts.
-    pub fn join_beside(&self, other: &Self, union: &SharedContext) -> Result<Self, NoMemory>
+    pub fn join_with_context(&self, other: &Self, union: &SharedContext) -> Result<Self, NoMemory>
         requires { union.now ≡ set.union self.now.context other.now.context }
         ensures { IfOk result (λ joined. joined ≡ join_stored S.join self.now other.now) }
     {
@@ -112,7 +112,7 @@ impl<S: DotStore> Causal<S> {
     }
 
     /// Whether this value is below the other one, if this context is a subset of the other.
-    pub fn leq_beside(&self, other: &Self) -> bool
+    pub fn leq_with_contexts(&self, other: &Self) -> bool
         requires { IsSubset self.now.context other.now.context }
         ensures { IsTrue result ↔ IsStoredBelow S.below self.now other.now }
     {
@@ -140,7 +140,7 @@ impl<S: DotStore> Causal<S> {
         if self.store.is_same(&other.store) {
             return true;
         }
-        self.leq_beside(other) && other.leq_beside(self)
+        self.leq_with_contexts(other) && other.leq_with_contexts(self)
     }
 
     /// Whether this side's store is empty and its context is known to contain no dot of the other's store, so that a
@@ -166,7 +166,7 @@ impl<S: DotStore> Causal<S> {
     }
 
     /// Whether the other context has more than twice as many origins: then its store is much longer, as after a reboot.
-    fn is_far_behind(&self, other: &Self) -> bool {
+    fn is_much_smaller(&self, other: &Self) -> bool {
         self.context().rows() < other.context().rows() / 2
     }
 
@@ -183,7 +183,7 @@ impl<S: DotStore> Causal<S> {
         if self.leaves(other) {
             return other.store.copy();
         }
-        if self.is_far_behind(other) {
+        if self.is_much_smaller(other) {
             return other
                 .store
                 .join_in(other.context(), &self.store, self.context());
@@ -211,12 +211,12 @@ impl<S: DotStore> Lattice for Causal<S> {
 
     fn join(&self, other: &Self) -> Result<Self, NoMemory> {
         let union = self.context.union(&other.context)?;
-        let joined = self.join_beside(other, &union)?;
+        let joined = self.join_with_context(other, &union)?;
         Ok(joined)
     }
 
     fn leq(&self, other: &Self) -> bool {
-        self.context().is_subset(other.context()) && self.leq_beside(other)
+        self.context().is_subset(other.context()) && self.leq_with_contexts(other)
     }
 
     fn equal(&self, other: &Self) -> bool {

@@ -15,7 +15,7 @@ use std::marker::Model;
 
 /// A context is small if the other side's set has this many times as many dots. The factor is high because each removal
 /// moves all later dots.
-const FEW_BESIDE: usize = 32;
+const SMALL_CONTEXT_FACTOR: usize = 32;
 
 /// A set of dots, stored as a sorted list. A single dot needs no allocation. Contracts treat it as a finite set.
 #[derive(Drop)]
@@ -122,7 +122,12 @@ impl DotSet {
     }
 
     /// Inserts the dots of `from` that stay in a join with the set `beside` and its context.
-    fn add_staying(&mut self, from: &Self, beside: &Self, heard: &Context) -> Result<(), NoMemory>
+    fn insert_surviving(
+        &mut self,
+        from: &Self,
+        beside: &Self,
+        heard: &Context,
+    ) -> Result<(), NoMemory>
         ensures { OnOk result ((q : _)
             → set.contains self.new q
             ≡ (set.contains self.old q
@@ -137,7 +142,7 @@ impl DotSet {
     }
 
     /// Removes the dots that the context of another side has and its set lacks.
-    fn drop_missing(&mut self, beside: &Self, heard: &Context) -> Result<(), NoMemory>
+    fn remove_replaced(&mut self, beside: &Self, heard: &Context) -> Result<(), NoMemory>
         ensures { OnOk result ((q : _)
             → set.contains self.new q
             ≡ (set.contains self.old q && may_stay beside.now heard.now q)) }
@@ -157,8 +162,8 @@ impl DotSet {
             (λ joined. joined ≡ join_sets self.now heard.now few.now few_heard.now) }
     {
         let mut joined = self.copy_with_room(few.dots().len())?;
-        joined.drop_missing(few, few_heard)?;
-        joined.add_staying(few, self, heard)?;
+        joined.remove_replaced(few, few_heard)?;
+        joined.insert_surviving(few, self, heard)?;
         Ok(joined)
     }
 
@@ -174,8 +179,8 @@ impl DotSet {
     {
         let most = self.dots().len().max(other.dots().len());
         let mut joined = DotSet::with_room(self.alloc, most)?;
-        joined.add_staying(self, other, other_heard)?;
-        joined.add_staying(other, self, heard)?;
+        joined.insert_surviving(self, other, other_heard)?;
+        joined.insert_surviving(other, self, heard)?;
         Ok(joined)
     }
 }
@@ -227,10 +232,10 @@ impl DotStore for DotSet {
         if self.is_same(other) {
             return self.copy();
         }
-        if other_heard.has_at_most(self.dots().len() / FEW_BESIDE) {
+        if other_heard.has_at_most(self.dots().len() / SMALL_CONTEXT_FACTOR) {
             return self.join_few(heard, other, other_heard);
         }
-        if heard.has_at_most(other.dots().len() / FEW_BESIDE) {
+        if heard.has_at_most(other.dots().len() / SMALL_CONTEXT_FACTOR) {
             return other.join_few(other_heard, self, heard);
         }
         self.join_each(heard, other, other_heard)

@@ -13,7 +13,7 @@ use Rattle.std.proofs.lemmas.Option.{slice_get_within, get_or_from_slice_get}
 use Rattle.dac_base.specs.declared.NodeId.{NodeId}
 use Rattle.dac_base.specs.declared.AppId.{AppId}
 use Rattle.dac_origins.specs.declared.dot.Origin.{Origin}
-use Rattle.dac_config.specs.Table.{Table, AppRow, node_count, app_count, group_of, group_among, HaveOneList}
+use Rattle.dac_config.specs.Table.{Table, AppRow, node_count, app_count, group_of, group_among, HaveEqualLists}
 use Rattle.dac_chains.specs.Lives.{live_at}
 use Rattle.dac_wishes.specs.PermissionsValue.{is_permitted}
 use Rattle.dac_meaning.specs.StateValue.{StateValue, permissions_of}
@@ -36,7 +36,7 @@ group_by_list t app node None e = refl
 group_by_list t app node (Some row) e = refl
 
 -- if two configurations have one list for an application, each node has the same group in both
-pub one_group : (t u : Table) (app : AppId) (node : NodeId) → HaveOneList t u app → group_of t app node ≡ group_of u app node
+pub one_group : (t u : Table) (app : AppId) (node : NodeId) → HaveEqualLists t u app → group_of t app node ≡ group_of u app node
 one_group t u app node one =
     group_by_list t app node (slice_get t.apps app.0) refl
     ∙ ap (λ groups. group_among groups node.0) one.groups

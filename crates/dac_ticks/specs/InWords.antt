@@ -1,4 +1,4 @@
--- The turn of a tick in words: it claims exactly the applications whose candidate is its own node and whose verdict is
+-- The sweep of a tick in words: it claims exactly the applications whose candidate is its own node and whose verdict is
 -- due, each in the state that the earlier claims left.
 use Rattle.std.specs.Prelude.{◌≡◌, ◌⊎◌, ℕ, List, [], ◌∷◌, Option, None, Some, ◌+◌, ◌≤◌}
 use Rattle.dac_base.specs.declared.NodeId.{NodeId}
@@ -18,7 +18,7 @@ use Rattle.dac_decide.specs.FailoverWait.{Note, IsDueBy, IsHeldAt, waits_of}
 use Rattle.dac_commands.specs.Written.{HasLastTerm, IsNextClaim}
 use Rattle.dac_base.specs.declared.limits.TheConstants.{MAX_COUNTER}
 use Rattle.dac_commands.specs.Commands.{greatest_counter}
-use Rattle.dac_ticks.specs.Ticks.{turn_of}
+use Rattle.dac_ticks.specs.Ticks.{sweep_of}
 
 -- the application's verdict names this node, and is due
 pub record IsMine (t : Table) (own : Origin) (notes : List Note) (now : ℕ) (s : StateValue) (app : AppId)
@@ -53,16 +53,16 @@ pub record IsClaimOf (own : Origin) (s : StateValue) (app : AppId) (verdict : Ve
   pub comes : ComesBy s app verdict how from
   pub claims : IsNextClaim s app how from o.act
 
--- the operations and passed applications of the rest of a turn, which begins in some state
+-- the operations and passed applications of the rest of a sweep, which begins in some state
 abbrev pub Onward : Type 1
 Onward = StateValue → List Operation → List AppId → Type 0
 
 module _ (t : Table) (own : Origin) (notes : List Note) (now : ℕ) (s : StateValue) (app : AppId) (onward : Onward) where
-  -- The application isn't the node's to claim, and the turn leaves it alone.
+  -- The application isn't the node's to claim, and the sweep leaves it alone.
   abbrev pub IsLeft : List Operation → List AppId → Type 0
   IsLeft ops passed = IsNotMine t own notes now s app × onward s ops passed
 
-  -- The application is the node's to claim, and the next operation claims it. The turn continues in the state with the
+  -- The application is the node's to claim, and the next operation claims it. The sweep continues in the state with the
   -- claim.
   abbrev pub IsClaimed : List Operation → List AppId → Type 0
   IsClaimed ops passed =
@@ -70,7 +70,7 @@ module _ (t : Table) (own : Origin) (notes : List Note) (now : ℕ) (s : StateVa
       × ((ops ≡ o ∷ rest) × (IsMine t own notes now s app verdict
       × (IsClaimOf own s app verdict o × onward (join s (meaning_of (o ∷ []))) rest passed)))
 
-  -- The application is the node's to claim, but its terms are used up, so that the turn passes it over.
+  -- The application is the node's to claim, but its terms are used up, so that the sweep passes it over.
   abbrev pub IsPassed : List Operation → List AppId → Type 0
   IsPassed ops passed =
       (verdict : Verdict) × (rest : List AppId)
@@ -78,10 +78,10 @@ module _ (t : Table) (own : Origin) (notes : List Note) (now : ℕ) (s : StateVa
       × (HasLastTerm s app × onward s ops rest)))
 
 -- Each of these applications in order is left, claimed or passed over.
-abbrev pub IsTurn : Table → Origin → List Note → ℕ → StateValue → List AppId → List Operation → List AppId → Type 0
-IsTurn t own notes now s [] ops passed = (ops ≡ []) × (passed ≡ [])
-IsTurn t own notes now s (app ∷ apps) ops passed =
-    let onward : Onward = λ later issued passed. IsTurn t own notes now later apps issued passed in
+abbrev pub IsSweep : Table → Origin → List Note → ℕ → StateValue → List AppId → List Operation → List AppId → Type 0
+IsSweep t own notes now s [] ops passed = (ops ≡ []) × (passed ≡ [])
+IsSweep t own notes now s (app ∷ apps) ops passed =
+    let onward : Onward = λ later issued passed. IsSweep t own notes now later apps issued passed in
     IsLeft t own notes now s app onward ops passed
     ⊎ (IsClaimed t own notes now s app onward ops passed ⊎ IsPassed t own notes now s app onward ops passed)
 
@@ -89,7 +89,7 @@ IsTurn t own notes now s (app ∷ apps) ops passed =
 abbrev pub HasRoom : Table → Origin → StateValue → Type 0
 HasRoom t own s = greatest_counter own s.known + app_count t ≤ MAX_COUNTER
 
--- A turn issues and passes over what the words say, if there is a counter for each application.
-abbrev pub TurnsInWords : Type 0
-TurnsInWords = (t : Table) (own : Origin) (notes : List Note) (now : ℕ) (s : StateValue) → HasRoom t own s
-    → let turn = turn_of t own (waits_of t notes) now s in IsTurn t own notes now s (apps_of t) turn.ops turn.passed
+-- A sweep issues and passes over what the words say, if there is a counter for each application.
+abbrev pub SweepsInWords : Type 0
+SweepsInWords = (t : Table) (own : Origin) (notes : List Note) (now : ℕ) (s : StateValue) → HasRoom t own s
+    → let sweep = sweep_of t own (waits_of t notes) now s in IsSweep t own notes now s (apps_of t) sweep.ops sweep.passed

@@ -15,7 +15,7 @@ use Rattle.dac_config.specs.Table.{Table}
 use Rattle.dac_placement.specs.declared.verdicts.Verdict.TheVariants.{Kept}
 use Rattle.dac_placement.specs.Placement.{IsVerdict, RunsAt}
 use Rattle.dac_decide.specs.declared.waits.Noted.{Noted}
-use Rattle.dac_ticks.specs.Ticks.{turn_from, turn_over}
+use Rattle.dac_ticks.specs.Ticks.{sweep_from, sweep_over}
 
 -- the operation claims the application
 abbrev pub ClaimsApp : AppId → Operation → Type 0
@@ -40,11 +40,11 @@ AreLaterClaims s os = (o : Operation) (app : AppId) → IsOperationOf o os → (
 -- configuration.
 abbrev pub ClaimsAreLater : Type 0
 ClaimsAreLater = (t : Table) (own : Origin) (waits : List (Option Noted)) (now : ℕ) (s : StateValue) (apps : List AppId)
-    → IsState s → AreLaterClaims s (turn_over t own waits now (turn_from s) apps).ops
+    → IsState s → AreLaterClaims s (sweep_over t own waits now (sweep_from s) apps).ops
 
 -- The applications that a live incarnation claims in a pass over some applications are kept at its node, in the state
 -- after all these claims. This covers a whole tick, and each claim alone.
 abbrev pub ClaimsStay : Type 0
 ClaimsStay = (t : Table) (own : Origin) (waits : List (Option Noted)) (now : ℕ) (s : StateValue) (apps : List AppId)
     → IsState s → IsLive s.lives own.node own.inc
-    → let turn = turn_over t own waits now (turn_from s) apps in AreKeptAt t turn.state own.node turn.ops
+    → let sweep = sweep_over t own waits now (sweep_from s) apps in AreKeptAt t sweep.state own.node sweep.ops

@@ -44,34 +44,34 @@ is_mine_by t own waits now s app verdict = option_map_or (λ (n : NodeId). n.0 =
 abbrev pub is_mine : Table → Origin → List (Option Noted) → ℕ → StateValue → AppId → Bool
 is_mine t own waits now s app = is_mine_by t own waits now s app (verdict_of t s app)
 
--- A turn: a node's pass over its applications at one tick. So far it issued these claims, passed over these
+-- A sweep: a node's pass over its applications at one tick. So far it issued these claims, passed over these
 -- applications because their terms are used up, and reached this state
-pub record Turn : Type 0 where
+pub record Sweep : Type 0 where
   pub ops : List Operation
   pub passed : List AppId
   pub state : StateValue
 
--- a turn before its first application
-abbrev pub turn_from : StateValue → Turn
-turn_from s = record { ops = []; passed = []; state = s }
+-- a sweep before its first application
+abbrev pub sweep_from : StateValue → Sweep
+sweep_from s = record { ops = []; passed = []; state = s }
 
-abbrev pub passing : Turn → AppId → Turn
-passing turn app = record { ops = turn.ops; passed = turn.passed ++ app ∷ []; state = turn.state }
+abbrev pub passing : Sweep → AppId → Sweep
+passing sweep app = record { ops = sweep.ops; passed = sweep.passed ++ app ∷ []; state = sweep.state }
 
-abbrev pub claiming : Turn → Operation → Turn
-claiming turn o =
-    record { ops = turn.ops ++ o ∷ []; passed = turn.passed; state = join turn.state (meaning_of (o ∷ [])) }
+abbrev pub claiming : Sweep → Operation → Sweep
+claiming sweep o =
+    record { ops = sweep.ops ++ o ∷ []; passed = sweep.passed; state = join sweep.state (meaning_of (o ∷ [])) }
 
--- a turn after one more application
-abbrev pub turned : Table → Origin → List (Option Noted) → ℕ → Turn → AppId → Turn
-turned t own waits now turn app =
-    if is_mine t own waits now turn.state app then if terms_used_up turn.state app then passing turn app else claiming turn (claim_of t own turn.state app)
-    else turn
+-- a sweep after one more application
+abbrev pub swept : Table → Origin → List (Option Noted) → ℕ → Sweep → AppId → Sweep
+swept t own waits now sweep app =
+    if is_mine t own waits now sweep.state app then if terms_used_up sweep.state app then passing sweep app else claiming sweep (claim_of t own sweep.state app)
+    else sweep
 
--- a turn after these applications
-abbrev pub turn_over : Table → Origin → List (Option Noted) → ℕ → Turn → List AppId → Turn
-turn_over t own waits now turn apps = fold (turned t own waits now) turn apps
+-- a sweep after these applications
+abbrev pub sweep_over : Table → Origin → List (Option Noted) → ℕ → Sweep → List AppId → Sweep
+sweep_over t own waits now sweep apps = fold (swept t own waits now) sweep apps
 
--- the turn of a tick: a pass over all applications of the configuration, with these waits
-abbrev pub turn_of : Table → Origin → List (Option Noted) → ℕ → StateValue → Turn
-turn_of t own waits now s = turn_over t own waits now (turn_from s) (apps_of t)
+-- the sweep of a tick: a pass over all applications of the configuration, with these waits
+abbrev pub sweep_of : Table → Origin → List (Option Noted) → ℕ → StateValue → Sweep
+sweep_of t own waits now s = sweep_over t own waits now (sweep_from s) (apps_of t)

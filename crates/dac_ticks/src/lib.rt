@@ -1,8 +1,8 @@
 //! Ticks: at a tick a controller claims the applications that its node should run now.
 //!
-//! [`turn_of`] makes a [`Turn`], a node's pass over all its applications at one tick, in the order of the configuration
+//! [`sweep_of`] makes a [`Sweep`], a node's pass over all its applications at one tick, in the order of the configuration
 //! file. Each application is evaluated in the state that this tick's earlier claims left, so that a controller sees its
-//! own claims, and the load that they bring. The turn holds the operations to issue, the applications that were passed
+//! own claims, and the load that they bring. The sweep holds the operations to issue, the applications that were passed
 //! over, and the state after the claims. The caller carries it out; nothing here changes a state.
 //!
 //! A tick computes a verdict for each application for which its node is eligible, or reads all verdicts from a board of
@@ -14,8 +14,8 @@
 #![tactic(auto)]
 
 pub use kept::KeptBoard;
-pub use turning::{Turn, board_under, turn_of};
+pub use sweeping::{Sweep, board_under, sweep_of};
 
 mod kept;
 pub mod laws;
-mod turning;
+mod sweeping;

@@ -16,7 +16,7 @@ use Rattle.dac_tokens.specs.declared.token.Class.TheVariants as class
 use Rattle.dac_tokens.specs.declared.token.Symbol.{Symbol}
 use Rattle.dac_tokens.specs.declared.token.Symbol.TheVariants.{OpenList, CloseList, OpenTuple, CloseTuple, Comma, FullStop}
 use Rattle.dac_tokens.specs.Scan.{is_blank, class_of, ends_stop, breaks_number, stretch}
-use Rattle.dac_tokens.specs.TokenGrammar.{IsBlank, StartsGap, Begins, GoesOnAsNumber, EndsTerm, bytes_of}
+use Rattle.dac_tokens.specs.TokenGrammar.{IsBlank, StartsGap, Begins, ContinuesAsNumber, EndsTerm, bytes_of}
 use Rattle.dac_tokens.specs.TokenFaults.{IsRefused, IsUnknown}
 use Rattle.dac_tokens.specs.laws.NameBytes.{tells_letter}
 
@@ -34,7 +34,7 @@ pub tells_stop : (rest : List ℕ) → Decides (ends_stop rest) (EndsTerm rest)
 tells_stop [] = (λ e. inl refl, λ h. refl)
 tells_stop (b ∷ bs) = (λ e. inr (grind (arith, nat_tests)), λ h. grind (arith, nat_tests))
 
-pub tells_break : (rest : List ℕ) → (Begins IsAsciiDigit rest → ⊥) → Decides (breaks_number rest) (GoesOnAsNumber rest)
+pub tells_break : (rest : List ℕ) → (Begins IsAsciiDigit rest → ⊥) → Decides (breaks_number rest) (ContinuesAsNumber rest)
 tells_break [] no_digit = (λ e. absurd cc, λ h. absurd h)
 tells_break (b ∷ []) no_digit = (λ e. grind (arith, nat_tests), λ h. grind (arith, nat_tests))
 tells_break (b ∷ c ∷ bs) no_digit = (λ e. grind (arith, nat_tests), λ h. grind (arith, nat_tests))

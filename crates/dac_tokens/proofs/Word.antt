@@ -20,7 +20,7 @@ use Rattle.dac_tokens.specs.Gives.{◌>>=◌}
 use Rattle.dac_tokens.specs.Words.{Word, Punctuation, Name, Number, Text, End, is_end, Located}
 use Rattle.dac_tokens.specs.Scan.{class_of, is_name_byte, is_quotable, is_fun, stretch, ends_stop, breaks_number, bad_token, unsupported, atom_at, closed_at, quoted_at, two_quotes, inside_string, string_at, number_at, negative_at, token_of, word_at}
 use Rattle.dac_tokens.specs.Stream.{depth_after}
-use Rattle.dac_tokens.specs.TokenGrammar.{StartsGap, Begins, IsNameByte, IsQuotable, IsUnquotable, IsDigits, IsNumber, GoesOnAsNumber, IsStringText, Empty, Plain, Escape, Spells}
+use Rattle.dac_tokens.specs.TokenGrammar.{StartsGap, Begins, IsNameByte, IsQuotable, IsUnquotable, IsDigits, IsNumber, ContinuesAsNumber, IsStringText, Empty, Plain, Escape, Spells}
 use Rattle.dac_tokens.specs.TokenFaults.{IsOpeningBracket, IsRefused, IsUnknown, NoToken, LoneDot, LoneMinus, Unknown, Function, OtherNumber, InQuotes, NoQuote, ThreeQuotes, ControlEscape, NoDoubleQuote, Refused, TooDeep}
 use Rattle.dac_tokens.specs.laws.NameBytes.{tells_name_byte}
 use Rattle.dac_tokens.proofs.Bytes.{fails, tells_digit, tells_stop, tells_break, letter_class, digit_class, refused_class, gap_class, unknown_class, IsOf, class_is, stretch-first, taken_length, run_passes, run_stops, run_of, taken_run, dropped_run}
@@ -277,7 +277,7 @@ numbers_are true at (d ∷ ds) own rest spelled ends =
     let size = run_of is_ascii_digit IsAsciiDigit tells_digit (d ∷ ds) rest spelled.1.goes_on ends in
     rw spelled.0 (cond-false _ _ _ (ne_eqb (stretch is_ascii_digit ((d ∷ ds) ++ rest)) 0 (λ none. omega (arith, size))) ∙ number_is at true (d ∷ ds) rest spelled.1.goes_on ends)
 
-no_digit : (rest : List ℕ) → (GoesOnAsNumber rest → ⊥) → Begins IsAsciiDigit rest → ⊥
+no_digit : (rest : List ℕ) → (ContinuesAsNumber rest → ⊥) → Begins IsAsciiDigit rest → ⊥
 no_digit [] h d = d
 no_digit (b ∷ bs) h d = h (inl d)
 

@@ -7,7 +7,7 @@ use Rattle.dac_tokens.specs.declared.fault.ConfigFault.{ConfigFault}
 use Rattle.dac_tokens.specs.declared.token.Symbol.{Symbol}
 use Rattle.dac_tokens.specs.declared.token.TheConstants.{MAX_DEPTH}
 use Rattle.dac_tokens.specs.Words.{Located}
-use Rattle.dac_tokens.specs.TokenGrammar.{StartsGap, IsGap, IsNameByte, IsQuotable, IsUnquotable, Begins, bytes_of, IsNumber, GoesOnAsNumber, EndsTerm, IsStringText, IsNextToken, depth_behind}
+use Rattle.dac_tokens.specs.TokenGrammar.{StartsGap, IsGap, IsNameByte, IsQuotable, IsUnquotable, Begins, bytes_of, IsNumber, ContinuesAsNumber, EndsTerm, IsStringText, IsNextToken, depth_after_word}
 
 -- an opening bracket
 abbrev pub IsOpeningBracket : ℕ → Type 0
@@ -38,7 +38,7 @@ pub data NoToken (depth : ℕ) (bytes : List ℕ) : ℕ → FaultKind → Type 0
   Function : (rest : List ℕ) → bytes ≡ codes "fun" ++ rest → ¬ Begins IsNameByte rest
       → NoToken depth bytes 0 Unsupported
   OtherNumber : (negative : Bool) (digits own rest : List ℕ) → bytes ≡ own ++ rest → IsNumber negative digits own
-      → ¬ Begins IsAsciiDigit rest → GoesOnAsNumber rest → NoToken depth bytes 0 Unsupported
+      → ¬ Begins IsAsciiDigit rest → ContinuesAsNumber rest → NoToken depth bytes 0 Unsupported
   InQuotes : (name rest : List ℕ) → bytes ≡ codes "'" ++ (name ++ rest) → All IsQuotable name → Begins IsUnquotable rest
       → NoToken depth bytes (1 + length name) Unsupported
   NoQuote : (name : List ℕ) → bytes ≡ codes "'" ++ name → All IsQuotable name → NoToken depth bytes 0 BadToken
@@ -64,4 +64,4 @@ pub record IsFaultAt (at depth : ℕ) (bytes : List ℕ) (e : ConfigFault) : Typ
 abbrev pub StopAt : ℕ → ℕ → List ℕ → List Located → ConfigFault → Type 0
 StopAt at depth bytes [] e = IsFaultAt at depth bytes e
 StopAt at depth bytes (t ∷ ts) e = (own rest : List ℕ) × IsNextToken at bytes t own rest
-    × (depth_behind depth t.word ≤ MAX_DEPTH) × StopAt (t.at + length own) (depth_behind depth t.word) rest ts e
+    × (depth_after_word depth t.word ≤ MAX_DEPTH) × StopAt (t.at + length own) (depth_after_word depth t.word) rest ts e

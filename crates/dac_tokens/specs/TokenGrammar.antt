@@ -71,9 +71,9 @@ IsNumber false digits own = (own ≡ digits) × IsDigits digits
 IsNumber true digits own = (own ≡ codes "-" ++ digits) × IsDigits digits
 
 -- the number before these bytes continues, or has another form: with a base, underscores or a fraction
-abbrev pub GoesOnAsNumber : List ℕ → Type 0
-GoesOnAsNumber [] = ⊥
-GoesOnAsNumber (b ∷ bs) = IsAsciiDigit b ⊎ (b ≡ 35) ⊎ (b ≡ 95) ⊎ ((b ≡ 46) × Begins IsAsciiDigit bs)
+abbrev pub ContinuesAsNumber : List ℕ → Type 0
+ContinuesAsNumber [] = ⊥
+ContinuesAsNumber (b ∷ bs) = IsAsciiDigit b ⊎ (b ≡ 35) ⊎ (b ≡ 95) ⊎ ((b ≡ 46) × Begins IsAsciiDigit bs)
 
 -- a dot before these bytes is a full stop: a gap begins, or the text ends
 abbrev pub EndsTerm : List ℕ → Type 0
@@ -106,7 +106,7 @@ abbrev pub Spells : Word → List ℕ → List ℕ → Type 0
 Spells (Punctuation FullStop) own rest = (own ≡ codes ".") × EndsTerm rest
 Spells (Punctuation symbol) own rest = own ≡ bytes_of symbol
 Spells (Name name) own rest = IsBare name own rest ⊎ IsQuoted name own
-Spells (Number negative digits) own rest = IsNumber negative digits own × (¬ GoesOnAsNumber rest)
+Spells (Number negative digits) own rest = IsNumber negative digits own × (¬ ContinuesAsNumber rest)
 Spells Text own rest = IsString own rest
 Spells End own rest = ⊥
 
@@ -130,17 +130,17 @@ pub the_limit : MAX_DEPTH ≡ 64
 the_limit = refl
 
 -- the number of brackets open after a token, given the number before it
-abbrev pub depth_behind : ℕ → Word → ℕ
-depth_behind depth (Punctuation OpenList) = depth + 1
-depth_behind depth (Punctuation OpenTuple) = depth + 1
-depth_behind depth (Punctuation CloseList) = depth - 1
-depth_behind depth (Punctuation CloseTuple) = depth - 1
-depth_behind depth _ = depth
+abbrev pub depth_after_word : ℕ → Word → ℕ
+depth_after_word depth (Punctuation OpenList) = depth + 1
+depth_after_word depth (Punctuation OpenTuple) = depth + 1
+depth_after_word depth (Punctuation CloseList) = depth - 1
+depth_after_word depth (Punctuation CloseTuple) = depth - 1
+depth_after_word depth _ = depth
 
 -- after each token at most MAX_DEPTH brackets are open
 abbrev pub NestWell : ℕ → List Located → Type 0
 NestWell depth [] = Unit {0}
-NestWell depth (t ∷ ts) = (depth_behind depth t.word ≤ MAX_DEPTH) × NestWell (depth_behind depth t.word) ts
+NestWell depth (t ∷ ts) = (depth_after_word depth t.word ≤ MAX_DEPTH) × NestWell (depth_after_word depth t.word) ts
 
 -- the whole text is these tokens
 pub record AreTokensOf (text : List ℕ) (tokens : List Located) : Type 0 where

@@ -9,7 +9,7 @@ use Rattle.dac_part_bytes.specs.PartCodecs.{PartCodecs}
 use Rattle.dac_state.specs.StateForm.{IsInForm}
 use Rattle.dac_state.specs.StateReading.{parts_at}
 use Rattle.dac_state.specs.StateSpelling as state
-use Rattle.dac_wire.specs.Decoding.{front_fault, version_in, unless, packet_in}
+use Rattle.dac_wire.specs.Decoding.{preamble_fault, version_in, unless, packet_in}
 use Rattle.dac_wire.specs.Faults.{Fails, Gives, in_packet}
 use Rattle.dac_wire.specs.Reading.{fields_at}
 use Rattle.dac_wire.specs.declared.coding.TheConstants.{PREAMBLE}
@@ -48,18 +48,18 @@ given_ok (Err e) x h = absurd cc
 
 module _ (version : Version) (t : Table) (bytes : List ℕ) where
   -- the fault of an incorrect front is the result for the bytes
-  pub gives_front : (e : WireFault) → front_fault version t bytes ≡ Some e → Gives (Err e) (packet_in version t bytes)
+  pub gives_front : (e : WireFault) → preamble_fault version t bytes ≡ Some e → Gives (Err e) (packet_in version t bytes)
   unfolding packet_in
   gives_front e is = fails_with e.kind e (packet_in version t bytes) (subst IsReal is (front_real version t bytes)) (ap (λ f. unless f (in_packet (fields_at version t (after PREAMBLE (whole bytes))))) is)
 
   -- after a correct front, the result of reading the fields is the result for the bytes
-  pub gives_fields : (result : Result Packet WireFault) → front_fault version t bytes ≡ None → Gives result (in_packet (fields_at version t (after PREAMBLE (whole bytes)))) → Gives result (packet_in version t bytes)
+  pub gives_fields : (result : Result Packet WireFault) → preamble_fault version t bytes ≡ None → Gives result (in_packet (fields_at version t (after PREAMBLE (whole bytes)))) → Gives result (packet_in version t bytes)
   unfolding packet_in
   gives_fields result is gives = subst (Gives result) (sym (ap (λ f. unless f (in_packet (fields_at version t (after PREAMBLE (whole bytes))))) is)) gives
 
   module _ (parts : PartCodecs version t) (states : IsCodec (parts_at version t) (state.state_bytes version) (IsInForm version t)) where
     -- the returned packet is well-formed, with these bytes as its spelling
-    pub found_fields : IsBytes bytes → front_fault version t bytes ≡ None → (result : Result Packet WireFault) → Gives result (in_packet (fields_at version t (after PREAMBLE (whole bytes))))
+    pub found_fields : IsBytes bytes → preamble_fault version t bytes ≡ None → (result : Result Packet WireFault) → Gives result (in_packet (fields_at version t (after PREAMBLE (whole bytes))))
         → IfOk result (λ p. IsPacket version t p × (bytes ≡ packet_bytes version t p) × (length bytes ≤ MAX_MESSAGE))
     found_fields fits is (Ok p) gives = packet_found version t parts states bytes p fits is (given_ok (fields_at version t (after PREAMBLE (whole bytes))) p gives)
     found_fields fits is (Err e) gives = tt

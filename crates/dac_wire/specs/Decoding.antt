@@ -21,8 +21,8 @@ wrong kind at = Some (record { kind = kind; at = at })
 
 -- The first fault in the front of bytes of a version, if any: too many bytes, another format's name, another version,
 -- an incomplete mark, or another mark.
-unfoldable pub front_fault : Version → Table → List ℕ → Option WireFault
-front_fault version t bytes =
+unfoldable pub preamble_fault : Version → Table → List ℕ → Option WireFault
+preamble_fault version t bytes =
     if nat_lt MAX_MESSAGE (length bytes) then wrong TooLong MAX_MESSAGE
     else if not (starts_with nat_eq bytes magic) then wrong BadMagic 0
     else if not (starts_with nat_eq bytes (name_bytes version)) then wrong BadVersion 3
@@ -38,7 +38,7 @@ unless (Some e) read = Err e
 -- The packet that bytes of a version spell under a configuration, or the first fault.
 unfoldable pub packet_in : Version → Table → List ℕ → Result Packet WireFault
 packet_in version t bytes =
-    unless (front_fault version t bytes) (in_packet (fields_at version t (after PREAMBLE (whole bytes))))
+    unless (preamble_fault version t bytes) (in_packet (fields_at version t (after PREAMBLE (whole bytes))))
 
 -- The version by which bytes are read: one if they name it, otherwise two.
 unfoldable pub version_in : List ℕ → Version

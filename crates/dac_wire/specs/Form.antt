@@ -12,7 +12,7 @@ use Rattle.dac_origins.specs.Keys.{IsRising}
 use Rattle.dac_wishes.specs.DrainsValue.{origin}
 use Rattle.dac_config.specs.Table.{Table, node_count, app_count}
 use Rattle.dac_bytes.specs.Ranges.{IsIncarnation, IsOrigin, IsDot}
-use Rattle.dac_part_bytes.specs.ChainForm.{IsFromFor}
+use Rattle.dac_part_bytes.specs.ChainForm.{IsConsistentOrigin}
 use Rattle.dac_part_bytes.specs.KeyedForm.{IsKey}
 use Rattle.dac_part_bytes.specs.Reading.{is_listed}
 use Rattle.dac_state.specs.StateForm.{IsInForm}
@@ -77,7 +77,7 @@ pub record IsClaimInForm (t : Table) (issuer : NodeId) (claimed : AppId) (number
   pub last : number ≤ MAX_COUNTER
   -- the node is in the application's list
   pub listed : is_listed t claimed issuer ≡ true
-  pub from : IsFromFor (node_count t) how taken
+  pub from : IsConsistentOrigin (node_count t) how taken
 
 -- the act, issued by a node, is well-formed
 abbrev pub IsAct : Version → Table → NodeId → Act → Type 0

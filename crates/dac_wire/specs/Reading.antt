@@ -34,8 +34,8 @@ use Rattle.dac_bytes.specs.declared.version.Version.{Version}
 -- ---- the head of a message
 
 -- the sender, and the node that the message is for
-unfoldable pub route_at : Version → ℕ → Rest → Field (Origin × NodeId)
-route_at version nodes r = do
+unfoldable pub sender_and_receiver_at : Version → ℕ → Rest → Field (Origin × NodeId)
+sender_and_receiver_at version nodes r = do
   from ← origin_at version nodes r
   to ← node_at nodes from.1
   Ok ((from.0, to.0), to.1)
@@ -69,9 +69,9 @@ got_at version nodes r = do
   Ok ((origin.0, n.0), n.1)
 
 -- the acknowledgement, if the code announces one
-unfoldable pub got_if_at : Version → ℕ → ℕ → Rest → Field (Option (Origin × ℕ))
-got_if_at version nodes zero r = Ok (None, r)
-got_if_at version nodes (suc n) r = do
+unfoldable pub acked_if_at : Version → ℕ → ℕ → Rest → Field (Option (Origin × ℕ))
+acked_if_at version nodes zero r = Ok (None, r)
+acked_if_at version nodes (suc n) r = do
   got ← got_at version nodes r
   Ok (Some got.0, got.1)
 
@@ -79,7 +79,7 @@ got_if_at version nodes (suc n) r = do
 unfoldable pub ack_at : Version → ℕ → Rest → Field (Option (Origin × ℕ))
 ack_at version nodes r = do
   code ← range_at w8 0 1 r
-  ack ← got_if_at version nodes code.0 code.1
+  ack ← acked_if_at version nodes code.0 code.1
   Ok (ack.0, ack.1)
 
 -- the sender's delta count, and its acknowledgement
@@ -90,8 +90,8 @@ counts_at version nodes r = do
   Ok ((up_to.0, ack.0), ack.1)
 
 -- the incarnation that the message is for, and the counts
-unfoldable pub bound_at : Version → ℕ → Bool → Rest → Field (Option ℕ × (ℕ × Option (Origin × ℕ)))
-bound_at version nodes whole r = do
+unfoldable pub only_and_counts_at : Version → ℕ → Bool → Rest → Field (Option ℕ × (ℕ × Option (Origin × ℕ)))
+only_and_counts_at version nodes whole r = do
   only ← only_at version whole r
   counts ← counts_at version nodes only.1
   Ok ((only.0, counts.0), counts.1)
@@ -103,8 +103,8 @@ head_of route bound = record { from = route.0; to = route.1; only = bound.0; up_
 -- a message without its state
 unfoldable pub head_at : Version → ℕ → Bool → Rest → Field Head
 head_at version nodes whole r = do
-  route ← route_at version nodes r
-  bound ← bound_at version nodes whole route.1
+  route ← sender_and_receiver_at version nodes r
+  bound ← only_and_counts_at version nodes whole route.1
   Ok (head_of route.0 bound.0, bound.1)
 
 -- ---- operations

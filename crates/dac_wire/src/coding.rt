@@ -1,6 +1,6 @@
 //! Encodes and decodes packets.
 ghost use Rattle.std.specs.Prelude.{◌≡◌, ◌≤◌, ◌<◌, IfErr, IfOk, Ok, length};
-ghost use Rattle.dac_wire.specs.Decoding.{front_fault, packet_at, packet_in, version_in};
+ghost use Rattle.dac_wire.specs.Decoding.{preamble_fault, packet_at, packet_in, version_in};
 ghost use Rattle.dac_bytes.specs.Reading.{after, whole};
 ghost use Rattle.dac_wire.specs.Encoding.{IsEncodeFault};
 ghost use Rattle.dac_wire.specs.Faults.{Gives, in_packet};
@@ -58,8 +58,8 @@ fn preamble(version: Version, config: &Config) -> [u8; PREAMBLE]
 }
 
 /// The fault in the front of bytes of a version, if any.
-fn front_fault(version: Version, config: &Config, bytes: &[u8]) -> Option<WireFault>
-    ensures { result ≡ front_fault version config.now bytes.now }
+fn preamble_fault(version: Version, config: &Config, bytes: &[u8]) -> Option<WireFault>
+    ensures { result ≡ preamble_fault version config.now bytes.now }
 {
     if bytes.len() > MAX_MESSAGE {
         return Some(WireFault::new(WireFaultKind::TooLong, MAX_MESSAGE));
@@ -112,7 +112,7 @@ fn decode_in(
 {
     parts_have_one_spelling(config);
     states_have_one_spelling(config);
-    match front_fault(version, config, bytes) {
+    match preamble_fault(version, config, bytes) {
         Some(fault) => Err(fault),
         None => decode_fields(alloc, version, config, bytes),
     }

@@ -1,7 +1,7 @@
 //! Reads messages, and packets after their preamble.
 ghost use Rattle.std.specs.Prelude.{◌≡◌};
 ghost use Rattle.dac_bytes.specs.Reading.{Gives, IsOfBytes};
-ghost use Rattle.dac_wire.specs.Reading.{ack_at, bound_at, content_at, counts_at, fields_at, got_at, got_if_at, head_and_state_at, head_at, is_only_of, kind_and_content_at, message_of, only_at, only_code_at, packet_kind_at, route_at};
+ghost use Rattle.dac_wire.specs.Reading.{ack_at, only_and_counts_at, content_at, counts_at, fields_at, got_at, acked_if_at, head_and_state_at, head_at, is_only_of, kind_and_content_at, message_of, only_at, only_code_at, packet_kind_at, sender_and_receiver_at};
 
 use crate::codes::{PacketKind, only_of_code, packet_of_code};
 use crate::head::Head;
@@ -16,13 +16,13 @@ use dac_state::State;
 use std::alloc::Global;
 
 /// The sender, and the node that the message is for.
-#[tactic(auto, unfolding(crate::specs::Reading::route_at))]
+#[tactic(auto, unfolding(crate::specs::Reading::sender_and_receiver_at))]
 fn read_route<'a>(
     reader: ByteReader<'a>,
     version: Version,
     nodes: u8,
 ) -> Result<((Origin, NodeId), ByteReader<'a>), ReadFault>
-    ensures exact { result ≡ route_at version nodes reader.entry }
+    ensures exact { result ≡ sender_and_receiver_at version nodes reader.entry }
     ensures real { IsOfBytes result }
 {
     let (from, rest) = reader.read_origin(version, nodes)?;
@@ -86,14 +86,14 @@ fn read_got<'a>(
 }
 
 /// The acknowledgement, if the code announces one.
-#[tactic(auto, unfolding(crate::specs::Reading::got_if_at))]
+#[tactic(auto, unfolding(crate::specs::Reading::acked_if_at))]
 fn read_got_if<'a>(
     reader: ByteReader<'a>,
     version: Version,
     nodes: u8,
     code: u8,
 ) -> Result<(Option<(Origin, u64)>, ByteReader<'a>), ReadFault>
-    ensures exact { result ≡ got_if_at version nodes code reader.entry }
+    ensures exact { result ≡ acked_if_at version nodes code reader.entry }
     ensures real { IsOfBytes result }
 {
     match code {
@@ -138,14 +138,14 @@ fn read_counts<'a>(
 }
 
 /// The incarnation that the message is for, and the counts.
-#[tactic(auto, unfolding(crate::specs::Reading::bound_at))]
+#[tactic(auto, unfolding(crate::specs::Reading::only_and_counts_at))]
 fn read_bound<'a>(
     reader: ByteReader<'a>,
     version: Version,
     nodes: u8,
     whole: bool,
 ) -> Result<((Option<u64>, Counts), ByteReader<'a>), ReadFault>
-    ensures exact { result ≡ bound_at version nodes whole reader.entry }
+    ensures exact { result ≡ only_and_counts_at version nodes whole reader.entry }
     ensures real { IsOfBytes result }
 {
     let (only, rest) = read_only(reader, version, whole)?;

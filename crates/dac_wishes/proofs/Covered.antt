@@ -50,7 +50,7 @@ use Rattle.dac_wishes.specs.WishMeaning.{wish_delta, wishes}
 use Rattle.dac_wishes.specs.laws.WishMeaning.{contains-delta}
 use Rattle.dac_wishes.specs.StartsByKey.{starts_by_key}
 use Rattle.dac_wishes.specs.laws.StartsByKey.{contains-writes_of, are_starts, writes_again}
-use Rattle.dac_wishes.specs.Covering.{permit_act, drain_act, wish_act, is_said_below, lets_stand, let_stand, is_wish_of, lets_wish, let_wishes}
+use Rattle.dac_wishes.specs.Covering.{permit_act, drain_act, wish_act, is_flag_at_most, lets_stand, let_stand, is_wish_of, lets_wish, let_wishes}
 
 -- ---- a test of all entries of a list
 
@@ -116,14 +116,14 @@ module _ (dot : Dot) (over : List Dot) where
 
 -- ---- votes
 
-said_below : (o : Option Flag) (g : Flag) → (is_said_below o g ≡ true) ↔ StandsBelow IsFlagBelow o (Some g)
+said_below : (o : Option Flag) (g : Flag) → (is_flag_at_most o g ≡ true) ↔ StandsBelow IsFlagBelow o (Some g)
 said_below None g = (λ e. absurd (false≢true e), λ h. absurd h)
 said_below (Some Up) g = (λ _. tt, λ _. refl)
 said_below (Some Down) Up = (λ e. absurd (false≢true e), λ h. absurd h)
 said_below (Some Down) Down = (λ _. tt, λ _. refl)
 
 -- a vote that a value above the delta can contain satisfies the order, if its dot is named
-may_stand : (same replaced : Bool) (said : Option Flag) (g : Flag) → (cond same (is_said_below said g) (not replaced) ≡ true) ↔ ((same || replaced) ≡ true → StandsBelow IsFlagBelow (cond same said None) (Some g))
+may_stand : (same replaced : Bool) (said : Option Flag) (g : Flag) → (cond same (is_flag_at_most said g) (not replaced) ≡ true) ↔ ((same || replaced) ≡ true → StandsBelow IsFlagBelow (cond same said None) (Some g))
 may_stand true replaced said g = (λ e _. (said_below said g).0 e, λ f. (said_below said g).1 (f refl))
 may_stand false true said g = (λ e. absurd (false≢true e), λ f. absurd (f refl))
 may_stand false false said g = (λ _ e. absurd (false≢true e), λ _. refl)

@@ -6,7 +6,7 @@ use Rattle.std.specs.List.{list_all}
 use Rattle.std.proofs.lemmas.Bool.{true≢false}
 use Rattle.dac_origins.specs.declared.dot.Dot.{Dot}
 use Rattle.dac_lattice.specs.declared.flags.Flag.{Flag}
-use Rattle.dac_wishes.specs.PermissionsValue.{says_true, is_permitted_by}
+use Rattle.dac_wishes.specs.PermissionsValue.{is_permitting, is_permitted_by}
 
 pub is_some-copied : {X : Type 0} (o : Option (Bor X)) → is_some o ≡ is_some (option_copied o)
 is_some-copied None = refl
@@ -22,6 +22,6 @@ pub said_of : {X E : Type 0} (P : X → Type 0) (r : Result X E) (x : X) → IfO
 said_of P r x f e = subst (λ s. IfOk s P) e f
 
 -- if there are permits, all must be true
-pub by_permits : (default : Bool) (ps : List (Dot × Flag)) → nat_eq (length ps) 0 ≡ false → is_permitted_by default ps ≡ list_all (λ (p : Dot × Flag). says_true p.1) ps
+pub by_permits : (default : Bool) (ps : List (Dot × Flag)) → nat_eq (length ps) 0 ≡ false → is_permitted_by default ps ≡ list_all (λ (p : Dot × Flag). is_permitting p.1) ps
 by_permits default [] e = absurd (true≢false e)
 by_permits default (p ∷ ps) e = refl

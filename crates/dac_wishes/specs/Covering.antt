@@ -43,17 +43,17 @@ wish_act (Some key) over = Start key over
 -- ---- votes
 
 -- there is a flag, and it is at most the standing one
-abbrev pub is_said_below : Option Flag → Flag → Bool
-is_said_below None g = false
-is_said_below (Some Up) g = true
-is_said_below (Some Down) Up = false
-is_said_below (Some Down) Down = true
+abbrev pub is_flag_at_most : Option Flag → Flag → Bool
+is_flag_at_most None g = false
+is_flag_at_most (Some Up) g = true
+is_flag_at_most (Some Down) Up = false
+is_flag_at_most (Some Down) Down = true
 
 module _ {K : Type 0} (R : K → K → Ordering) (dot : Dot) (vote : Option (K × Flag)) (over : List Dot) where
   -- A value above the delta can contain the vote: it is the operation's own, with a flag at least the operation's, or
   -- isn't replaced by it.
   abbrev pub lets_stand : K → Dot × Flag → Bool
-  lets_stand key p = if same_dot p.0 dot then is_said_below (says_of R key vote) p.1 else not (has_key dot_cmp over p.0)
+  lets_stand key p = if same_dot p.0 dot then is_flag_at_most (says_of R key vote) p.1 else not (has_key dot_cmp over p.0)
 
   -- a value above the delta can contain each vote at each key
   abbrev pub let_stand : List (K × DotFlags) → Bool

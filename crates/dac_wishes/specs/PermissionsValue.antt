@@ -14,9 +14,9 @@ use Rattle.dac_wishes.specs.Writes.{write}
 use Rattle.dac_wishes.specs.Votes.{Votes, VotesValue, coded_votes, AreVotes, AreVotesBelow, no_votes, join_votes, votes_at}
 
 -- whether the flag means permitted
-abbrev pub says_true : Flag → Bool
-says_true Up = true
-says_true Down = false
+abbrev pub is_permitting : Flag → Bool
+is_permitting Up = true
+is_permitting Down = false
 
 -- the flag of a permit
 abbrev pub flag_of : Bool → Flag
@@ -53,7 +53,7 @@ permits_at = votes_at key_cmp
 
 -- the result of the permits at a key: the default if there is none, otherwise whether all are true
 abbrev pub is_permitted_by : Bool → List (Dot × Flag) → Bool
-is_permitted_by default permits = if is_empty_list permits then default else list_all (λ (p : Dot × Flag). says_true p.1) permits
+is_permitted_by default permits = if is_empty_list permits then default else list_all (λ (p : Dot × Flag). is_permitting p.1) permits
 
 abbrev pub is_permitted : Key → Bool → PermissionsValue → Bool
 is_permitted key default v = is_permitted_by default (permits_at key v.standing)

@@ -26,8 +26,8 @@ module _ {A : Type 0} (over : A → List Dot) where
   names x o = is_under x o || replaces x o
 
   -- the act doesn't replace its own dot
-  abbrev pub SparesItself : Dot → A → Type 0
-  SparesItself d a = has_key dot_cmp (over a) d ≡ false
+  abbrev pub ExcludesOwnDot : Dot → A → Type 0
+  ExcludesOwnDot d a = has_key dot_cmp (over a) d ≡ false
 
   -- the dots that the operation names
   abbrev pub named_by : Dot → A → Dots

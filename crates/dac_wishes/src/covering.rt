@@ -6,7 +6,7 @@ ghost use Rattle.dac_origins.specs.declared.dot.Dot.{Dot as DotValue};
 ghost use Rattle.dac_origins.specs.Dots.{IsSubset, dot_cmp};
 ghost use Rattle.dac_origins.specs.Keys.{has_key};
 ghost use Rattle.dac_wishes.specs.KeyedWrites.{same_dot};
-ghost use Rattle.dac_wishes.specs.Covering.{drain_act, is_said_below, is_wish_of, let_stand, let_wishes, lets_stand, lets_wish, permit_act, wish_act};
+ghost use Rattle.dac_wishes.specs.Covering.{drain_act, is_flag_at_most, is_wish_of, let_stand, let_wishes, lets_stand, lets_wish, permit_act, wish_act};
 ghost use Rattle.dac_wishes.specs.VoteMeaning.{says_of};
 ghost use Rattle.dac_wishes.specs.PermitMeaning.{vote_of as permits_by};
 ghost use Rattle.dac_wishes.specs.DrainMeaning.{vote_of as drains_by};
@@ -158,7 +158,7 @@ fn lets_stand<K: MapKey>(
     ensures { result ≡ lets_stand K.cmp dot vote over.now key stands.now }
 {
     if is_same(stands.0, dot) {
-        is_said_below(said_of(key, vote), stands.1)
+        is_flag_at_most(said_of(key, vote), stands.1)
     } else {
         !names(over, stands.0)
     }
@@ -181,8 +181,8 @@ fn said_of<K: MapKey>(key: K, vote: Option<(K, Flag)>) -> Option<Flag>
 }
 
 /// Whether there is a flag, and it is at most the standing one.
-fn is_said_below(said: Option<Flag>, stands: Flag) -> bool
-    ensures { result ≡ is_said_below said stands }
+fn is_flag_at_most(said: Option<Flag>, stands: Flag) -> bool
+    ensures { result ≡ is_flag_at_most said stands }
 {
     match (said, stands) {
         (None, _) | (Some(Flag::Down), Flag::Up) => false,

@@ -30,7 +30,7 @@ pub(crate) fn shared_names(alloc: Global, dot: Dot, over: &[Dot]) -> Result<Shar
 }
 
 /// A store paired with a shared context that contains its dots.
-pub(crate) fn beside_shared<S: DotStore>(store: S, context: SharedContext) -> Causal<S>
+pub(crate) fn paired_shared<S: DotStore>(store: S, context: SharedContext) -> Causal<S>
     requires { IsHeld (S.has store) context }
     ensures { result ≡ record { store = store; context = context } }
 {

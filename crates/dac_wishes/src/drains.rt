@@ -10,7 +10,7 @@ ghost use Rattle.dac_wishes.specs.DrainMeaning.{drain_delta};
 
 use crate::delta::{beside, shared_names};
 use crate::drain_act::DrainAct;
-use crate::votes::{kept_at, kept_beside};
+use crate::votes::{kept_at, stored_delta};
 use dac_base::{NoMemory, NodeId};
 use dac_lattice::{Bottom, Flag, Lattice, Piece};
 use dac_origins::{Dot, Origin};
@@ -110,16 +110,16 @@ impl Drains {
     }
 
     /// The join with the other value. It shares `union`, the union of the known dots of both.
-    pub fn join_beside(&self, other: &Self, union: &SharedContext) -> Result<Self, NoMemory>
+    pub fn join_with_context(&self, other: &Self, union: &SharedContext) -> Result<Self, NoMemory>
         requires { union.now ≡ set.union self.now.known other.now.known }
         ensures { IfOk result (λ joined. joined ≡ join_drains self.now other.now) }
     {
-        let causal = self.causal.join_beside(&other.causal, union)?;
+        let causal = self.causal.join_with_context(&other.causal, union)?;
         Ok(Drains { causal })
     }
 
     /// The delta of one operation. It shares `named`, the dots that the operation names.
-    pub fn delta_beside(
+    pub fn delta_with_context(
         alloc: Global,
         dot: Dot,
         act: &DrainAct,
@@ -128,16 +128,16 @@ impl Drains {
         requires { named.now ≡ (drain_delta dot act.now).known }
         ensures { IfOk result (λ delta. delta ≡ drain_delta dot act.now) }
     {
-        let causal = kept_beside(alloc, dot, act.vote(), named)?;
+        let causal = stored_delta(alloc, dot, act.vote(), named)?;
         Ok(Drains { causal })
     }
 
     /// Whether this value is below the other one, if the other knows each dot that this one knows.
-    pub fn leq_beside(&self, other: &Self) -> bool
+    pub fn leq_with_contexts(&self, other: &Self) -> bool
         requires { IsSubset self.now.known other.now.known }
         ensures { IsTrue result ↔ AreDrainsBelow self.now other.now }
     {
-        self.causal.leq_beside(&other.causal)
+        self.causal.leq_with_contexts(&other.causal)
     }
 }
 
@@ -211,13 +211,13 @@ impl Bottom for Drains {
 }
 
 impl Piece for Drains {
-    ghost use Rattle.dac_wishes.specs.Replacing.{SparesItself};
+    ghost use Rattle.dac_wishes.specs.Replacing.{ExcludesOwnDot};
     ghost use Rattle.dac_wishes.specs.DrainMeaning.{over_of, drain_delta, IsMeaning};
     ghost use Rattle.dac_wishes.specs.laws.DrainMeaning.{drain_piece};
 
     type Act = DrainAct;
 
-    ghost fits = { SparesItself over_of };
+    ghost fits = { ExcludesOwnDot over_of };
 
     ghost delta = { drain_delta };
 
@@ -227,7 +227,7 @@ impl Piece for Drains {
 
     fn delta(alloc: Global, dot: Dot, act: &DrainAct) -> Result<Self, NoMemory> {
         let named = shared_names(alloc, dot, act.over())?;
-        let delta = Self::delta_beside(alloc, dot, act, &named)?;
+        let delta = Self::delta_with_context(alloc, dot, act, &named)?;
         Ok(delta)
     }
 }

@@ -5,13 +5,13 @@ ghost use Rattle.dac_origins.specs.Dots.{IsSubset};
 ghost use Rattle.std.specs.List.{list_all};
 ghost use Rattle.dac_lattice.specs.declared.flags.Flag.{Flag as FlagValue};
 ghost use Rattle.dac_origins.specs.declared.dot.Dot.{Dot as DotValue};
-ghost use Rattle.dac_wishes.specs.PermissionsValue.{join_permissions, IsPermissionsBelow, says_true, is_permitted, is_permitted_by, IsPermitted, permits_at};
+ghost use Rattle.dac_wishes.specs.PermissionsValue.{join_permissions, IsPermissionsBelow, is_permitting, is_permitted, is_permitted_by, IsPermitted, permits_at};
 ghost use Rattle.dac_wishes.specs.PermitMeaning.{permit_delta};
 
 use crate::delta::shared_names;
 use crate::key::Key;
 use crate::permit_act::PermitAct;
-use crate::votes::{kept_at, kept_beside};
+use crate::votes::{kept_at, stored_delta};
 use dac_base::NoMemory;
 use dac_lattice::{Bottom, Flag, Lattice, Piece};
 use dac_origins::Dot;
@@ -103,16 +103,16 @@ impl Permissions {
     }
 
     /// The join with the other value. It shares `union`, the union of the known dots of both.
-    pub fn join_beside(&self, other: &Self, union: &SharedContext) -> Result<Self, NoMemory>
+    pub fn join_with_context(&self, other: &Self, union: &SharedContext) -> Result<Self, NoMemory>
         requires { union.now ≡ set.union self.now.known other.now.known }
         ensures { IfOk result (λ joined. joined ≡ join_permissions self.now other.now) }
     {
-        let causal = self.causal.join_beside(&other.causal, union)?;
+        let causal = self.causal.join_with_context(&other.causal, union)?;
         Ok(Permissions { causal })
     }
 
     /// The delta of one operation. It shares `named`, the dots that the operation names.
-    pub fn delta_beside(
+    pub fn delta_with_context(
         alloc: Global,
         dot: Dot,
         act: &PermitAct,
@@ -121,22 +121,22 @@ impl Permissions {
         requires { named.now ≡ (permit_delta dot act.now).known }
         ensures { IfOk result (λ delta. delta ≡ permit_delta dot act.now) }
     {
-        let causal = kept_beside(alloc, dot, act.vote(), named)?;
+        let causal = stored_delta(alloc, dot, act.vote(), named)?;
         Ok(Permissions { causal })
     }
 
     /// Whether this value is below the other one, if the other knows each dot that this one knows.
-    pub fn leq_beside(&self, other: &Self) -> bool
+    pub fn leq_with_contexts(&self, other: &Self) -> bool
         requires { IsSubset self.now.known other.now.known }
         ensures { IsTrue result ↔ IsPermissionsBelow self.now other.now }
     {
-        self.causal.leq_beside(&other.causal)
+        self.causal.leq_with_contexts(&other.causal)
     }
 }
 
 /// Whether a permit is true.
-fn says_true(flag: Flag) -> bool
-    ensures { result ≡ says_true flag }
+fn is_permitting(flag: Flag) -> bool
+    ensures { result ≡ is_permitting flag }
 {
     match flag {
         Flag::Up => true,
@@ -157,9 +157,9 @@ fn permitted_by(default: bool, permits: &[(Dot, Flag)]) -> bool
 
 /// Whether each permit is true.
 fn all_say_true(permits: &[(Dot, Flag)]) -> bool
-    ensures { result ≡ list_all (λ (p : DotValue × FlagValue). says_true p.1) permits.now }
+    ensures { result ≡ list_all (λ (p : DotValue × FlagValue). is_permitting p.1) permits.now }
 {
-    permits.iter().all(|permit| says_true(permit.1))
+    permits.iter().all(|permit| is_permitting(permit.1))
 }
 
 impl Lattice for Permissions {
@@ -215,13 +215,13 @@ impl Bottom for Permissions {
 }
 
 impl Piece for Permissions {
-    ghost use Rattle.dac_wishes.specs.Replacing.{SparesItself};
+    ghost use Rattle.dac_wishes.specs.Replacing.{ExcludesOwnDot};
     ghost use Rattle.dac_wishes.specs.PermitMeaning.{over_of, permit_delta, IsMeaning};
     ghost use Rattle.dac_wishes.specs.laws.PermitMeaning.{permit_piece};
 
     type Act = PermitAct;
 
-    ghost fits = { SparesItself over_of };
+    ghost fits = { ExcludesOwnDot over_of };
 
     ghost delta = { permit_delta };
 
@@ -231,7 +231,7 @@ impl Piece for Permissions {
 
     fn delta(alloc: Global, dot: Dot, act: &PermitAct) -> Result<Self, NoMemory> {
         let named = shared_names(alloc, dot, act.over())?;
-        let delta = Self::delta_beside(alloc, dot, act, &named)?;
+        let delta = Self::delta_with_context(alloc, dot, act, &named)?;
         Ok(delta)
     }
 }

@@ -6,7 +6,7 @@ ghost use Rattle.dac_store.specs.DotMaps.{has_in, store_at};
 ghost use Rattle.dac_store.specs.Stores.{IsHeld};
 ghost use Rattle.dac_wishes.specs.StoredVotes.{stored_vote};
 
-use crate::delta::beside_shared;
+use crate::delta::paired_shared;
 use dac_base::NoMemory;
 use dac_lattice::Flag;
 use dac_origins::{Dot, MapKey};
@@ -42,7 +42,7 @@ fn kept_alone<K: MapKey>(
 }
 
 /// The stored delta of one operation: its vote, if any, paired with the context `named`, which contains the vote's dot.
-pub(crate) fn kept_beside<K: MapKey>(
+pub(crate) fn stored_delta<K: MapKey>(
     alloc: Global,
     dot: Dot,
     vote: Option<(K, Flag)>,
@@ -54,6 +54,6 @@ pub(crate) fn kept_beside<K: MapKey>(
 {
     let store = kept_alone(alloc, dot, vote)?;
     let context = named.copy()?;
-    let causal = beside_shared(store, context);
+    let causal = paired_shared(store, context);
     Ok(causal)
 }

@@ -8,7 +8,7 @@ ghost use Rattle.dac_wishes.specs.WishesValue.{join_wishes, AreWishesBelow, is_w
 ghost use Rattle.dac_wishes.specs.StoredDeltas.{stored_start};
 ghost use Rattle.dac_wishes.specs.WishMeaning.{wish_delta};
 
-use crate::delta::{beside_shared, shared_names};
+use crate::delta::{paired_shared, shared_names};
 use crate::key::Key;
 use crate::wish_act::WishAct;
 use dac_base::NoMemory;
@@ -103,16 +103,16 @@ impl Wishes {
     }
 
     /// The join with the other value. It shares `union`, the union of the known dots of both.
-    pub fn join_beside(&self, other: &Self, union: &SharedContext) -> Result<Self, NoMemory>
+    pub fn join_with_context(&self, other: &Self, union: &SharedContext) -> Result<Self, NoMemory>
         requires { union.now ≡ set.union self.now.known other.now.known }
         ensures { IfOk result (λ joined. joined ≡ join_wishes self.now other.now) }
     {
-        let causal = self.causal.join_beside(&other.causal, union)?;
+        let causal = self.causal.join_with_context(&other.causal, union)?;
         Ok(Wishes { causal })
     }
 
     /// The delta of one operation. It shares `named`, the dots that the operation names.
-    pub fn delta_beside(
+    pub fn delta_with_context(
         alloc: Global,
         dot: Dot,
         act: &WishAct,
@@ -123,16 +123,16 @@ impl Wishes {
     {
         let store = start_in(alloc, dot, act)?;
         let context = named.copy()?;
-        let causal = beside_shared(store, context);
+        let causal = paired_shared(store, context);
         Ok(Wishes { causal })
     }
 
     /// Whether this value is below the other one, if the other knows each dot that this one knows.
-    pub fn leq_beside(&self, other: &Self) -> bool
+    pub fn leq_with_contexts(&self, other: &Self) -> bool
         requires { IsSubset self.now.known other.now.known }
         ensures { IsTrue result ↔ AreWishesBelow self.now other.now }
     {
-        self.causal.leq_beside(&other.causal)
+        self.causal.leq_with_contexts(&other.causal)
     }
 }
 
@@ -203,13 +203,13 @@ impl Bottom for Wishes {
 }
 
 impl Piece for Wishes {
-    ghost use Rattle.dac_wishes.specs.Replacing.{SparesItself};
+    ghost use Rattle.dac_wishes.specs.Replacing.{ExcludesOwnDot};
     ghost use Rattle.dac_wishes.specs.WishMeaning.{over_of, wish_delta, IsMeaning};
     ghost use Rattle.dac_wishes.specs.laws.WishMeaning.{wish_piece};
 
     type Act = WishAct;
 
-    ghost fits = { SparesItself over_of };
+    ghost fits = { ExcludesOwnDot over_of };
 
     ghost delta = { wish_delta };
 
@@ -219,7 +219,7 @@ impl Piece for Wishes {
 
     fn delta(alloc: Global, dot: Dot, act: &WishAct) -> Result<Self, NoMemory> {
         let named = shared_names(alloc, dot, act.over())?;
-        let delta = Self::delta_beside(alloc, dot, act, &named)?;
+        let delta = Self::delta_with_context(alloc, dot, act, &named)?;
         Ok(delta)
     }
 }

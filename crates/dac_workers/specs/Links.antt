@@ -9,7 +9,7 @@ use Rattle.dac_messages.specs.declared.reply.Reply.{Reply}
 use Rattle.dac_messages.specs.declared.reply.Reply.TheVariants as reply
 use Rattle.dac_events.specs.declared.refusal.Refusal.{Refusal}
 use Rattle.dac_sites.specs.Call.{Call}
-use Rattle.dac_links.specs.Relay.{Paper}
+use Rattle.dac_links.specs.Relay.{LetterValue}
 use Rattle.dac_wire.specs.declared.packet.Packet.TheVariants.{Msg}
 use Rattle.dac_wire.specs.Decoding.{packet_at}
 use Rattle.dac_wire.specs.Spelling.{spelling_of}
@@ -34,7 +34,7 @@ shipped_in [] = []
 shipped_in (c ∷ cs) = shipped_by c.answer ++ shipped_in cs
 
 -- the letters of these messages
-abbrev pub letters_of : Table → List Message → List Paper
+abbrev pub letters_of : Table → List Message → List LetterValue
 letters_of t [] = []
 letters_of t (m ∷ ms) = Some (spelling_of t (Msg m)) ∷ letters_of t ms
 
@@ -48,7 +48,7 @@ ships_to to zero = []
 ships_to to (suc n) = Ship to ∷ ships_to to n
 
 -- one call that ships, and the letter of its message
-pub record ShipsOne (t : Table) (to : NodeId) (old new : List Call) (put now : List Paper) : Type 0 where
+pub record ShipsOne (t : Table) (to : NodeId) (old new : List Call) (put now : List LetterValue) : Type 0 where
   pub call : Call
   pub calls : new ≡ old ++ call ∷ []
   pub event : call.event ≡ Ship to
@@ -57,7 +57,7 @@ pub record ShipsOne (t : Table) (to : NodeId) (old new : List Call) (put now : L
 
 -- These calls ship n times, and the letters of their messages are sent in order, followed by the last ones. Each letter
 -- decodes to its message.
-pub record Ships (t : Table) (to : NodeId) (n : ℕ) (old new : List Call) (put now last : List Paper) : Type 0 where
+pub record Ships (t : Table) (to : NodeId) (n : ℕ) (old new : List Call) (put now last : List LetterValue) : Type 0 where
   pub made : List Call
   pub calls : new ≡ old ++ made
   pub events : map (λ (c : Call). c.event) made ≡ ships_to to n
@@ -73,7 +73,7 @@ pub record HearsOne (old new : List Call) (message : Message) : Type 0 where
   pub event : call.event ≡ Hear message
 
 -- these letters decode to these messages, in order
-abbrev pub AreRead : Table → List Paper → List Message → Type 0
+abbrev pub AreRead : Table → List LetterValue → List Message → Type 0
 AreRead t [] [] = ⊤
 AreRead t [] (m ∷ ms) = ⊥
 AreRead t (p ∷ ps) [] = ⊥
@@ -81,9 +81,9 @@ AreRead t (None ∷ ps) (m ∷ ms) = ⊥
 AreRead t (Some bytes ∷ ps) (m ∷ ms) = (packet_at t bytes ≡ Ok (Msg m)) × AreRead t ps ms
 
 -- Each letter received, except the last ones, is heard as the message that it decodes to, in order.
-pub record Hears (t : Table) (old new : List Call) (taken now last : List Paper) : Type 0 where
+pub record Hears (t : Table) (old new : List Call) (taken now last : List LetterValue) : Type 0 where
   pub made : List Call
-  pub papers : List Paper
+  pub papers : List LetterValue
   pub heard : List Message
   pub calls : new ≡ old ++ made
   pub events : map (λ (c : Call). c.event) made ≡ map Hear heard

@@ -17,9 +17,9 @@ module _ {L : Type 0} where
   place_in (Some r) = r.place
 
   -- the least place of a reader's next page, after learning the receipt
-  abbrev pub least_behind : Option (Receipt L) → ℕ → ℕ
-  least_behind None least = least
-  least_behind (Some r) least = least_with (note_of r) least
+  abbrev pub least_after : Option (Receipt L) → ℕ → ℕ
+  least_after None least = least
+  least_after (Some r) least = least_with (note_of r) least
 
   -- the receipt after a reader has learned it
   abbrev pub learned_in : Option (Receipt L) → Option (Receipt L)

@@ -1,7 +1,7 @@
 //! Pages read after receipts.
 
 ghost use Rattle.std.specs.Prelude.{◌≡◌};
-ghost use Rattle.dac_workers.specs.Readings.{place_in, least_behind, learned_in, IsReading, LeadsTo};
+ghost use Rattle.dac_workers.specs.Readings.{place_in, least_after, learned_in, IsReading, LeadsTo};
 
 use dac_sites::{Page, PageReader, Receipt, SiteName};
 
@@ -18,7 +18,7 @@ pub enum Reading {
 #[tactic(auto, using(crate::proofs::Readings::least_by_clauses))]
 fn learn_last<L: SiteName>(last: &mut Option<Receipt<L>>, reader: &mut PageReader<L>) -> u64
     ensures place { result ≡ place_in last.old }
-    ensures reader { reader.new ≡ least_behind last.old reader.old }
+    ensures reader { reader.new ≡ least_after last.old reader.old }
     ensures receipt { last.new ≡ learned_in last.old }
 {
     match last {
@@ -40,7 +40,7 @@ fn learn_last<L: SiteName>(last: &mut Option<Receipt<L>>, reader: &mut PageReade
 pub fn fresh_page<L: SiteName>(last: &mut Option<Receipt<L>>, reader: &mut PageReader<L>) -> Reading
     ensures page { IsReading (place_in last.old) result }
     // The least place of the next page is that of the page read, or the one learned.
-    ensures reader { LeadsTo (least_behind last.old reader.old) result reader.new }
+    ensures reader { LeadsTo (least_after last.old reader.old) result reader.new }
     ensures receipt { last.new ≡ learned_in last.old }
 {
     let least = learn_last(last, reader);

@@ -251,7 +251,9 @@ fn is_seen(
 /// True if an operation has these acts on lives and claims.
 fn sees(op: &Op, life: LifeAct, claim: ClaimAct) -> bool {
     op.tells_invariant();
-    op.life_act() == life && op.claim_act() == claim && op.act().says_up() == (life == LifeAct::Up)
+    op.life_act() == life
+        && op.claim_act() == claim
+        && op.act().reports_up() == (life == LifeAct::Up)
 }
 
 /// Counter and kind of an operation, and its acts on lives and claims.

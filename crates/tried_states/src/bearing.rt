@@ -13,7 +13,7 @@ use dac_status::{Summary, page};
 use dac_wire::{Packet, decode, encode};
 use std::alloc::Global;
 
-/// True if the states obey the laws of a lattice.
+/// True if the states command_effect the laws of a lattice.
 fn are_ordered(alloc: Global, state: &State, other: &State) -> Option<bool> {
     let both = state.join(other).ok()?;
     let turned = other.join(state).ok()?;

@@ -55,7 +55,7 @@ fn of_empty(alloc: Global, nodes: &[(u8, u64)]) -> Option<WeaveFault> {
 }
 
 /// The fault of a journal with a record of an unconfigured node.
-fn stranger(alloc: Global) -> Option<WeaveFault> {
+fn unseated_record(alloc: Global) -> Option<WeaveFault> {
     let p = journal(alloc, 0, 0)?;
     let q = journal(alloc, 1, 0)?;
     let mut other = journal(alloc, 9, 0)?;
@@ -118,7 +118,7 @@ fn journals_without_records(rt: HostRuntime) -> Result<(), Fail> {
 
 #[test]
 fn an_unknown_node(rt: HostRuntime) -> Result<(), Fail> {
-    assert_eq!(rt; stranger(rt.alloc()), Some(unwoven(9, 1)));
+    assert_eq!(rt; unseated_record(rt.alloc()), Some(unwoven(9, 1)));
     Ok(())
 }
 

@@ -75,16 +75,16 @@ module _ {K X : Type 0} {R : K → K → Ordering} (o : IsTotalOrder R) (key : X
     chain_each [] s c = tt
     chain_each (x ∷ xs) s c = (c.0.0, chain_each xs (next x) c.1)
 
-    rises_from : (xs : List X) (s : Option K) → Chain (IsNext R key Q) next s xs → (is_below_from s (list_map key xs) ≡ true) × IsRising R (list_map key xs)
+    ascends_from : (xs : List X) (s : Option K) → Chain (IsNext R key Q) next s xs → (is_below_from s (list_map key xs) ≡ true) × IsRising R (list_map key xs)
     unfolding is_below_from
-    rises_from [] s c = (below_none s, refl)
-    rises_from (x ∷ xs) s c =
-        let rest = rises_from xs (next x) c.1 in
+    ascends_from [] s c = (below_none s, refl)
+    ascends_from (x ∷ xs) s c =
+        let rest = ascends_from xs (next x) c.1 in
         (from s (key x) (list_map key xs) c.0.1 rest.0, and_from _ _ rest.0 rest.1)
 
     -- the keys of the items ascend
     pub chain_rises : (xs : List X) (s : Option K) → Chain (IsNext R key Q) next s xs → IsRising R (list_map key xs)
-    chain_rises xs s c = (rises_from xs s c).1
+    chain_rises xs s c = (ascends_from xs s c).1
 
     head_above : (s : Option K) (k : K) (ks : List K) → is_below_from s (k ∷ ks) ≡ true → is_above R s k ≡ true
     unfolding is_below_from

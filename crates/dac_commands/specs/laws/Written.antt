@@ -22,7 +22,7 @@ use Rattle.dac_events.specs.declared.refusal.Refusal.{Refusal}
 use Rattle.dac_events.specs.declared.refusal.Refusal.TheVariants.{DeclaredDown}
 use Rattle.dac_commands.specs.Commands.{live, live_or_none, live_key, live_origin, standing_starts, standing_permits, standing_drains, claim_act, act_of}
 use Rattle.dac_commands.specs.Causes.{first, causes_of, refusal_of_command, declared_down, not_live, terms_used_up, used_up}
-use Rattle.dac_commands.specs.Written.{IsKeyAt, StartStands, PermitStands, DrainStands, AreThose, TakesOver, SaysCommand, WritesWhatIsSaid}
+use Rattle.dac_commands.specs.Written.{IsKeyAt, StartStands, PermitStands, DrainStands, AreThose, TakesOver, SaysCommand, IssuesTheCommand}
 use Rattle.dac_commands.specs.laws.Counters.{next_of_is}
 use Rattle.dac_commands.specs.laws.Standing.{permits_at-has, drains_at-has}
 use Rattle.dac_commands.specs.laws.Terms.{next_claim_is}
@@ -108,5 +108,5 @@ module _ (t : Table) (own : Origin) (s : StateValue) where
       let none = none_is (all_causes t own s (Takeover app)) e in
       takes app none.1.1.1.1.0 none.1.1.1.1.1.1.1.0
 
-pub writes_what_is_said : WritesWhatIsSaid
+pub writes_what_is_said : IssuesTheCommand
 writes_what_is_said t own s c e = record { dot = next_of_is s.known own (left t own s c e); says = says t own s c e }

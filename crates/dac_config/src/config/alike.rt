@@ -1,6 +1,6 @@
 //! Compares two configurations' lists of an application.
 ghost use Rattle.std.specs.Prelude.{◌≡◌, ◌<◌, ◌↔◌, IsTrue, map};
-ghost use Rattle.dac_config.specs.Table.{app_count, HaveOneList};
+ghost use Rattle.dac_config.specs.Table.{app_count, HaveEqualLists};
 
 use super::Config;
 use dac_base::AppId;
@@ -11,7 +11,7 @@ impl Config {
     pub fn lists_alike(&self, other: &Config, app: AppId) -> bool
         requires one { app.0 < app_count self.now }
         requires other { app.0 < app_count other.now }
-        ensures { IsTrue result ↔ HaveOneList self.now other.now app }
+        ensures { IsTrue result ↔ HaveEqualLists self.now other.now app }
     {
         let (_, one) = self.entry(app);
         let (_, two) = other.entry(app);

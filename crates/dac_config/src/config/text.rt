@@ -3,7 +3,7 @@
 ghost use Rattle.std.specs.Prelude.{◌≡◌, ◌<◌, not, codes, map, filter, All};
 ghost use Rattle.std.specs.Fmt.{decimal};
 ghost use Rattle.dac_config.specs.Sinks.{Gains};
-ghost use Rattle.dac_config.specs.Canonical.{name_text, parted_behind, parted, node_name_text, group_text, app_text, ban_text, wait_texts, param_texts};
+ghost use Rattle.dac_config.specs.Canonical.{name_text, separated_after, parted, node_name_text, group_text, app_text, forbidden_text, wait_texts, param_texts};
 ghost use Rattle.dac_config.specs.Table.{node_count};
 ghost use Rattle.dac_config.specs.ConfigView.{node_row, named_row, HasMembersBelow, is_in};
 
@@ -102,9 +102,9 @@ fn put_apps<S: Sink>(sink: &mut S, config: &Config)
 }
 
 /// The applications that aren't permitted by default, separated by commas.
-fn put_bans<S: Sink>(sink: &mut S, config: &Config)
+fn put_forbidden<S: Sink>(sink: &mut S, config: &Config)
     ensures { Gains S.holds sink.old sink.new (parted
-        (map (λ row. ban_text row.name) (filter (λ row. not row.permission) config.now.apps))) }
+        (map (λ row. forbidden_text row.name) (filter (λ row. not row.permission) config.now.apps))) }
 {
     let mut before: &[u8] = b"";
     for at in 0..config.apps() {
@@ -154,7 +154,7 @@ fn put_sync_list<S: Sink>(sink: &mut S, config: &Config, list: SyncList)
 }
 
 fn put_wait<S: Sink>(sink: &mut S, wait: SyncWait)
-    ensures { Gains S.holds sink.old sink.new (parted_behind (codes ",") (wait_texts wait)) }
+    ensures { Gains S.holds sink.old sink.new (separated_after (codes ",") (wait_texts wait)) }
 {
     match wait {
         SyncWait::NoSync => {}
@@ -174,7 +174,7 @@ fn put_params<S: Sink>(sink: &mut S, config: &Config)
     sink.put(b"{distributed,[");
     put_apps(sink, config);
     sink.put(b"]},{permissions,[");
-    put_bans(sink, config);
+    put_forbidden(sink, config);
     sink.put(b"]},{sync_nodes_mandatory,[");
     put_sync_list(sink, config, SyncList::Mandatory);
     sink.put(b"]},{sync_nodes_optional,[");

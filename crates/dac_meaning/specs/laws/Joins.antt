@@ -40,7 +40,7 @@ use Rattle.dac_operations.specs.declared.act.Act.{Act}
 use Rattle.dac_operations.specs.Operations.{Operation}
 use Rattle.dac_meaning.specs.StateValue.{IsState, permissions_of, wishes_of, drains_of, join}
 use Rattle.dac_meaning.specs.laws.StateLaws.{same_state, heard-join, permissions-join, wishes-join, lives-join, claims-join, drains-join}
-use Rattle.dac_meaning.specs.Meaning.{meaning_of, has_dot, replaces, is_replaced, names, wishes, is_start, flag_said, vote_says, is_vote, vote_said, vote_at, permit_vote, drain_vote, life_said, claim_said, AreOperationsOf, DotsDetermine}
+use Rattle.dac_meaning.specs.Meaning.{meaning_of, has_dot, replaces, is_replaced, names, wishes, is_start, flag_written, vote_says, is_vote, vote_flag, vote_at, permit_vote, drain_vote, life_said, claim_said, AreOperationsOf, DotsDetermine}
 use Rattle.dac_meaning.specs.laws.Members.{In-append_left, In-append_right, list_any-same, list_any-wider, shared}
 use Rattle.dac_meaning.specs.laws.Chained.{greatest-same, greatest-append}
 use Rattle.dac_meaning.specs.laws.Readers.{heard-meaning, known-meaning, starts-meaning, permits-meaning, lives-meaning, claims-meaning, drains-meaning}
@@ -71,23 +71,23 @@ module _ {K : Type 0} (R : K → K → Ordering) (vote : Act → Option (K × Bo
 
   module _ (down : Bool) where
     -- if there is a flag, an operation with this dot wrote it
-    said_has_dot : (w : KeyedWrite K) (os : List Operation) → is_some (vote_said R vote down w os) ≡ true → list_any (has_dot w.dot) os ≡ true
+    said_has_dot : (w : KeyedWrite K) (os : List Operation) → is_some (vote_flag R vote down w os) ≡ true → list_any (has_dot w.dot) os ≡ true
     said_has_dot w os h = elim (or_cases _ _ (either (list_any (is_vote R vote w down) os) (list_any (is_vote R vote w (not down)) os) h)) [
       | inl a ↦ list_any-wider (is_vote R vote w down) (has_dot w.dot) (vote_has_dot w down) os a
       | inr b ↦ list_any-wider (is_vote R vote w (not down)) (has_dot w.dot) (vote_has_dot w (not down)) os b
     ]
       where
-        either : (a b : Bool) → is_some (flag_said a b) ≡ true → (a || b) ≡ true
+        either : (a b : Bool) → is_some (flag_written a b) ≡ true → (a || b) ≡ true
         either true b h = refl
         either false true h = refl
         either false false h = h
 
     vote_at-same : (os ps : List Operation) → AreOperationsOf os ps → AreOperationsOf ps os → (w : KeyedWrite K) → vote_at R vote down os w ≡ vote_at R vote down ps w
-    vote_at-same os ps f g w = λ i. cond (list_any-same (replaces w.dot) os ps f g i) None (flag_said (list_any-same (is_vote R vote w down) os ps f g i) (list_any-same (is_vote R vote w (not down)) os ps f g i))
+    vote_at-same os ps f g w = λ i. cond (list_any-same (replaces w.dot) os ps f g i) None (flag_written (list_any-same (is_vote R vote w down) os ps f g i) (list_any-same (is_vote R vote w (not down)) os ps f g i))
 
     -- the dot of a standing vote is known
     standing_known : (os : List Operation) (w : KeyedWrite K) → is_some (vote_at R vote down os w) ≡ true → set.contains (meaning_of os).known w.dot ≡ true
-    standing_known os w h = known_own os w.dot (said_has_dot w os (given (is_replaced w.dot os) (vote_said R vote down w os) h))
+    standing_known os w h = known_own os w.dot (said_has_dot w os (given (is_replaced w.dot os) (vote_flag R vote down w os) h))
       where
         given : (b : Bool) (v : Option Flag) → is_some (cond b None v) ≡ true → is_some v ≡ true
         given true v h = absurd (false≢true h)
@@ -161,12 +161,12 @@ votes_stand false false true false None (Some y) a b same = absurd (false≢true
 votes_stand false false h g (Some x) (Some y) a b same = refl
 
 -- the flag of a vote from two lists together
-said-append : {K : Type 0} (R : K → K → Ordering) (vote : Act → Option (K × Bool)) (down : Bool) (w : KeyedWrite K) (os ps : List Operation) → vote_said R vote down w (os ++ ps) ≡ join_options join_flags (vote_said R vote down w os) (vote_said R vote down w ps)
+said-append : {K : Type 0} (R : K → K → Ordering) (vote : Act → Option (K × Bool)) (down : Bool) (w : KeyedWrite K) (os ps : List Operation) → vote_flag R vote down w (os ++ ps) ≡ join_options join_flags (vote_flag R vote down w os) (vote_flag R vote down w ps)
 said-append R vote down w os ps =
-    (λ i. flag_said (list_any-append (is_vote R vote w down) os ps i) (list_any-append (is_vote R vote w (not down)) os ps i))
+    (λ i. flag_written (list_any-append (is_vote R vote w down) os ps i) (list_any-append (is_vote R vote w (not down)) os ps i))
     ∙ both (list_any (is_vote R vote w down) os) (list_any (is_vote R vote w (not down)) os) (list_any (is_vote R vote w down) ps) (list_any (is_vote R vote w (not down)) ps)
   where
-    both : (a b c e : Bool) → flag_said (a || c) (b || e) ≡ join_options join_flags (flag_said a b) (flag_said c e)
+    both : (a b c e : Bool) → flag_written (a || c) (b || e) ≡ join_options join_flags (flag_written a b) (flag_written c e)
     both true b true e = refl
     both true b false true = refl
     both true b false false = refl
@@ -203,8 +203,8 @@ module _ (os ps : List Operation) (agree : DotsDetermine (os ++ ps)) where
 
   module _ {K : Type 0} {R : K → K → Ordering} (total : IsTotalOrder R) (exact : CmpEqualImpliesEq R) (vote : Act → Option (K × Bool)) (down : Bool) where
     -- if both sides have the dot, their flags are equal
-    same_said : (w : KeyedWrite K) → list_any (has_dot w.dot) os ≡ true → list_any (has_dot w.dot) ps ≡ true → vote_said R vote down w os ≡ vote_said R vote down w ps
-    same_said w h g = λ i. flag_said (alike down i) (alike (not down) i)
+    same_said : (w : KeyedWrite K) → list_any (has_dot w.dot) os ≡ true → list_any (has_dot w.dot) ps ≡ true → vote_flag R vote down w os ≡ vote_flag R vote down w ps
+    same_said w h g = λ i. flag_written (alike down i) (alike (not down) i)
       where
         alike : (v : Bool) → list_any (is_vote R vote w v) os ≡ list_any (is_vote R vote w v) ps
         alike v = both_ways _ _
@@ -219,7 +219,7 @@ module _ (os ps : List Operation) (agree : DotsDetermine (os ++ ps)) where
         same_votes total exact (join_votes R x y) z (known-join_votes R x y ∙ (λ i. set.union (kx i) (ky i)) ∙ known_together ∙ sym kz) (λ w.
         standing-join_votes total exact x y w
         ∙ (λ i. join_at join_flags ((ap (λ (s : Dots). set.contains s w.dot) kx ∙ known_os w.dot) i) ((ap (λ (s : Dots). set.contains s w.dot) ky ∙ known_ps w.dot) i) (sx w i) (sy w i))
-        ∙ votes_stand (is_replaced w.dot os) (is_replaced w.dot ps) (list_any (has_dot w.dot) os) (list_any (has_dot w.dot) ps) (vote_said R vote down w os) (vote_said R vote down w ps)
+        ∙ votes_stand (is_replaced w.dot os) (is_replaced w.dot ps) (list_any (has_dot w.dot) os) (list_any (has_dot w.dot) ps) (vote_flag R vote down w os) (vote_flag R vote down w ps)
         (said_has_dot R vote down w os) (said_has_dot R vote down w ps) (same_said w)
         ∙ sym (λ i. cond (list_any-append (replaces w.dot) os ps i) None (said-append R vote down w os ps i))
         ∙ sym (sz w))

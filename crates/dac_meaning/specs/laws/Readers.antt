@@ -30,7 +30,7 @@ use Rattle.dac_operations.specs.declared.act.Act.{Act}
 use Rattle.dac_operations.specs.declared.act.Act.TheVariants.{Up, Down, Permit, Start, Stop, Drain, Claim}
 use Rattle.dac_operations.specs.Operations.{Operation, over_list}
 use Rattle.dac_meaning.specs.laws.Tables.{get-table, given_or_none}
-use Rattle.dac_meaning.specs.Meaning.{meaning_of, has_dot, is_replaced, names, starts_in, wishes, is_start, is_same, flag_said, vote_says, writes_by_vote, is_vote, vote_at, votes_of, permit_vote, permit_at, drain_vote, drain_at, pairs, life_said, claim_said, lives_of, claims_of}
+use Rattle.dac_meaning.specs.Meaning.{meaning_of, has_dot, is_replaced, names, starts_in, wishes, is_start, is_same, flag_written, vote_says, writes_by_vote, is_vote, vote_at, votes_of, permit_vote, permit_at, drain_vote, drain_at, pairs, life_said, claim_said, lives_of, claims_of}
 use Rattle.dac_meaning.specs.laws.Members.{list_any-narrower}
 use Rattle.dac_meaning.specs.laws.Chained.{are_greatest}
 
@@ -96,7 +96,7 @@ module _ {K : Type 0} {R : K → K → Ordering} (total : IsTotalOrder R) (exact
   no_vote : (w : KeyedWrite K) (os : List Operation) → list_any (eq_by_cmp (keyed_write_cmp R) w) (all_told os) ≡ false → vote_at R vote down os w ≡ None
   no_vote w os none =
       let none_here = sym (list_any-flat_map (eq_by_cmp (keyed_write_cmp R) w) (λ (o : Operation). writes_by_vote o.dot (vote o.act)) os) ∙ none in
-      (λ i. cond (is_replaced w.dot os) None (flag_said (not_said down none_here i) (not_said (not down) none_here i)))
+      (λ i. cond (is_replaced w.dot os) None (flag_written (not_said down none_here i) (not_said (not down) none_here i)))
       ∙ nothing (is_replaced w.dot os)
     where
       not_said : (v : Bool) → list_any (λ (o : Operation). list_any (eq_by_cmp (keyed_write_cmp R) w) (writes_by_vote o.dot (vote o.act))) os ≡ false → list_any (is_vote R vote w v) os ≡ false

@@ -12,7 +12,7 @@ use Rattle.dac_decide.specs.laws.Tests.{up_is}
 use Rattle.dac_decide.specs.declared.start_gate.Opening.{Opening}
 use Rattle.dac_decide.specs.declared.start_gate.Opening.TheVariants.{Shut, Opened, GiveUp}
 use Rattle.dac_decide.specs.declared.waits.Noted.{Noted}
-use Rattle.dac_ticks.specs.Ticks.{turn_of}
+use Rattle.dac_ticks.specs.Ticks.{sweep_of}
 use Rattle.dac_ticks.specs.Staying.{AreKeptAt, AreLaterClaims}
 use Rattle.dac_ticks.specs.laws.Claims.{state_joined}
 use Rattle.dac_ticks.specs.laws.Staying.{next_is_later, claims_stay, claims_are_later}
@@ -73,7 +73,7 @@ module _ (t : Table) (last : ℕ) (r : RunningValue) (noted : List (Option Noted
   tick_effect now Opened none =
       let live = (up_is r.state r.origin).0 (was_true (is_up r.state r.origin) (none_is (causes_to_tick t r now) none).0) in
       record {
-        left = subst (λ s. AreKeptAt t s r.origin.node (turn_of t r.origin noted now r.state).ops) (state_joined t r.origin noted now r.state) (claims_stay t r.origin noted now r.state (apps_of t) is live);
+        left = subst (λ s. AreKeptAt t s r.origin.node (sweep_of t r.origin noted now r.state).ops) (state_joined t r.origin noted now r.state) (claims_stay t r.origin noted now r.state (apps_of t) is live);
         later = claims_are_later t r.origin noted now r.state (apps_of t) is;
       }
 

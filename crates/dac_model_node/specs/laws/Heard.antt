@@ -23,7 +23,7 @@ use Rattle.dac_messages.specs.Bodies.{content_of}
 use Rattle.dac_messages.specs.declared.event.Event.{Event}
 use Rattle.dac_messages.specs.declared.event.Event.TheVariants.{Boot, Crash, Command as Commanded, Tick, Ship, Hear, HearOp}
 use Rattle.dac_events.specs.declared.refusal.Refusal.TheVariants.{AlreadyOn}
-use Rattle.dac_ticks.specs.Ticks.{turn_of}
+use Rattle.dac_ticks.specs.Ticks.{sweep_of}
 use Rattle.dac_model_node.specs.NodeValue.{RunningValue, state_of}
 use Rattle.dac_model_node.specs.EventRefusals.{refusal_by}
 use Rattle.dac_model_node.specs.Transitions.{transition_of, brings, meanings, opening_at, ticks_by}
@@ -87,7 +87,7 @@ tick_heard : (opening : Opening) (t : Table) (r : RunningValue) (noted : List (O
 tick_heard Shut t r noted now r' is = run_state r r' r.state _ refl is ∙ nothing_at_all r.state.heard
 tick_heard GiveUp t r noted now r' is = off_run is
 tick_heard Opened t r noted now r' is =
-    let ops = (turn_of t r.origin noted now r.state).ops in
+    let ops = (sweep_of t r.origin noted now r.state).ops in
     run_state r r' (fold join r.state (meanings ops)) _ refl is ∙ heard_all r.state ops
 
 -- the heard dots of a running node after an accepted event by which it doesn't go off

@@ -13,8 +13,8 @@ use Rattle.dac_config.specs.Table.{Table, app_count}
 use Rattle.dac_decide.specs.declared.start_gate.Opening.{Opening}
 use Rattle.dac_decide.specs.declared.start_gate.Opening.TheVariants.{Shut, Opened, GiveUp}
 use Rattle.dac_decide.specs.declared.waits.Noted.{Noted}
-use Rattle.dac_ticks.specs.Ticks.{Turn, turn_of, claim_of}
-use Rattle.dac_ticks.specs.laws.Turning.{numbered, turned_by, turn_reaches}
+use Rattle.dac_ticks.specs.Ticks.{Sweep, sweep_of, claim_of}
+use Rattle.dac_ticks.specs.laws.Sweeping.{numbered, swept_by, sweep_reaches}
 use Rattle.dac_events.specs.declared.Command.{Command}
 use Rattle.dac_messages.specs.declared.message.Message.{Message}
 use Rattle.dac_messages.specs.Bodies.{content_of}
@@ -39,11 +39,11 @@ obeyed t r c none =
     let both = either_none (refusal_of_command t r.origin r.state c) (first ((too_many_deltas r 1, DotsUsedUp) ∷ [])) none in
     (both.0, (none_is ((too_many_deltas r 1, DotsUsedUp) ∷ []) both.1).0)
 
--- a turn claims each application at most once
-pub few_claims : (t : Table) (own : Origin) (waits : List (Option Noted)) (now : ℕ) (s : StateValue) → length (turn_of t own waits now s).ops ≤ app_count t
-few_claims t own waits now s = turn_reaches t own waits now (λ n turn. length turn.ops ≤ n) s (omega arith) (λ n turn lt h.
-    turned_by t own waits now (λ (after : Turn). length after.ops ≤ n + 1) turn (numbered n) (λ none. omega arith) (λ mine used. omega arith)
-    (λ mine left. let one = length-append turn.ops (claim_of t own turn.state (numbered n) ∷ []) in omega arith))
+-- a sweep claims each application at most once
+pub few_claims : (t : Table) (own : Origin) (waits : List (Option Noted)) (now : ℕ) (s : StateValue) → length (sweep_of t own waits now s).ops ≤ app_count t
+few_claims t own waits now s = sweep_reaches t own waits now (λ n sweep. length sweep.ops ≤ n) s (omega arith) (λ n sweep lt h.
+    swept_by t own waits now (λ (after : Sweep). length after.ops ≤ n + 1) sweep (numbered n) (λ none. omega arith) (λ mine used. omega arith)
+    (λ mine left. let one = length-append sweep.ops (claim_of t own sweep.state (numbered n) ∷ []) in omega arith))
 
 module _ (r : RunningValue) where
   room_if : (more : ℕ) → too_many_deltas r more ≡ false → r.kept.count + more ≤ MAX_COUNTER
@@ -65,7 +65,7 @@ module _ (t : Table) (r : RunningValue) (noted : List (Option Noted)) (countable
   room_to_tick Shut now h = nothing_more
   room_to_tick GiveUp now h = nothing_more
   room_to_tick Opened now h =
-      let ops = (turn_of t r.origin noted now r.state).ops in
+      let ops = (sweep_of t r.origin noted now r.state).ops in
       fewer (length (meanings ops)) (length ops) (app_count t) (length-map ops (λ (o : Operation). meaning_of (o ∷ []))) (few_claims t r.origin noted now r.state) h
     where
       fewer : (n k apps : ℕ) → n ≡ k → k ≤ apps → r.kept.count + max 1 apps ≤ MAX_COUNTER → r.kept.count + n ≤ MAX_COUNTER

@@ -37,7 +37,7 @@ use Rattle.dac_model_node.specs.NodeValue.{NodeValue, RunningValue}
 use Rattle.dac_model_node.specs.EventRefusals.{needed, too_few_left, too_many_deltas, overflows, otherwise, is_for, refusal_by, refusal_of}
 use Rattle.dac_model_node.specs.laws.Positions.{up_to_date_is}
 use Rattle.dac_model_node.specs.laws.Tests.{not_running_is, runs_earlier_is, too_few_is, lacks_for_tick}
-use Rattle.dac_model_node.specs.Refused.{causes_of_event, Holds, LacksNumbers, IsFor, IsOneOf, NoneHolds, IsLeastOf, IsFree, IsRefused, IsAnsweredBy, NeverWantsMemory}
+use Rattle.dac_model_node.specs.Refused.{causes_of_event, Holds, LacksNumbers, IsFor, IsOneOf, NoneHolds, IsLeastOf, IsFree, IsRefused, IsAnsweredBy, NeverRefusesForMemory}
 
 -- ---- the first test that holds is that of the least cause
 
@@ -282,5 +282,5 @@ pub answered_is : (t : Table) (v : NodeValue) (e : Event) (why : Refusal) → wh
 answered_is t v e why is = answered_by t v e why (refusal_of t v e) refl is
 
 -- the table never refuses because of memory
-pub never_memory : NeverWantsMemory
+pub never_memory : NeverRefusesForMemory
 never_memory t v e is = (refused_is t v e NoMemory is).holds

@@ -12,7 +12,7 @@ use Rattle.dac_decide.specs.declared.start_gate.Opening.{Opening}
 use Rattle.dac_decide.specs.declared.start_gate.Opening.TheVariants.{Shut, Opened, GiveUp}
 use Rattle.dac_decide.specs.declared.waits.Noted.{Noted}
 use Rattle.dac_decide.specs.FailoverWait.{waits_of}
-use Rattle.dac_ticks.specs.Ticks.{turn_of}
+use Rattle.dac_ticks.specs.Ticks.{sweep_of}
 use Rattle.dac_messages.specs.Bodies.{content_of}
 use Rattle.dac_messages.specs.declared.event.Event.{Event}
 use Rattle.dac_messages.specs.declared.event.Event.TheVariants.{Boot, Crash, Command as Commanded, Tick, Ship, Hear, HearOp}
@@ -45,7 +45,7 @@ module _ (t : Table) (r : RunningValue) (noted : List (Option Noted)) where
   tick_adds_nothing : (opening : Opening) (now : ℕ) → says_it_stays (ticks_by opening t r noted now).reply ≡ true → AddsNothing (ticks_by opening t r noted now)
   tick_adds_nothing Shut now says = (refl, refl)
   tick_adds_nothing GiveUp now says = absurd (false≢true says)
-  tick_adds_nothing Opened now says = (refl, no_meanings (turn_of t r.origin noted now r.state).ops says)
+  tick_adds_nothing Opened now says = (refl, no_meanings (sweep_of t r.origin noted now r.state).ops says)
 
   adds_nothing : (e : Event) → refusal_on t r e ≡ None → says_it_stays (transition_of t r noted e).reply ≡ true → AddsNothing (transition_of t r noted e)
   adds_nothing (Boot now) none says = no_on none

@@ -20,9 +20,9 @@ use Rattle.dac_messages.specs.declared.event.Event.TheVariants.{Boot, Crash, Com
 use Rattle.dac_events.specs.declared.refusal.Refusal.TheVariants.{Off, AlreadyOn}
 use Rattle.dac_commands.specs.Commands.{greatest_counter}
 use Rattle.dac_commands.specs.laws.Written.{writes_what_is_said}
-use Rattle.dac_ticks.specs.Ticks.{turn_of}
-use Rattle.dac_ticks.specs.InWords.{IsTurn}
-use Rattle.dac_ticks.specs.laws.Words.{turn_in_words}
+use Rattle.dac_ticks.specs.Ticks.{sweep_of}
+use Rattle.dac_ticks.specs.InWords.{IsSweep}
+use Rattle.dac_ticks.specs.laws.Words.{sweep_in_words}
 use Rattle.dac_model_node.specs.NodeValue.{RunningValue}
 use Rattle.dac_model_node.specs.EventRefusals.{refusal_by}
 use Rattle.dac_model_node.specs.Transitions.{message_of, opening_at, ticks_by}
@@ -59,10 +59,10 @@ module _ (t : Table) (r : RunningValue) (now : ℕ) where
   NotesSo noted = (notes : List Note) → r.waits ≡ waits_of t notes → noted ≡ waits_of t (record { state = r.state; moment = now } ∷ notes)
 
   claims_so : (noted : List (Option Noted)) → NotesSo noted → greatest_counter r.origin r.state.known + app_count t ≤ MAX_COUNTER → (notes : List Note) → r.waits ≡ waits_of t notes →
-      IsTurn t r.origin (record { state = r.state; moment = now } ∷ notes) now r.state (apps_of t) (turn_of t r.origin noted now r.state).ops (turn_of t r.origin noted now r.state).passed
+      IsSweep t r.origin (record { state = r.state; moment = now } ∷ notes) now r.state (apps_of t) (sweep_of t r.origin noted now r.state).ops (sweep_of t r.origin noted now r.state).passed
   claims_so noted so room notes are =
       let all = record { state = r.state; moment = now } ∷ notes in
-      subst (λ w. IsTurn t r.origin all now r.state (apps_of t) (turn_of t r.origin w now r.state).ops (turn_of t r.origin w now r.state).passed) (sym (so notes are)) (turn_in_words t r.origin all now r.state room)
+      subst (λ w. IsSweep t r.origin all now r.state (apps_of t) (sweep_of t r.origin w now r.state).ops (sweep_of t r.origin w now r.state).passed) (sym (so notes are)) (sweep_in_words t r.origin all now r.state room)
 
   ticks_so : (opening : Opening) (noted : List (Option Noted)) → opening_at t r now ≡ opening → greatest_counter r.origin r.state.known + app_count t ≤ MAX_COUNTER → ((ticks_by opening t r noted now).notes ≡ true → NotesSo noted) → TicksSo t r now (ticks_by opening t r noted now).reply
   ticks_so Shut noted is room so = start_gate r.is_open Shut refl is

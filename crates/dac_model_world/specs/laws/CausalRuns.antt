@@ -25,7 +25,7 @@ use Rattle.dac_messages.specs.declared.reply.Reply.{Reply}
 use Rattle.dac_commands.specs.Commands.{act_of, next_operation}
 use Rattle.dac_events.specs.declared.refusal.Refusal.{Refusal}
 use Rattle.dac_commands.specs.Causes.{refusal_of_command}
-use Rattle.dac_model_node.specs.Ticks.{turn_of}
+use Rattle.dac_model_node.specs.Ticks.{sweep_of}
 use Rattle.dac_model_node.specs.laws.Claims.{claims_are}
 use Rattle.dac_model_node.specs.ModelNode.{ModelNode, ModelRunning, joined, shown, running_shown}
 use Rattle.dac_model_node.specs.EventRefusals.{refusal_of, refusal_by, refusal_to_tick, otherwise}
@@ -163,12 +163,12 @@ module _ (t : Table) (w : ModelWorld) (s : SetWorld) (n : NodeId) (h : Sound w s
       causal_issue s n c (o ∷ []) d (subst (λ (x : Option NodeSet). AreNext (held_by x) (o ∷ [])) (sym held.is) (next, tt))
 
   causal_claims : (r : ModelRunning) → (w.node n).running ≡ Some r → (noted : List (Option Noted)) (now : ℕ) → refusal_to_tick t (running_shown t r) now ≡ None →
-      let more = (turn_of t r.origin noted now (joined r.log)).ops in
+      let more = (sweep_of t r.origin noted now (joined r.log)).ops in
       DotsDetermine (w.operations ++ more) → Differ (issuing s n more).issued → Causal (issuing s n more)
   causal_claims r on noted now none agree d =
       let held = held_at w s n r h on in
       let os = held.set.operations in
-      let more = (turn_of t r.origin noted now (joined r.log)).ops in
+      let more = (sweep_of t r.origin noted now (joined r.log)).ops in
       let all = w.operations ++ more in
       let inside : AreOperationsOf (os ++ more) all = Within-append os more all (λ o i. In-append_left o w.operations more (held.ok.within o i)) (λ o i. In-append_right o w.operations more i) in
       let claims = claims_are t r.origin noted now (joined r.log) (leaves_room t (running_shown t r) now none) in
@@ -182,7 +182,7 @@ module _ (t : Table) (w : ModelWorld) (s : SetWorld) (n : NodeId) (h : Sound w s
   causal_tick what r on note noted now Shut none next = c
   causal_tick what r on note noted now GiveUp none next = causal_off s n c
   causal_tick what r on note noted now Opened none next =
-      causal_claims r on noted now none (DistinctDots-agree _ next.distinct) (issued_apart _ (issuing s n (turn_of t r.origin noted now (joined r.log)).ops) next)
+      causal_claims r on noted now none (DistinctDots-agree _ next.distinct) (issued_apart _ (issuing s n (sweep_of t r.origin noted now (joined r.log)).ops) next)
 
   -- an accepted event
   causal_ok : (what : What) (e : Event) (running : Option ModelRunning) → refusal_of t (shown t (w.node n)) e ≡ None → (w.node n).running ≡ running →

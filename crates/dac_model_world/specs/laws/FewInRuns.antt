@@ -20,7 +20,7 @@ use Rattle.dac_messages.specs.declared.event.Event.TheVariants.{Boot, Crash, Com
 use Rattle.dac_messages.specs.declared.reply.Reply.{Reply}
 use Rattle.dac_messages.specs.declared.reply.Reply.TheVariants.{Booted, Heard}
 use Rattle.dac_events.specs.declared.refusal.Refusal.TheVariants.{NoMemory}
-use Rattle.dac_model_node.specs.Ticks.{turn_of}
+use Rattle.dac_model_node.specs.Ticks.{sweep_of}
 use Rattle.dac_model_node.specs.NodeValue.{RunningValue}
 use Rattle.dac_model_node.specs.ModelNode.{ModelNode, ModelRunning, joined, shown, running_shown}
 use Rattle.dac_model_node.specs.EventRefusals.{refusal_of}
@@ -48,7 +48,7 @@ brings_few s body before = elim (is_below body s) as (λ b. before + length (con
 tick_adds : (opening : Opening) (t : Table) (r : RunningValue) (noted : List (Option Noted)) (now : ℕ) → AddsFew (ticks_by opening t r noted now)
 tick_adds Shut t r noted now before = omega arith
 tick_adds GiveUp t r noted now before = omega arith
-tick_adds Opened t r noted now before = let ops = (turn_of t r.origin noted now r.state).ops in together before _ _ (length-map ops (λ (o : Operation). meaning_of (o ∷ [])))
+tick_adds Opened t r noted now before = let ops = (sweep_of t r.origin noted now r.state).ops in together before _ _ (length-map ops (λ (o : Operation). meaning_of (o ∷ [])))
   where
     together : (b m k : ℕ) → m ≡ k → b + m ≤ b + k
     together b m k e = omega arith

@@ -62,16 +62,16 @@ meaning-none =
     (claims-meaning [])
     (same_drains (drains_of (meaning_of [])) (drains_of bottom) known (λ w. drains-meaning [] w ∙ sym (map.get-empty (keyed_write_cmp origin_cmp) w))))
 
-joined_from : (os : List Operation) (es : Entries) → DotsDetermine (os ++ gathered es) → fold join (meaning_of os) (logged es) ≡ meaning_of (os ++ gathered es)
-joined_from os [] agree = ap meaning_of (sym (append-nil os))
-joined_from os (e ∷ es) agree =
+interval_from : (os : List Operation) (es : Entries) → DotsDetermine (os ++ gathered es) → fold join (meaning_of os) (logged es) ≡ meaning_of (os ++ gathered es)
+interval_from os [] agree = ap meaning_of (sym (append-nil os))
+interval_from os (e ∷ es) agree =
     let apart : (os ++ e) ++ gathered es ≡ os ++ (e ++ gathered es) = append_assoc os e (gathered es) in
     let first : DotsDetermine (os ++ e) = Agree-within (os ++ e) (os ++ (e ++ gathered es)) (λ o i. subst (IsOperationOf o) apart (In-append_left o (os ++ e) (gathered es) i)) agree in
-    ap (λ s. fold join s (logged es)) (join-meaning os e first) ∙ (joined_from (os ++ e) es (subst DotsDetermine (sym apart) agree) ∙ ap meaning_of apart)
+    ap (λ s. fold join s (logged es)) (join-meaning os e first) ∙ (interval_from (os ++ e) es (subst DotsDetermine (sym apart) agree) ∙ ap meaning_of apart)
 
 -- the join of the sets' meanings is the meaning of all their operations
 pub joined-logged : (es : Entries) → DotsDetermine (gathered es) → joined (logged es) ≡ meaning_of (gathered es)
-joined-logged es agree = ap (λ s. fold join s (logged es)) meaning-none ∙ joined_from [] es agree
+joined-logged es agree = ap (λ s. fold join s (logged es)) meaning-none ∙ interval_from [] es agree
 
 -- ---- the first sets and the rest
 gathered_parts : (n : ℕ) (es : Entries) → gathered es ≡ gathered (take n es) ++ gathered (drop n es)

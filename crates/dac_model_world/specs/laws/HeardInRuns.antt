@@ -103,9 +103,9 @@ copy_counted ops v ms cs k c h e =
 for_it : (a b c d : Bool) → a ≡ false → b ≡ true → c ≡ true → first ((a, OnSelf) ∷ (not (b && c), NotForMe) ∷ (d, DotsUsedUp) ∷ []) ≡ first ((d, DotsUsedUp) ∷ [])
 for_it a b c d p q r = λ i. first ((p i, OnSelf) ∷ (not (q i && r i), NotForMe) ∷ (d, DotsUsedUp) ∷ [])
 
-turned : (b : Bool) → not b ≡ true → b ≡ false
-turned true h = absurd (true≢false (sym h))
-turned false h = refl
+swept : (b : Bool) → not b ≡ true → b ≡ false
+swept true h = absurd (true≢false (sym h))
+swept false h = refl
 
 right : (a b : Bool) → (a && b) ≡ true → b ≡ true
 right true b h = h
@@ -152,7 +152,7 @@ module _ (t : Table) (w : ModelWorld) (s : SetWorld) (h : Sound w s) (deltas : N
       let rest = and_parts (not (nat_eq m.from.node.0 n.0)) (option_map_or (λ inc. nat_eq inc last) m.only true) to.1 in
       ap (λ running. refusal_by t last (option_map (running_shown t) running) (Hear m)) on
       ∙ (ap (λ (q : Origin). first ((nat_eq m.from.node.0 q.node.0, OnSelf) ∷ (not (nat_eq m.to.0 q.node.0 && option_map_or (λ inc. nat_eq inc q.inc) m.only true), NotForMe) ∷ (overflows (running_shown t r) (content_of m.body), DotsUsedUp) ∷ [])) held.mine
-      ∙ for_it (nat_eq m.from.node.0 n.0) (nat_eq m.to.0 n.0) (option_map_or (λ inc. nat_eq inc last) m.only true) (overflows (running_shown t r) (content_of m.body)) (turned (nat_eq m.from.node.0 n.0) rest.0) to.0 rest.1)
+      ∙ for_it (nat_eq m.from.node.0 n.0) (nat_eq m.to.0 n.0) (option_map_or (λ inc. nat_eq inc last) m.only true) (overflows (running_shown t r) (content_of m.body)) (swept (nat_eq m.from.node.0 n.0) rest.0) to.0 rest.1)
 
   heard_by_node : (what : What) → RunsIn s n → Fits s n what → Outcome (deltas n) (happens_by t w n (event_of w.operations w.messages what)).answer
   heard_by_node (Deliver k) runs fits =

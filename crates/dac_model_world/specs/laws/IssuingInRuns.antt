@@ -21,7 +21,7 @@ use Rattle.dac_messages.specs.declared.event.Event.TheVariants.{Boot, Crash, Com
 use Rattle.dac_commands.specs.Commands.{act_of, next_operation}
 use Rattle.dac_commands.specs.Causes.{refusal_of_command}
 use Rattle.dac_events.specs.declared.world_fault.WorldFault.TheVariants.{NoSuchNode}
-use Rattle.dac_model_node.specs.Ticks.{turn_of}
+use Rattle.dac_model_node.specs.Ticks.{sweep_of}
 use Rattle.dac_model_node.specs.Issued.{AreIssued}
 use Rattle.dac_model_node.specs.ModelNode.{ModelNode, ModelRunning, joined, shown, running_shown}
 use Rattle.dac_model_node.specs.EventRefusals.{refusal_of, refusal_by, refusal_to_tick}
@@ -138,11 +138,11 @@ module _ (t : Table) (w : ModelWorld) (s : SetWorld) (e : WorldEvent) (h : Sound
     stays : (after : Option ModelRunning) (ms : List Message) → Numbered (record { count = w.count; node = with_node w.node n (record { last = (w.node n).last; running = after }); operations = w.operations ++ []; messages = w.messages ++ ms })
     stays after ms = (goes after [] ms tt tt).1
 
-    claims_next : (noted : List (Option Noted)) (now : ℕ) → refusal_to_tick t (running_shown t r) now ≡ None → let more = (turn_of t r.origin noted now (joined r.log)).ops in DotsDetermine (w.operations ++ more) → AreNext (held_at w s n r h on).set.operations more
+    claims_next : (noted : List (Option Noted)) (now : ℕ) → refusal_to_tick t (running_shown t r) now ≡ None → let more = (sweep_of t r.origin noted now (joined r.log)).ops in DotsDetermine (w.operations ++ more) → AreNext (held_at w s n r h on).set.operations more
     claims_next noted now none agree =
         let held = held_at w s n r h on in
         let os = held.set.operations in
-        let more = (turn_of t r.origin noted now (joined r.log)).ops in
+        let more = (sweep_of t r.origin noted now (joined r.log)).ops in
         let all = w.operations ++ more in
         let inside : AreOperationsOf (os ++ more) all = Within-append os more all (λ o i. In-append_left o w.operations more (held.ok.within o i)) (λ o i. In-append_right o w.operations more i) in
         after_claims t r.origin (joined r.log) os more held.state (Agree-within (os ++ more) all inside agree) (claims_are t r.origin noted now (joined r.log) (leaves_room t (running_shown t r) now none))
@@ -154,7 +154,7 @@ module _ (t : Table) (w : ModelWorld) (s : SetWorld) (e : WorldEvent) (h : Sound
     ticks note noted now Shut none next = (tt, stays _ [])
     ticks note noted now GiveUp none next = (tt, stays _ [])
     ticks note noted now Opened none next =
-        let more = (turn_of t r.origin noted now (joined r.log)).ops in
+        let more = (sweep_of t r.origin noted now (joined r.log)).ops in
         goes _ more [] (are_of r.origin (joined r.log) more (claims_issued t r.origin noted now (joined r.log))) (claims_next noted now none (DistinctDots-agree _ next.distinct))
 
   -- an accepted event

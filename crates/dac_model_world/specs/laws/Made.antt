@@ -30,7 +30,7 @@ use Rattle.dac_messages.specs.declared.reply.Reply.{Reply}
 use Rattle.dac_messages.specs.declared.reply.Reply.TheVariants.{Crashed, GaveUp, Heard}
 use Rattle.dac_model_node.specs.Position.{Position}
 use Rattle.dac_model_node.specs.Peers.{begins, has_all}
-use Rattle.dac_model_node.specs.Ticks.{turn_of}
+use Rattle.dac_model_node.specs.Ticks.{sweep_of}
 use Rattle.dac_model_node.specs.Issued.{AreIssued}
 use Rattle.dac_model_node.specs.NodeValue.{NodeValue, RunningValue, state_of}
 use Rattle.dac_model_node.specs.ModelNode.{shown}
@@ -232,8 +232,8 @@ module _ (ops : List Operation) (n : NodeId) (last : ℕ) (r : RunningValue) (di
   tick_made t now Shut = still (holds_back r now) refl refl no_bodies
   tick_made t now GiveUp = still (goes_down r GaveUp) refl refl no_bodies
   tick_made t now Opened =
-      let turn = turn_of t r.origin noted now r.state in
-      issued (looks_after r now turn) turn.ops refl refl (claims_issued t r.origin noted now r.state) no_bodies
+      let sweep = sweep_of t r.origin noted now r.state in
+      issued (looks_after r now sweep) sweep.ops refl refl (claims_issued t r.origin noted now r.state) no_bodies
 
 -- an event brings a node only meanings of issued operations
 abbrev Comes : List Operation → Event → Type 0

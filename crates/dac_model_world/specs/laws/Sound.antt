@@ -35,7 +35,7 @@ use Rattle.dac_messages.specs.declared.reply.Reply.{Reply}
 use Rattle.dac_events.specs.declared.refusal.Refusal.TheVariants.{OnSelf, NotForMe, DotsUsedUp}
 use Rattle.dac_commands.specs.Causes.{first}
 use Rattle.dac_commands.specs.Commands.{act_of, next_operation}
-use Rattle.dac_model_node.specs.Ticks.{turn_of}
+use Rattle.dac_model_node.specs.Ticks.{sweep_of}
 use Rattle.dac_model_node.specs.Issued.{AreIssued}
 use Rattle.dac_model_node.specs.NodeValue.{RunningValue}
 use Rattle.dac_model_node.specs.ModelNode.{ModelNode, ModelRunning, joined, shown, running_shown}
@@ -521,8 +521,8 @@ module _ (w : ModelWorld) (s : SetWorld) (n : NodeId) (h : Sound w s) where
   sound_tick t what r on note noted now Shut = sound_keep r on _ [] s.copies (record { origin = refl; log = refl }) (λ v k. k) (λ v later. same_copies w s n h [] v later)
   sound_tick t what r on note noted now GiveUp = sound_off
   sound_tick t what r on note noted now Opened =
-      let turn = turn_of t r.origin noted now (joined r.log) in
-      sound_issue r on _ turn.ops (record { origin = refl; log = refl }) refl (claims_issued t r.origin noted now (joined r.log))
+      let sweep = sweep_of t r.origin noted now (joined r.log) in
+      sound_issue r on _ sweep.ops (record { origin = refl; log = refl }) refl (claims_issued t r.origin noted now (joined r.log))
 
   -- ---- an accepted event
   sound_ok : (t : Table) (what : What) (e : Event) (running : Option ModelRunning) → event_of w.operations w.messages what ≡ Ok e → refusal_of t (shown t (w.node n)) e ≡ None → (w.node n).running ≡ running →

@@ -22,7 +22,7 @@ use Rattle.dac_wishes.specs.Writes.{Write, write, same_dot}
 use Rattle.dac_operations.specs.declared.act.Act.{Act}
 use Rattle.dac_operations.specs.declared.act.Act.TheVariants.{Permit, Start, Stop, Drain}
 use Rattle.dac_operations.specs.Operations.{Operation, over_list}
-use Rattle.dac_meaning.specs.Meaning.{meaning_of, IsOperationOf, has_dot, is_replaced, is_same, vote_says, is_vote, vote_said, vote_at, permit_vote, drain_vote, says, flag_said, wishes, is_start}
+use Rattle.dac_meaning.specs.Meaning.{meaning_of, IsOperationOf, has_dot, is_replaced, is_same, vote_says, is_vote, vote_flag, vote_at, permit_vote, drain_vote, says, flag_written, wishes, is_start}
 use Rattle.dac_meaning.specs.laws.Members.{found, finds}
 use Rattle.dac_meaning.specs.laws.Readers.{starts-meaning, permits-meaning, drains-meaning}
 use Rattle.dac_commands.specs.Written.{PermitStands, StartStands, DrainStands}
@@ -40,9 +40,9 @@ pub record StandsAs (Writes : Act → Type 0) (os : List Operation) (d : Dot) : 
 dot_tested : (d : Dot) (o : Operation) → o.dot ≡ d → has_dot d o ≡ true
 dot_tested d o e = ap (same_dot d) e ∙ same_dot_itself d
 
-turned : (a : Bool) → not a ≡ true → a ≡ false
-turned true h = absurd (false≢true h)
-turned false h = refl
+swept : (a : Bool) → not a ≡ true → a ≡ false
+swept true h = absurd (false≢true h)
+swept false h = refl
 
 -- ---- start wishes
 wish_is : (key : Key) (act : Act) → wishes key act ≡ true → IsStartOf key act
@@ -60,7 +60,7 @@ starts_stand os key d = (
       let parts = and_parts (list_any (is_start w) os) (not (is_replaced d os)) (sym (starts-meaning os w) ∙ h) in
       let o = found (is_start w) os parts.0 in
       let both = and_parts (wishes key o.0.act) (has_dot d o.0) o.1.1 in
-      record { operation = o.0; there = o.1.0; writes = wish_is key o.0.act both.0; is = sym (same_dot_is d o.0.dot both.1); stays = turned (is_replaced d os) parts.1 },
+      record { operation = o.0; there = o.1.0; writes = wish_is key o.0.act both.0; is = sym (same_dot_is d o.0.dot both.1); stays = swept (is_replaced d os) parts.1 },
   λ x.
       let w : Write = write key d in
       let o = x.operation in
@@ -85,12 +85,12 @@ is_said key _ e = absurd e
 
 -- ---- votes
 
-either_said : (a b : Bool) → is_some (flag_said a b) ≡ true → (a ≡ true) ⊎ (b ≡ true)
+either_said : (a b : Bool) → is_some (flag_written a b) ≡ true → (a ≡ true) ⊎ (b ≡ true)
 either_said true b h = inl refl
 either_said false true h = inr refl
 either_said false false h = absurd (false≢true h)
 
-said_either : (a b : Bool) → (a ≡ true) ⊎ (b ≡ true) → is_some (flag_said a b) ≡ true
+said_either : (a b : Bool) → (a ≡ true) ⊎ (b ≡ true) → is_some (flag_written a b) ≡ true
 said_either true b h = refl
 said_either false true h = refl
 said_either false false (inl h) = absurd (false≢true h)
@@ -116,13 +116,13 @@ module _ {K : Type 0} (R : K → K → Ordering) (vote : Act → Option (K × Bo
       let both = and_parts (vote_says R key v (vote o.0.act)) (has_dot d o.0) o.1.1 in
       (o.0, (o.1.0, (writes_is key v o.0.act both.0, sym (same_dot_is d o.0.dot both.1))))
 
-  said_found : (os : List Operation) (key : K) (d : Dot) → is_some (vote_said R vote down (keyed_write key d) os) ≡ true → (o : Operation) × (IsOperationOf o os × (Writes key o.act × (o.dot ≡ d)))
+  said_found : (os : List Operation) (key : K) (d : Dot) → is_some (vote_flag R vote down (keyed_write key d) os) ≡ true → (o : Operation) × (IsOperationOf o os × (Writes key o.act × (o.dot ≡ d)))
   said_found os key d h = elim (either_said (list_any (is_vote R vote (keyed_write key d) down) os) (list_any (is_vote R vote (keyed_write key d) (not down)) os) h) [
     | inl t ↦ vote_found os key d down t
     | inr t ↦ vote_found os key d (not down) t
   ]
 
-  found_said : (os : List Operation) (key : K) (d : Dot) (v : Bool) → list_any (is_vote R vote (keyed_write key d) v) os ≡ true → is_some (vote_said R vote down (keyed_write key d) os) ≡ true
+  found_said : (os : List Operation) (key : K) (d : Dot) (v : Bool) → list_any (is_vote R vote (keyed_write key d) v) os ≡ true → is_some (vote_flag R vote down (keyed_write key d) os) ≡ true
   found_said os key d v h =
       said_either (list_any (is_vote R vote (keyed_write key d) down) os) (list_any (is_vote R vote (keyed_write key d) (not down)) os)
       (one_value down v (λ v. list_any (is_vote R vote (keyed_write key d) v) os) h)
@@ -131,13 +131,13 @@ module _ {K : Type 0} (R : K → K → Ordering) (vote : Act → Option (K × Bo
   votes_stand : (os : List Operation) (key : K) (d : Dot) → (is_some (vote_at R vote down os (keyed_write key d)) ≡ true) ↔ StandsAs (Writes key) os d
   votes_stand os key d = (
     λ h.
-        let parts = given (is_replaced d os) (vote_said R vote down (keyed_write key d) os) h in
+        let parts = given (is_replaced d os) (vote_flag R vote down (keyed_write key d) os) h in
         let p = said_found os key d parts.1 in
         record { operation = p.0; there = p.1.0; writes = p.1.1.0; is = p.1.1.1; stays = parts.0 },
     λ x.
         let o = x.operation in
         let v = is_told key o.act x.writes in
-        ap (λ b. is_some (cond b None (vote_said R vote down (keyed_write key d) os))) x.stays
+        ap (λ b. is_some (cond b None (vote_flag R vote down (keyed_write key d) os))) x.stays
         ∙ found_said os key d v.0 (finds (is_vote R vote (keyed_write key d) v.0) os o x.there (and_from (vote_says R key v.0 (vote o.act)) (has_dot d o) v.1 (dot_tested d o x.is))),
   )
 

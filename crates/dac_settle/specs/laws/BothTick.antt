@@ -9,10 +9,10 @@ use Rattle.dac_meaning.specs.Meaning.{IsOperationOf, AreOperationsOf, DotsDeterm
 use Rattle.dac_meaning.specs.laws.Members.{In-append_left, In-append_right, In-append_cases}
 use Rattle.dac_decide.specs.FailoverWait.{Note, waits_of}
 use Rattle.dac_commands.specs.Causes.{terms_used_up}
-use Rattle.dac_ticks.specs.Ticks.{turn_from}
-use Rattle.dac_ticks.specs.laws.Turning.{turned_by}
+use Rattle.dac_ticks.specs.Ticks.{sweep_from}
+use Rattle.dac_ticks.specs.laws.Sweeping.{swept_by}
 use Rattle.dac_ticks.specs.Again.{noting}
-use Rattle.dac_settle.specs.Settling.{Member, with_member, own_of, turn_at, holding, ticked, IsTick, MemberEvent, Run, AllSame, IsRound}
+use Rattle.dac_settle.specs.Settling.{Member, with_member, own_of, sweep_at, holding, ticked, IsTick, MemberEvent, Run, AllSame, IsRound}
 use Rattle.dac_settle.specs.Settling.MemberEvent.{Tick, Ship, Deliver}
 use Rattle.dac_settle.specs.Worked.{first_node, second_node, IsEither, the_app, worked_table, member_with, both_hold}
 use Rattle.dac_settle.specs.laws.AnyPlacement.{same_node, one, some_is}
@@ -44,13 +44,13 @@ module _ (held : List Operation) where
       agree = agree;
       late = λ app claim since noted. absurd (no_row noted.row noted.begin noted.before noted.parts);
       passed =
-          turned_by worked_table (own_of n (member_with held)) (waits_of worked_table (noting (meaning_of held) 0 [])) 0 (λ turn. turn.passed ≡ []) (turn_from (meaning_of held)) the_app
+          swept_by worked_table (own_of n (member_with held)) (waits_of worked_table (noting (meaning_of held) 0 [])) 0 (λ sweep. sweep.passed ≡ []) (sweep_from (meaning_of held)) the_app
           (λ none. refl) (λ mine used. absurd (true≢false (sym used ∙ left))) (λ mine left. refl);
     }
 
     -- ---- the round
     abbrev made : NodeId → List Operation
-    made n = (turn_at worked_table n (member_with held) 0).ops
+    made n = (sweep_at worked_table n (member_with held) 0).ops
 
     -- a node after its tick, and after it has heard the other's claims
     abbrev after_tick : NodeId → Member

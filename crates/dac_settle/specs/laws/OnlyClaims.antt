@@ -30,7 +30,7 @@ use Rattle.dac_wishes.specs.laws.Writes.{writes_total, exact_writes}
 use Rattle.dac_operations.specs.declared.act.Act.{Act}
 use Rattle.dac_operations.specs.declared.act.Act.TheVariants.{Up, Down, Permit, Start, Stop, Drain, Claim}
 use Rattle.dac_operations.specs.Operations.{Operation, operation}
-use Rattle.dac_meaning.specs.Meaning.{IsOperationOf, AreOperationsOf, meaning_of, has_dot, replaces, is_start, vote_says, is_vote, vote_at, permit_vote, drain_vote, flag_said, pairs, life_said, claim_said}
+use Rattle.dac_meaning.specs.Meaning.{IsOperationOf, AreOperationsOf, meaning_of, has_dot, replaces, is_start, vote_says, is_vote, vote_at, permit_vote, drain_vote, flag_written, pairs, life_said, claim_said}
 use Rattle.dac_meaning.specs.laws.Members.{found, finds}
 use Rattle.dac_meaning.specs.laws.Readers.{starts-meaning, permits-meaning, drains-meaning, lives-meaning, lives_are, claims-meaning, claims_are}
 use Rattle.dac_meaning.specs.Chained.{SaysFor}
@@ -117,7 +117,7 @@ module _ (s x : List Operation) (adds : AddsClaims s x) where
   vote_alike : {K : Type 0} (R : K → K → Ordering) (vote : Act → Option (K × Bool)) (down : Bool) → ((a : Act) → is_claim a ≡ true → vote a ≡ None) → (w : KeyedWrite K) → vote_at R vote down x w ≡ vote_at R vote down s w
   vote_alike R vote down none w =
       let no_vote = λ (v : Bool) (o : Operation) (c : is_claim o.act ≡ true). ap (λ u. vote_says R w.key v u && has_dot w.dot o) (none o.act c) in
-      λ i. cond (replaced_alike w.dot i) None (flag_said (any_alike (is_vote R vote w down) (no_vote down) i) (any_alike (is_vote R vote w (not down)) (no_vote (not down)) i))
+      λ i. cond (replaced_alike w.dot i) None (flag_written (any_alike (is_vote R vote w down) (no_vote down) i) (any_alike (is_vote R vote w (not down)) (no_vote (not down)) i))
 
   permits_alike : (meaning_of x).permits ≡ (meaning_of s).permits
   permits_alike = map.same_map writes_total exact_writes _ _ (λ w. permits-meaning x w ∙ vote_alike key_cmp permit_vote false no_permit w ∙ sym (permits-meaning s w))

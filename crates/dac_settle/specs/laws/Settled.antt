@@ -16,16 +16,16 @@ use Rattle.dac_placement.specs.declared.verdicts.Verdict.{Verdict}
 use Rattle.dac_placement.specs.declared.verdicts.Verdict.TheVariants.{Start, Failover, Halted, Move, Takeover, Kept, Nobody}
 use Rattle.dac_placement.specs.Placement.{apps_of, verdict_of, candidate_of}
 use Rattle.dac_decide.specs.FailoverWait.{Note, IsLost, IsLostByNewest}
-use Rattle.dac_ticks.specs.laws.Turning.{numbered, apps_from}
+use Rattle.dac_ticks.specs.laws.Sweeping.{numbered, apps_from}
 use Rattle.dac_ticks.specs.Again.{noting}
 use Rattle.dac_settle.specs.Rounds.{Held, IsApp, IsGrown, SetsEvent, Sets, InCopies, with_held, Happens as SetsHappen, Run as SetsRun, IsTickOf as IsSetsTick, Ticks as SetsTick, IsReady as AreReady, IsRound as IsRoundOfSets, Rounds as RoundsOfSets}
 use Rattle.dac_settle.specs.Rounds.SetsEvent.{Tick as Ticked, Ship as Shipped, Deliver as Delivered}
-use Rattle.dac_settle.specs.Settling.{Member, Members, with_member, turn_at, holding, ticked, MemberEvent, Happens, Run, Ticks, IsReady, IsRound, Rounds, IsSettled, RoundsSettleBy}
+use Rattle.dac_settle.specs.Settling.{Member, Members, with_member, sweep_at, holding, ticked, MemberEvent, Happens, Run, Ticks, IsReady, IsRound, Rounds, IsSettled, RoundsSettleBy}
 use Rattle.dac_settle.specs.Settling.MemberEvent.{Tick, Ship, Deliver}
 use Rattle.dac_settle.specs.laws.AnyPlacement.{in_copies, same_node, one, some_is, grown_united, tick_grown, any_settle}
 use Rattle.dac_settle.specs.laws.Placed.{one_inc, grown_alike, is_placement}
 use Rattle.dac_settle.specs.Placed.{placed}
-use Rattle.dac_settle.specs.laws.Turns.{lost_back, IsMemberOf, tick_claims}
+use Rattle.dac_settle.specs.laws.Sweeps.{lost_back, IsMemberOf, tick_claims}
 
 -- ---- members and their sets
 
@@ -100,7 +100,7 @@ module _ (t : Table) where
     goes w next (Tick n now) ok h =
         let d = h.0 in
         let m = ok.nodes n d h.1 in
-        let made = (turn_at t n d now).ops in
+        let made = (sweep_at t n d now).ops in
         let claims = tick_claims t s n d now m h.2 in
         let grown = tick_grown (placed t) (is_placement t) s n (placed t).apps d.held made (λ app i. i) m.grown claims in
         let after = ticked d now made in

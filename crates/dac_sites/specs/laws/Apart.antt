@@ -3,7 +3,7 @@ use Rattle.std.proofs.Common.{◌≡◌, ◌≢◌, ℕ, zero, suc, ◌+◌, ◌
 use Rattle.dac_journal.specs.declared.record.Record.{Record}
 use Rattle.dac_journal.specs.Journals.{calls_of, DifferAt}
 use Rattle.dac_sites.specs.Seats.{SeatValue, IsOneOf}
-use Rattle.dac_sites.specs.Behind.{SeatDiffers, StrangerFrom}
+use Rattle.dac_sites.specs.Behind.{SeatDiffers, FirstUnseated}
 
 -- a seat that differs, after seats that match
 pub seat_differs : (p i : ℕ) (rs : List Record) (ss : List SeatValue) (s : SeatValue) → i < length ss → s ≡ get_or ss i s → All (λ t. calls_of t.number rs ≡ t.calls) (take i ss)
@@ -16,7 +16,7 @@ seat_differs p (suc i) rs (x ∷ xs) s within there same apart =
 
 -- a record of no seat, after records of seats
 pub stranger_at : (p at i : ℕ) (ss : List SeatValue) (rs : List Record) (r : Record) → i < length rs → r ≡ get_or rs i r → All (λ q. IsOneOf q.seat (λ s. s.number) ss) (take i rs)
-    → All (λ s. s.number ≢ r.seat) ss → p ≡ i + at → StrangerFrom p at ss rs
+    → All (λ s. s.number ≢ r.seat) ss → p ≡ i + at → FirstUnseated p at ss rs
 stranger_at p at i ss [] r within there known none e = absurd (omega (arith, within))
 stranger_at p at zero ss (x ∷ xs) r within there known none e = inl (subst (λ (q : Record). All (λ s. s.number ≢ q.seat) ss) there none, omega (arith, e))
 stranger_at p at (suc i) ss (x ∷ xs) r within there known none e =

@@ -34,9 +34,9 @@ use Rattle.dac_decide.specs.laws.Lost.{same_to, same_itself}
 use Rattle.dac_decide.specs.laws.Kept.{kept_is}
 use Rattle.dac_commands.specs.Commands.{next_operation}
 use Rattle.dac_commands.specs.Causes.{terms_used_up}
-use Rattle.dac_ticks.specs.Ticks.{Turn, turn_from, claim_of, is_mine, turn_over}
+use Rattle.dac_ticks.specs.Ticks.{Sweep, sweep_from, claim_of, is_mine, sweep_over}
 use Rattle.dac_ticks.specs.Again.{IsAmong, noting, SecondTickClaimsNothing}
-use Rattle.dac_ticks.specs.laws.Turning.{numbered, apps_from, turned_by, turn_more}
+use Rattle.dac_ticks.specs.laws.Sweeping.{numbered, apps_from, swept_by, sweep_more}
 use Rattle.dac_ticks.specs.laws.Words.{is_own, own_if}
 use Rattle.dac_ticks.specs.laws.Claimed.{MayRunAlike, alike_itself, alike_through, alike_back, claim_alike, claim_state, other_claim, own_claim, claimed_as}
 
@@ -324,15 +324,15 @@ module _ (t : Table) (own : Origin) (notes : List Note) (now : ℕ) (s : StateVa
   abbrev waits : List (Option Noted)
   waits = waits_of t (noting s now notes)
 
-  -- the turn of the first n applications
-  abbrev first_n : ℕ → Turn
-  first_n n = turn_over t own waits now (turn_from s) (apps_from 0 n)
+  -- the sweep of the first n applications
+  abbrev first_n : ℕ → Sweep
+  first_n n = sweep_over t own waits now (sweep_from s) (apps_from 0 n)
 
   kept_state : (n : ℕ) → IsState (first_n n).state
   kept_state zero = is
   kept_state (suc n) = subst (λ m. IsState (first_n m).state) (add-one n)
-      (subst (λ (turn : Turn). IsState turn.state) (sym (turn_more t own waits now (turn_from s) n))
-      (turned_by t own waits now (λ turn. IsState turn.state) (first_n n) (numbered n) (λ none. kept_state n) (λ mine used. kept_state n)
+      (subst (λ (sweep : Sweep). IsState sweep.state) (sym (sweep_more t own waits now (sweep_from s) n))
+      (swept_by t own waits now (λ sweep. IsState sweep.state) (first_n n) (numbered n) (λ none. kept_state n) (λ mine used. kept_state n)
       (λ mine left. after_state t own (first_n n).state (kept_state n) (numbered n))))
 
   to_candidate : (w : List (Option Noted)) (u : StateValue) (app : AppId) → is_mine t own w now u app ≡ true → candidate_of (verdict_of t u app) ≡ Some own.node
@@ -343,8 +343,8 @@ module _ (t : Table) (own : Origin) (notes : List Note) (now : ℕ) (s : StateVa
 
   later_more : (lo n : ℕ) → lo ≤ n → IsLater lo n → IsLater lo (n + 1)
   later_more lo n le l =
-      subst (λ (turn : Turn). Later t own lo (n + 1) (first_n lo).state turn.state) (sym (turn_more t own waits now (turn_from s) n))
-      (turned_by t own waits now (λ turn. Later t own lo (n + 1) (first_n lo).state turn.state) (first_n n) (numbered n)
+      subst (λ (sweep : Sweep). Later t own lo (n + 1) (first_n lo).state sweep.state) (sym (sweep_more t own waits now (sweep_from s) n))
+      (swept_by t own waits now (λ sweep. Later t own lo (n + 1) (first_n lo).state sweep.state) (first_n n) (numbered n)
       (λ none. later_wider t own lo n (first_n lo).state (first_n n).state l) (λ mine used. later_wider t own lo n (first_n lo).state (first_n n).state l)
       (λ mine left. later_claims t own (first_n n).state (kept_state n) (numbered n) lo (first_n lo).state le l (to_candidate waits (first_n n).state (numbered n) mine)))
 
@@ -364,8 +364,8 @@ module _ (t : Table) (own : Origin) (notes : List Note) (now : ℕ) (s : StateVa
   -- applications passed over stay passed over
   passed_more : (app : AppId) (n : ℕ) → IsAmong app (first_n n).passed → IsAmong app (first_n (n + 1)).passed
   passed_more app n h =
-      subst (λ (turn : Turn). IsAmong app turn.passed) (sym (turn_more t own waits now (turn_from s) n))
-      (turned_by t own waits now (λ turn. IsAmong app turn.passed) (first_n n) (numbered n) (λ none. h) (λ mine used. among_left app (first_n n).passed (numbered n ∷ []) h) (λ mine left. h))
+      subst (λ (sweep : Sweep). IsAmong app sweep.passed) (sym (sweep_more t own waits now (sweep_from s) n))
+      (swept_by t own waits now (λ sweep. IsAmong app sweep.passed) (first_n n) (numbered n) (λ none. h) (λ mine used. among_left app (first_n n).passed (numbered n ∷ []) h) (λ mine left. h))
 
   passed_by : (app : AppId) (lo k n : ℕ) → lo + k ≡ n → IsAmong app (first_n lo).passed → IsAmong app (first_n n).passed
   passed_by app lo zero n e h = let same : lo ≡ n = omega arith in subst (λ m. IsAmong app (first_n m).passed) same h
@@ -413,7 +413,7 @@ module _ (t : Table) (own : Origin) (notes : List Note) (now : ℕ) (s : StateVa
       let app = numbered i in
       let u = (first_n i).state in
       let both = and_parts (is_own own (candidate_of (verdict_of t end app))) (is_due_by t (noted_at waits_then app) end app now (verdict_of t end app)) mine in
-      let same : map.get u.claims app ≡ map.get end.claims app = ap (λ (turn : Turn). map.get turn.state.claims app) left ∙ same_after i lt in
+      let same : map.get u.claims app ≡ map.get end.claims app = ap (λ (sweep : Sweep). map.get sweep.state.claims app) left ∙ same_after i lt in
       let l = later i N (omega arith) in
       let first = first_of t own end app (verdict_of t end app) (verdict_in_words t end app) (own_if own (candidate_of (verdict_of t end app)) both.0) in
       let judged : verdict_of t u app ≡ verdict_of t end app =
@@ -432,29 +432,29 @@ module _ (t : Table) (own : Origin) (notes : List Note) (now : ℕ) (s : StateVa
   was_passed i lt mine =
       let app = numbered i in
       let u = (first_n i).state in
-      turned_by t own waits now (λ turn. turn ≡ first_n (i + 1) → WasPassed i) (first_n i) app
+      swept_by t own waits now (λ sweep. sweep ≡ first_n (i + 1) → WasPassed i) (first_n i) app
       (λ none left. absurd (true≢false (sym (was_mine i lt left mine) ∙ none)))
       (λ yes used passes. (
-        sym (used_alike_by app u end (ap (λ (turn : Turn). map.get turn.state.claims app) passes ∙ same_after i lt)) ∙ used,
-        passed_by app (i + 1) (N - (i + 1)) N (omega arith) (subst (λ (turn : Turn). IsAmong app turn.passed) passes (among_last app (first_n i).passed)),
+        sym (used_alike_by app u end (ap (λ (sweep : Sweep). map.get sweep.state.claims app) passes ∙ same_after i lt)) ∙ used,
+        passed_by app (i + 1) (N - (i + 1)) N (omega arith) (subst (λ (sweep : Sweep). IsAmong app sweep.passed) passes (among_last app (first_n i).passed)),
       ))
       (λ yes left claims.
       let l = later (i + 1) N (omega arith) in
-      let takes : Takes t own (first_n (i + 1)).state app = subst (λ (turn : Turn). Takes t own turn.state app) claims (after_takes t own u (kept_state i) app (to_candidate waits u app yes)) in
+      let takes : Takes t own (first_n (i + 1)).state app = subst (λ (sweep : Sweep). Takes t own sweep.state app) claims (after_takes t own u (kept_state i) app (to_candidate waits u app yes)) in
       let kept = takes_alike t own (first_n (i + 1)).state end l.alike app (same_after i lt) takes in
       absurd (false≢true (ap is_some (sym (takes_kept t own end (up_at N) app kept) ∙ to_candidate waits_then end app mine))))
-      (sym (turn_more t own waits now (turn_from s) i))
+      (sym (sweep_more t own waits now (sweep_from s) i))
     where
       used_alike_by : (app : AppId) (u v : StateValue) → map.get u.claims app ≡ map.get v.claims app → terms_used_up u app ≡ terms_used_up v app
       used_alike_by app u v same = ap (λ c. nat_lt MAX_COUNTER (option_map_or (λ (claim : Claim). claim.term) c 0 + 1)) same
 
-  abbrev second_n : ℕ → Turn
-  second_n n = turn_over t own waits_then now (turn_from end) (apps_from 0 n)
+  abbrev second_n : ℕ → Sweep
+  second_n n = sweep_over t own waits_then now (sweep_from end) (apps_from 0 n)
 
-  pub record IsIdle (turn : Turn) : Type 0 where
-    pub ops : turn.ops ≡ []
-    pub state : turn.state ≡ end
-    pub passed : (app : AppId) → IsAmong app turn.passed → IsAmong app (first_n N).passed
+  pub record IsIdle (sweep : Sweep) : Type 0 where
+    pub ops : sweep.ops ≡ []
+    pub state : sweep.state ≡ end
+    pub passed : (app : AppId) → IsAmong app sweep.passed → IsAmong app (first_n N).passed
 
   idle : (n : ℕ) → n ≤ N → IsIdle (second_n n)
   idle zero le = record { ops = refl; state = refl; passed = λ app h. absurd h }
@@ -462,8 +462,8 @@ module _ (t : Table) (own : Origin) (notes : List Note) (now : ℕ) (s : StateVa
       let before = idle n (omega arith) in
       let lt : n < N = omega arith in
       subst (λ m. IsIdle (second_n m)) (add-one n)
-      (subst IsIdle (sym (turn_more t own waits_then now (turn_from end) n))
-      (turned_by t own waits_then now IsIdle (second_n n) (numbered n)
+      (subst IsIdle (sym (sweep_more t own waits_then now (sweep_from end) n))
+      (swept_by t own waits_then now IsIdle (second_n n) (numbered n)
       (λ none. before)
       (λ mine used.
       let passed = was_passed n lt (subst (λ u. is_mine t own waits_then now u (numbered n) ≡ true) before.state mine) in

@@ -30,7 +30,7 @@ use Rattle.dac_chains.specs.declared.claims.How.TheVariants.{Normal, Failover as
 use Rattle.dac_chains.specs.Greatest.{alone, greater}
 use Rattle.dac_chains.specs.laws.Greatest.{empty_is_least, get-greater}
 use Rattle.dac_chains.specs.declared.lives.LifeAct.TheVariants.{Other as NoLife}
-use Rattle.dac_chains.specs.Lives.{life_cmp, said_life}
+use Rattle.dac_chains.specs.Lives.{life_cmp, life_report}
 use Rattle.dac_chains.specs.laws.Lives.{lives_total, exact_lives}
 use Rattle.dac_chains.specs.Claims.{claim_cmp, how_cmp}
 use Rattle.dac_chains.specs.laws.Claims.{claims_total, exact_hows, exact_claims}
@@ -102,7 +102,7 @@ module _ (own : Origin) (s : StateValue) (act : Act) (silent : seen_life act ≡
   no_lives =
       lives-meaning (next_operation s own act ∷ [])
       ∙ sym (greatest-one nodes_total exact_nodes lives_total (exact_lives flag_cmp flags_exact) life_said (next_operation s own act))
-      ∙ ap (λ seen. alone (said_life (dot own (greatest_counter own s.known + 1)) seen)) silent
+      ∙ ap (λ seen. alone (life_report (dot own (greatest_counter own s.known + 1)) seen)) silent
 
   pub lives_stay : (join s silent_meaning).lives ≡ s.lives
   lives_stay =

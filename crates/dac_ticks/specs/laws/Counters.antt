@@ -20,7 +20,7 @@ use Rattle.dac_meaning.specs.StateValue.{StateValue, join}
 use Rattle.dac_meaning.specs.laws.StateLaws.{known-join}
 use Rattle.dac_meaning.specs.Meaning.{meaning_of}
 use Rattle.dac_meaning.specs.laws.Readers.{or-false, known-meaning}
-use Rattle.dac_commands.specs.Commands.{KnowsItself, greatest_among, greatest_counter, next_operation}
+use Rattle.dac_commands.specs.Commands.{KnowsOwnBoot, greatest_among, greatest_counter, next_operation}
 use Rattle.dac_commands.specs.laws.Counters.{counter-greatest}
 
 -- ---- the greatest counter is 0, or that of one of the dots
@@ -119,5 +119,5 @@ module _ (own : Origin) (s : StateValue) (act : Act) (bare : over_list act ≡ [
       (by_dot (greatest_there own (set.items after.known)))
 
 -- a state that knows the incarnation's boot still does
-pub knows_after : (own : Origin) (s : StateValue) (act : Act) → over_list act ≡ [] → KnowsItself own s → KnowsItself own (join s (meaning_of (next_operation s own act ∷ [])))
+pub knows_after : (own : Origin) (s : StateValue) (act : Act) → over_list act ≡ [] → KnowsOwnBoot own s → KnowsOwnBoot own (join s (meaning_of (next_operation s own act ∷ [])))
 knows_after own s act bare knows = still_known own s act bare (dot own 1) knows

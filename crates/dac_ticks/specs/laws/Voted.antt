@@ -25,7 +25,7 @@ use Rattle.dac_wishes.specs.laws.Votes.{standing-join_votes}
 use Rattle.dac_operations.specs.declared.act.Act.{Act}
 use Rattle.dac_operations.specs.Operations.{Operation, over_list}
 use Rattle.dac_meaning.specs.StateValue.{StateValue}
-use Rattle.dac_meaning.specs.Meaning.{meaning_of, is_same, flag_said, vote_says, vote_at}
+use Rattle.dac_meaning.specs.Meaning.{meaning_of, is_same, flag_written, vote_says, vote_at}
 use Rattle.dac_meaning.specs.laws.Readers.{known-meaning}
 use Rattle.dac_commands.specs.Commands.{greatest_counter, next_operation}
 use Rattle.dac_commands.specs.laws.Counters.{counter-greatest}
@@ -57,13 +57,13 @@ replaced_is_known own s act d h = known-meaning (next_operation s own act ∷ []
 some_flag : {f g : Flag} → ◌≡◌ {A = Option Flag} (Some f) (Some g) → f ≡ g
 some_flag e = cc
 
-none_said : (a b : Bool) → flag_said ((a && false) || false) ((b && false) || false) ≡ None
+none_said : (a b : Bool) → flag_written ((a && false) || false) ((b && false) || false) ≡ None
 none_said true true = refl
 none_said true false = refl
 none_said false true = refl
 none_said false false = refl
 
-value_said : (k down v : Bool) → k ≡ true → flag_said (((k && is_same v down) && true) || false) (((k && is_same v (not down)) && true) || false) ≡ Some (flag_by down v)
+value_said : (k down v : Bool) → k ≡ true → flag_written (((k && is_same v down) && true) || false) (((k && is_same v (not down)) && true) || false) ≡ Some (flag_by down v)
 value_said true true true e = refl
 value_said true true false e = refl
 value_said true false true e = refl
@@ -104,12 +104,12 @@ module _ {K : Type 0} {R : K → K → Ordering} (total : IsTotalOrder R) (exact
 
     -- the vote's flag at a dot, given whether the dot is replaced and whether it is the vote's own
     abbrev said_at : Bool → Bool → Option Flag
-    said_at gone mine = cond (gone || false) None (flag_said (((same && is_same value down) && mine) || false) (((same && is_same value (not down)) && mine) || false))
+    said_at gone mine = cond (gone || false) None (flag_written (((same && is_same value down) && mine) || false) (((same && is_same value (not down)) && mine) || false))
 
     abbrev said_by : Dot → Option (K × Bool) → Option Flag
     said_by d said =
         cond (has_key dot_cmp (over_list act) d || false) None
-        (flag_said ((vote_says R key down said && same_dot d next) || false) ((vote_says R key (not down) said && same_dot d next) || false))
+        (flag_written ((vote_says R key down said && same_dot d next) || false) ((vote_says R key (not down) said && same_dot d next) || false))
 
     says : (d : Dot) → map.get new (keyed_write key d) ≡ said_at (has_key dot_cmp (over_list act) d) (same_dot d next)
     says d = is.says (keyed_write key d) ∙ ap (said_by d) is.votes

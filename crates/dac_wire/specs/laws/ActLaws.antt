@@ -23,7 +23,7 @@ use Rattle.dac_bytes.specs.Reading.{Rest, number_at, range_at, counter_at, origi
 use Rattle.dac_bytes.specs.Spelling.{dot_bytes, origin_bytes}
 use Rattle.dac_bytes.specs.Takes.{IsCodec, Passes, Takes, TakesAs, Again}
 use Rattle.dac_bytes.specs.laws.Takes.{Takes-none, TakesAs-made, Again-made, ok_is}
-use Rattle.dac_part_bytes.specs.ChainForm.{IsFromFor}
+use Rattle.dac_part_bytes.specs.ChainForm.{IsConsistentOrigin}
 use Rattle.dac_part_bytes.specs.KeyedForm.{IsKey, IsKeyAbove}
 use Rattle.dac_part_bytes.specs.Reading.{app_at, key_above_at, manner_at, is_listed}
 use Rattle.dac_part_bytes.specs.Spelling.{app_bytes, key_bytes, manner_bytes}
@@ -96,7 +96,7 @@ module _ (version : Version) (nodes : ℕ) (fields : FieldCodecs version nodes) 
   term_and_manner_bytes c = u64_bytes c.0 ++ manner_bytes c.1.0 c.1.1
 
   abbrev IsTermAndManner : TermAndManner → Type 0
-  IsTermAndManner c = ((1 ≤ c.0) × (c.0 ≤ MAX_COUNTER)) × IsFromFor nodes c.1.0 c.1.1
+  IsTermAndManner c = ((1 ≤ c.0) × (c.0 ≤ MAX_COUNTER)) × IsConsistentOrigin nodes c.1.0 c.1.1
 
 regroup : (a b c : List ℕ) → a ++ (b ++ c) ≡ (a ++ b) ++ c
 regroup a b c = sym (append_assoc a b c)
@@ -158,7 +158,7 @@ module _ (version : Version) (t : Table) (parts : PartCodecs version t) where
   unfolding term_and_manner_at
   term_and_manner_codec =
       codec_pair counter_at u64_bytes (λ n. (1 ≤ n) × (n ≤ MAX_COUNTER)) fields.counter
-      (λ _ r. manner_at nodes r) (λ _ (m : How × Option NodeId). manner_bytes m.0 m.1) (λ _ m. IsFromFor nodes m.0 m.1) (λ _ _. parts.manner)
+      (λ _ r. manner_at nodes r) (λ _ (m : How × Option NodeId). manner_bytes m.0 m.1) (λ _ m. IsConsistentOrigin nodes m.0 m.1) (λ _ _. parts.manner)
 
   abbrev claim_bytes : ClaimFields → List ℕ
   claim_bytes c = app_bytes c.0 ++ term_and_manner_bytes version nodes fields c.1

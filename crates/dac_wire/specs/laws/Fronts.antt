@@ -14,7 +14,7 @@ use Rattle.dac_wire.specs.declared.coding.TheConstants.{PREAMBLE}
 use Rattle.dac_wire.specs.declared.fault.WireFault.{WireFault}
 use Rattle.dac_wire.specs.declared.fault.WireFaultKind.TheVariants.{TooLong, BadMagic, BadVersion, OtherConfig, Short, NoMemory}
 use Rattle.dac_wire.specs.declared.packet.TheConstants.{MAX_MESSAGE}
-use Rattle.dac_wire.specs.Decoding.{front_fault, version_in, wrong}
+use Rattle.dac_wire.specs.Decoding.{preamble_fault, version_in, wrong}
 use Rattle.dac_wire.specs.Spelling.{version_byte, name_bytes, mark_of, preamble_bytes}
 
 -- the format's name, and then its version
@@ -25,32 +25,32 @@ abbrev name_and_version : Version → List ℕ
 name_and_version version = 68 ∷ 65 ∷ 67 ∷ version_byte version ∷ []
 
 module _ (version : Version) (t : Table) (bytes : List ℕ) where
-  pub too_long : MAX_MESSAGE < length bytes → front_fault version t bytes ≡ wrong TooLong MAX_MESSAGE
-  unfolding front_fault
+  pub too_long : MAX_MESSAGE < length bytes → preamble_fault version t bytes ≡ wrong TooLong MAX_MESSAGE
+  unfolding preamble_fault
   too_long long = rw (lt-ltb MAX_MESSAGE (length bytes) long) refl
 
   module _ (short : length bytes ≤ MAX_MESSAGE) where
-    pub bad_magic : starts_with nat_eq bytes name ≡ false → front_fault version t bytes ≡ wrong BadMagic 0
-    unfolding front_fault
+    pub bad_magic : starts_with nat_eq bytes name ≡ false → preamble_fault version t bytes ≡ wrong BadMagic 0
+    unfolding preamble_fault
     bad_magic p = rw (le-ltb MAX_MESSAGE (length bytes) short, p) refl
 
     module _ (named : starts_with nat_eq bytes name ≡ true) where
-      pub bad_version : starts_with nat_eq bytes (name_and_version version) ≡ false → front_fault version t bytes ≡ wrong BadVersion 3
-      unfolding front_fault
+      pub bad_version : starts_with nat_eq bytes (name_and_version version) ≡ false → preamble_fault version t bytes ≡ wrong BadVersion 3
+      unfolding preamble_fault
       bad_version p = rw (le-ltb MAX_MESSAGE (length bytes) short, named, p) refl
 
       module _ (versioned : starts_with nat_eq bytes (name_and_version version) ≡ true) where
-        pub no_mark : length bytes < PREAMBLE → front_fault version t bytes ≡ wrong Short 4
-        unfolding front_fault
+        pub no_mark : length bytes < PREAMBLE → preamble_fault version t bytes ≡ wrong Short 4
+        unfolding preamble_fault
         no_mark p = rw (le-ltb MAX_MESSAGE (length bytes) short, named, versioned, lt-ltb (length bytes) PREAMBLE p) refl
 
         module _ (marked : PREAMBLE ≤ length bytes) where
-          pub other_config : starts_with nat_eq bytes (preamble_bytes version t) ≡ false → front_fault version t bytes ≡ wrong OtherConfig 4
-          unfolding front_fault
+          pub other_config : starts_with nat_eq bytes (preamble_bytes version t) ≡ false → preamble_fault version t bytes ≡ wrong OtherConfig 4
+          unfolding preamble_fault
           other_config p = rw (le-ltb MAX_MESSAGE (length bytes) short, named, versioned, le-ltb (length bytes) PREAMBLE marked, p) refl
 
-          pub no_fault : starts_with nat_eq bytes (preamble_bytes version t) ≡ true → front_fault version t bytes ≡ None
-          unfolding front_fault
+          pub no_fault : starts_with nat_eq bytes (preamble_bytes version t) ≡ true → preamble_fault version t bytes ≡ None
+          unfolding preamble_fault
           no_fault p = rw (le-ltb MAX_MESSAGE (length bytes) short, named, versioned, le-ltb (length bytes) PREAMBLE marked, p) refl
 
 -- ---- the combination of the tests
@@ -89,13 +89,13 @@ table_none false true true false true h = (refl, refl, refl)
 
 module _ (version : Version) (t : Table) (bytes : List ℕ) where
   -- the fault of a front isn't `NoMemory`
-  pub front_real : IsReal (front_fault version t bytes)
-  unfolding front_fault table
+  pub front_real : IsReal (preamble_fault version t bytes)
+  unfolding preamble_fault table
   front_real = table_real (nat_lt MAX_MESSAGE (length bytes)) (starts_with nat_eq bytes name) (starts_with nat_eq bytes (name_and_version version)) (nat_lt (length bytes) PREAMBLE) (starts_with nat_eq bytes (preamble_bytes version t))
 
-  module _ (right : front_fault version t bytes ≡ None) where
+  module _ (right : preamble_fault version t bytes ≡ None) where
     tests : (nat_lt MAX_MESSAGE (length bytes) ≡ false) × (nat_lt (length bytes) PREAMBLE ≡ false) × (starts_with nat_eq bytes (preamble_bytes version t) ≡ true)
-    unfolding front_fault table
+    unfolding preamble_fault table
     tests = table_none (nat_lt MAX_MESSAGE (length bytes)) (starts_with nat_eq bytes name) (starts_with nat_eq bytes (name_and_version version)) (nat_lt (length bytes) PREAMBLE) (starts_with nat_eq bytes (preamble_bytes version t)) right
 
     -- bytes with a correct front contain the preamble
@@ -122,7 +122,7 @@ module _ (version : Version) (t : Table) (bytes : List ℕ) where
     in_version = refl
 
     -- Bytes that begin with the preamble and aren't too many have a correct front.
-    pub front_is : bytes ≡ preamble_bytes version t ++ rest → length bytes ≤ MAX_MESSAGE → front_fault version t bytes ≡ None
+    pub front_is : bytes ≡ preamble_bytes version t ++ rest → length bytes ≤ MAX_MESSAGE → preamble_fault version t bytes ≡ None
     front_is parts short =
         let all : length bytes ≡ length (preamble_bytes version t ++ rest) = ap length parts in
         let front : length (preamble_bytes version t) ≡ PREAMBLE = preamble_length version t in

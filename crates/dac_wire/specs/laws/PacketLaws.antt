@@ -18,7 +18,7 @@ use Rattle.dac_messages.specs.declared.message.Body.{Body}
 use Rattle.dac_messages.specs.declared.message.Body.TheVariants.{Whole as WholeBody, Interval as IntervalBody, Nothing as NoBody}
 use Rattle.dac_messages.specs.declared.message.Message.{Message}
 use Rattle.dac_wire.specs.Codes.{kind_of_body, kind_of_packet}
-use Rattle.dac_wire.specs.Decoding.{front_fault, unless, packet_in}
+use Rattle.dac_wire.specs.Decoding.{preamble_fault, unless, packet_in}
 use Rattle.dac_wire.specs.Faults.{in_packet}
 use Rattle.dac_wire.specs.Form.{is_whole, IsBodyInForm, IsMessage, IsOperation, IsPacket}
 use Rattle.dac_wire.specs.Reading.{message_of, head_at, head_and_state_at, operation_at, packet_kind_at, content_at, kind_and_content_at, fields_at}
@@ -142,7 +142,7 @@ module _ (version : Version) (t : Table) (parts : PartCodecs version t) (states 
   spelled p = append_assoc (preamble_bytes version t) (packet_kind_bytes (kind_of_packet p)) (content_bytes version p)
 
   -- A packet that is read after a correct front is well-formed, with these bytes as its spelling.
-  pub packet_found : (bytes : List ℕ) (p : Packet) → IsBytes bytes → front_fault version t bytes ≡ None → fields_at version t (after PREAMBLE (whole bytes)) ≡ Ok p → IsPacket version t p × (bytes ≡ packet_bytes version t p) × (length bytes ≤ MAX_MESSAGE)
+  pub packet_found : (bytes : List ℕ) (p : Packet) → IsBytes bytes → preamble_fault version t bytes ≡ None → fields_at version t (after PREAMBLE (whole bytes)) ≡ Ok p → IsPacket version t p × (bytes ≡ packet_bytes version t p) × (length bytes ≤ MAX_MESSAGE)
   packet_found bytes p fits none e =
       let front = front_begins version t bytes none in
       let f = fields_found (after PREAMBLE (whole bytes)) p (Takes-front PREAMBLE (whole bytes) (front_long version t bytes none) fits).fits e in

@@ -6,7 +6,7 @@ use Rattle.std.proofs.lemmas.Bool.{false≢true, or_cases, or_left, or_right}
 use Rattle.dac_origins.specs.declared.dot.Dot.{Dot}
 use Rattle.dac_lattice.specs.Pieces.{IsGivenIn, AreOperations}
 use Rattle.dac_wishes.specs.laws.KeyedWrites.{same_dot_is}
-use Rattle.dac_wishes.specs.Replacing.{is_under, replaces, is_replaced, names, SparesItself, named_by, AreNamedIn}
+use Rattle.dac_wishes.specs.Replacing.{is_under, replaces, is_replaced, names, ExcludesOwnDot, named_by, AreNamedIn}
 use Rattle.std.specs.FinSet as set
 use Rattle.dac_origins.specs.Dots.{Dots, dot_cmp}
 use Rattle.dac_origins.specs.laws.Dots.{dots_total}
@@ -43,7 +43,7 @@ module _ {A : Type 0} (over : A → List Dot) where
       regroup false false false e = refl
 
   -- an operation doesn't replace its own dot
-  pub spares : (os : List (Dot × A)) (o : Dot × A) → AreOperations (SparesItself over) (o ∷ os) → (x : Dot) → is_under x o ≡ true → replaces over x o ≡ false
+  pub spares : (os : List (Dot × A)) (o : Dot × A) → AreOperations (ExcludesOwnDot over) (o ∷ os) → (x : Dot) → is_under x o ≡ true → replaces over x o ≡ false
   spares os o h x e = ap (has_key dot_cmp (over o.1)) (same_dot_is x o.0 e) ∙ h.fit o (inl refl)
 
 -- if a test finds an operation, that is in the list

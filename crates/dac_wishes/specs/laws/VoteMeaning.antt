@@ -22,7 +22,7 @@ use Rattle.dac_wishes.specs.KeyedWrites.{KeyedWrite, keyed_write_cmp, same_dot}
 use Rattle.dac_wishes.specs.laws.KeyedWrites.{keyed_writes_total, same_dot_is, same_keyed_write}
 use Rattle.dac_wishes.specs.Votes.{VotesValue, AreVotes, join_votes, no_votes}
 use Rattle.dac_wishes.specs.laws.Votes.{known-join_votes, standing-join_votes, same_votes}
-use Rattle.dac_wishes.specs.Replacing.{is_under, replaces, is_replaced, SparesItself}
+use Rattle.dac_wishes.specs.Replacing.{is_under, replaces, is_replaced, ExcludesOwnDot}
 use Rattle.dac_wishes.specs.laws.Replacing.{contains-named_by, known_more, names-or, spares}
 use Rattle.dac_wishes.specs.VoteMeaning.{IsVoteMeaning, or_else, said, says_of, vote_delta, vote_in, votes_in}
 
@@ -112,7 +112,7 @@ module _ {K : Type 0} {R : K → K → Ordering} (total : IsTotalOrder R) (exact
     | false ↦ λ t rest. said_by_one w os o (λ q i. same q (inr i)) rest
   ] refl h
 
-  step : (os : List (Dot × A)) (o : Dot × A) (v : VotesValue R) → AreVotes R v → AreOperations (SparesItself over) (o ∷ os) → IsVoteMeaning R over vote os v → IsVoteMeaning R over vote (o ∷ os) (join_votes R v (vote_delta R over vote o.0 o.1))
+  step : (os : List (Dot × A)) (o : Dot × A) (v : VotesValue R) → AreVotes R v → AreOperations (ExcludesOwnDot over) (o ∷ os) → IsVoteMeaning R over vote os v → IsVoteMeaning R over vote (o ∷ os) (join_votes R v (vote_delta R over vote o.0 o.1))
   step os o v u h m = record {
     known = λ x. ap (λ (s : Dots). set.contains s x) (known-join_votes R v (vote_delta R over vote o.0 o.1)) ∙ known_more over os o v.known m.known x;
     standing = λ w.
@@ -136,7 +136,7 @@ module _ {K : Type 0} {R : K → K → Ordering} (total : IsTotalOrder R) (exact
       (same_context v.known w.known (λ x h. n.known x ∙ sym (m.known x) ∙ h) (λ x h. m.known x ∙ sym (n.known x) ∙ h))
       (λ q. m.standing q ∙ sym (n.standing q))
 
-  pub vote_piece : IsPiece (AreVotes R) (join_votes R) (no_votes R) (SparesItself over) (vote_delta R over vote) (IsVoteMeaning R over vote)
+  pub vote_piece : IsPiece (AreVotes R) (join_votes R) (no_votes R) (ExcludesOwnDot over) (vote_delta R over vote) (IsVoteMeaning R over vote)
   vote_piece = record {
     delta_value = delta_value;
     start = record { known = λ x. set.contains-empty dot_cmp x; standing = λ w. map.get-empty (keyed_write_cmp R) w };
