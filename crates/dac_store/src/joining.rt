@@ -159,34 +159,55 @@ fn kept_at<K: MapKey, S: DotStore, C: Combine<K, S>>(
     }
 }
 
+/// Whether the join is known to leave a store unchanged, given the other side's store at its key, if any.
+fn surely_stays<S: DotStore>(how: &JoinStores<'_>, mine: &S, theirs: Option<&S>) -> bool
+    ensures { result ≡ true → IsLeft S.nothing S.is_empty S.join how.now.mine.now
+        how.now.theirs.now mine.now (option_copied theirs.entry) }
+{
+    mine.tells_invariant();
+    if mine.is_empty() {
+        return false;
+    }
+    match theirs {
+        Some(theirs) => mine.is_same(theirs),
+        None => mine.is_unheard(how.theirs),
+    }
+}
+
 /// Merges an entry with the other side's at the same key, if any, and appends the result. Requires that the other side
-/// has no remaining entry below the key.
-fn put_entry<K: MapKey, S: DotStore, C: Combine<K, S>>(
-    how: &C,
+/// has no remaining entry below the key. Most stores are known to stay unchanged, so that a copy suffices.
+fn put_entry<K: MapKey, S: DotStore>(
+    how: &JoinStores<'_>,
     built: &mut Parts<K, S>,
     entry: &(K, S),
     theirs: &mut Entries<'_, K, S>,
 ) -> Result<(), NoMemory>
     requires { IsNotBelow K.cmp entry.now.0 theirs.old }
-    ensures { OnOk result (IsMergedWith K.cmp (C.combined how.now) entry.now built.old theirs.old
-        built.new theirs.new) }
+    ensures { OnOk result (IsMergedWith K.cmp
+        (joined_at S.nothing S.is_empty S.join how.now.mine.now how.now.theirs.now)
+        entry.now built.old theirs.old built.new theirs.new) }
 {
     let (key, store) = entry;
     let taken = take_at(theirs, *key);
+    if surely_stays(how, store, taken) {
+        built.put(*key, store.copy()?)?;
+        return Ok(());
+    }
     let kept = kept_at(how, *key, store, taken)?;
     put_kept(built, *key, kept)?;
     Ok(())
 }
 
 /// Merges these entries with the other side's up to their last key, and appends the results.
-fn join_part<K: MapKey, S: DotStore, C: Combine<K, S>>(
-    how: &C,
+fn join_part<K: MapKey, S: DotStore>(
+    how: &JoinStores<'_>,
     built: &mut Parts<K, S>,
     part: &[(K, S)],
     theirs: &mut Entries<'_, K, S>,
 ) -> Result<(), NoMemory>
-    ensures { OnOk result (IsMergedPart K.cmp (C.combined how.now) part.now built.old theirs.old
-        built.new theirs.new) }
+    ensures { OnOk result (IsMergedPart K.cmp
+        (joined_at S.nothing S.is_empty S.join how.now.mine.now how.now.theirs.now)
+        part.now built.old theirs.old built.new theirs.new) }
 {
     built.make_room(part.len())?;
     for entry in part {
@@ -235,21 +256,6 @@ fn is_none_below<K: MapKey, S: DotStore>(theirs: &Entries<'_, K, S>, key: K) -> 
     match theirs.first() {
         Some((other, _)) => !other.cmp(&key).is_lt(),
         None => true,
-    }
-}
-
-/// Whether the join is known to leave a store unchanged, given the other side's store at its key, if any.
-fn surely_stays<S: DotStore>(how: &JoinStores<'_>, mine: &S, theirs: Option<&S>) -> bool
-    ensures { result ≡ true → IsLeft S.nothing S.is_empty S.join how.now.mine.now
-        how.now.theirs.now mine.now (option_copied theirs.entry) }
-{
-    mine.tells_invariant();
-    if mine.is_empty() {
-        return false;
-    }
-    match theirs {
-        Some(theirs) => mine.is_same(theirs),
-        None => mine.is_unheard(how.theirs),
     }
 }
 
