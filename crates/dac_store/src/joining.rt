@@ -42,10 +42,6 @@ impl<K: MapKey, S: DotStore> Combine<K, S> for JoinStores<'_> {
         (S.join (store_at S.nothing v) h.mine.now (store_at S.nothing w) h.theirs.now) };
 
     fn left(&self, _key: K, mine: &S) -> Result<Option<S>, NoMemory> {
-        if mine.is_unheard(self.theirs) {
-            mine.tells_invariant();
-            return Ok(unless_empty(mine.copy()?));
-        }
         Ok(unless_empty(mine.join_in(
             self.mine.context(),
             &S::empty(self.alloc),
