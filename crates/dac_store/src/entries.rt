@@ -65,6 +65,11 @@ impl<'a, K: MapKey, S: DotStore> Entries<'a, K, S> {
         }
     }
 
+    /// The number of entries in one slice from the next one on, a hint for reserving room.
+    pub(crate) fn at_hand(&self) -> usize {
+        self.here.len()
+    }
+
     /// The next entry, if any, without advancing.
     pub fn first(&self) -> Option<&'a (K, S)>
         ensures { MatchOption result (self.now ≡ [])
