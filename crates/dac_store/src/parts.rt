@@ -145,7 +145,9 @@ impl<K: MapKey, S: DotStore> Parts<K, S> {
         ensures ok { OnOk result (self.new ≡ self.old ++ (key, store) ∷ []) }
         ensures err { OnErr result (self.new ≡ self.old) }
     {
-        self.last.push((key, store))?;
+        // A push that may fail hands its value back, which costs more than the test for room.
+        self.last.reserve(1)?;
+        self.last.push_reserved((key, store));
         Ok(())
     }
 
