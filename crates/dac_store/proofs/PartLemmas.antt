@@ -99,14 +99,17 @@ module _ {E B : Type 0} (value : B → List E) where
       ∙ is
 
   -- all entries are in blocks, and one more block is shared
-  pub then_shared : (blocks sealed new : List B) (last rest whole es : List E) (b : B) (n : ℕ) → length last ≤ n → flat_map value blocks ++ last ≡ whole → flat_map value sealed ≡ flat_map value blocks ++ take n last → rest ≡ drop n last → new ≡ sealed ++ b ∷ [] → value b ≡ es
+  pub then_shared : (blocks sealed new : List B) (last rest whole es : List E) (b : B) → flat_map value blocks ++ last ≡ whole → flat_map value sealed ≡ flat_map value blocks ++ last → rest ≡ [] → new ≡ sealed ++ b ∷ [] → value b ≡ es
       → flat_map value new ++ rest ≡ whole ++ es
-  then_shared blocks sealed new last rest whole es b n long is all none pushed same =
-      let empty : rest ≡ [] = none ∙ drop_all n last long in
-      let before : flat_map value sealed ≡ whole = all ∙ ap (λ l. flat_map value blocks ++ l) (take_all n last long) ∙ is in
-      (λ k. one_sealed sealed new b es pushed same k ++ empty k)
+  then_shared blocks sealed new last rest whole es b is all none pushed same =
+      (λ k. one_sealed sealed new b es pushed same k ++ none k)
       ∙ append-nil (flat_map value sealed ++ es)
-      ∙ ap (λ l. l ++ es) before
+      ∙ ap (λ l. l ++ es) (all ∙ is)
+
+-- no entry is left
+pub none_left : {E : Type 0} (last : List E) → length last ≤ 0 → last ≡ []
+none_left [] p = refl
+none_left (e ∷ es) p = absurd (omega arith)
 
 -- ---- a walk through blocks: the goal for the remaining ones
 

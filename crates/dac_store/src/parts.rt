@@ -1,5 +1,5 @@
 //! Entries in blocks, which maps share, with a few entries after them.
-ghost use Rattle.std.specs.Prelude.{◌≡◌, ◌≤◌, [], ◌∷◌, ◌++◌, length, take, drop, IfOk, IfSome, OnOk, OnErr};
+ghost use Rattle.std.specs.Prelude.{◌≡◌, ◌<◌, ◌≤◌, [], ◌∷◌, ◌++◌, length, take, drop, IfOk, IfSome, OnOk, OnErr};
 ghost use Rattle.std.specs.Arc.{arc_value};
 ghost use Rattle.std.specs.List.{flat_map};
 ghost use Rattle.std.specs.Option.{option_copied};
@@ -145,7 +145,7 @@ impl<K: MapKey, S: DotStore> Parts<K, S> {
         ensures ok { OnOk result (self.new ≡ self.old ++ (key, store) ∷ []) }
         ensures err { OnErr result (self.new ≡ self.old) }
     {
-        // A push that may fail hands its value back, which costs more than the test for room.
+        // A fallible push returns its value on failure, which costs more than the test for room.
         self.last.reserve(1)?;
         self.last.push_reserved((key, store));
         Ok(())
@@ -185,21 +185,41 @@ impl<K: MapKey, S: DotStore> Parts<K, S> {
         if block.entries().is_empty() {
             return Ok(());
         }
-        let open = self.last.len();
-        seal(&mut self.blocks, &mut self.last, open)?;
+        seal_all(&mut self.blocks, &mut self.last)?;
         self.blocks.push(Arc::try_clone(block)?)?;
         Ok(())
     }
 }
 
-/// Makes a block of the first `count` of the last entries, if `count` isn't 0. After [`NoMemory`] the entries can have
-/// changed.
+/// Makes a block of all of the last entries, if there are any. After [`NoMemory`] the entries can have changed.
+fn seal_all<K: MapKey, S: DotStore>(
+    blocks: &mut Vec<Arc<Block<K, S>, Global>>,
+    last: &mut Vec<(K, S)>,
+) -> Result<(), NoMemory>
+    ensures filled { HaveEntries arc_value blocks.old.items
+        → HaveEntries arc_value blocks.new.items }
+    ensures sealed { OnOk result
+        (flat_map arc_value blocks.new.items
+        ≡ flat_map arc_value blocks.old.items ++ last.old.items) }
+    ensures rest { OnOk result (last.new.items ≡ []) }
+{
+    // Most shared blocks come right after another one, so that no entry is open.
+    let count = last.len();
+    if count == 0 {
+        return Ok(());
+    }
+    seal(blocks, last, count)?;
+    Ok(())
+}
+
+/// Makes a block of the first `count` of the last entries. After [`NoMemory`] the entries can have changed.
 fn seal<K: MapKey, S: DotStore>(
     blocks: &mut Vec<Arc<Block<K, S>, Global>>,
     last: &mut Vec<(K, S)>,
     count: usize,
 ) -> Result<(), NoMemory>
-    requires { count ≤ length last.old.items }
+    requires some { 0 < count }
+    requires within { count ≤ length last.old.items }
     ensures filled { HaveEntries arc_value blocks.old.items
         → HaveEntries arc_value blocks.new.items }
     ensures sealed { OnOk result
@@ -207,9 +227,6 @@ fn seal<K: MapKey, S: DotStore>(
         ≡ flat_map arc_value blocks.old.items ++ take count last.old.items) }
     ensures rest { OnOk result (last.new.items ≡ drop count last.old.items) }
 {
-    if count == 0 {
-        return Ok(());
-    }
     let alloc = *last.allocator();
     let rest = last.split_off(count)?;
     let sealed = replace(last, rest);
