@@ -78,9 +78,9 @@ ran_more t es bs v e a u r f =
     record { final = next.0; run = Run-push t (start t) es bs r.final e a next.0 r.run next.1.0; shows = next.1.1 }
 
 -- one iteration of the loop over the events
-pub ran_sweep : (t : Table) (es : List WorldEvent) (i : ℕ) (bs : List (Result Reply WorldFault)) (v u : WorldValue) (e : WorldEvent) (a : Result Reply WorldFault) →
+pub ran_next : (t : Table) (es : List WorldEvent) (i : ℕ) (bs : List (Result Reply WorldFault)) (v u : WorldValue) (e : WorldEvent) (a : Result Reply WorldFault) →
     Follows t v (λ w. happens t w e) a u → i < length es → e ≡ get_or es i e → RanAs t (take i es) bs v → RanAs t (take (i + 1) es) (bs ++ a ∷ []) u
-ran_sweep t es i bs v u e a f lt read r =
+ran_next t es i bs v u e a f lt read r =
     subst (λ all. RanAs t all (bs ++ a ∷ []) u) (sym (take_more es i e lt ∙ ap (λ x. take i es ++ (x ∷ [])) (sym read)))
     (ran_more t (take i es) bs v e a u r f)
 
