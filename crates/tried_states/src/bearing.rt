@@ -1,6 +1,6 @@
-//! Forged states and messages: well-formed ones that no run of a world contains. Each state is joined, compared, encoded,
-//! used for decisions and printed. Each of three nodes receives it, whole and in forged messages, and then ticks, ships and
-//! takes every command.
+//! Checks that every call accepts forged states and messages: well-formed ones that no run of a world contains. A state is
+//! joined, compared, encoded, decided on and printed. Each of three nodes receives it, whole and in forged messages, then
+//! ticks, ships and takes every command.
 use dac_base::{AppId, MAX_COUNTER, MAX_INCARNATION, NodeId};
 use dac_config::Config;
 use dac_core::{Body, Command, Event, Message, Node, Refusal, Reply};
@@ -13,7 +13,7 @@ use dac_status::{Summary, page};
 use dac_wire::{Packet, decode, encode};
 use std::alloc::Global;
 
-/// Whether the states are joined and compared as values of a lattice.
+/// True if the states command_effect the laws of a lattice.
 fn are_ordered(alloc: Global, state: &State, other: &State) -> Option<bool> {
     let both = state.join(other).ok()?;
     let turned = other.join(state).ok()?;
@@ -27,14 +27,14 @@ fn are_ordered(alloc: Global, state: &State, other: &State) -> Option<bool> {
     )
 }
 
-/// Whether the state is read from its bytes.
+/// True if decoding the state's bytes returns it.
 fn is_spelled(alloc: Global, config: &Config, state: &State) -> Option<bool> {
     let bytes = state.encode().ok()?;
     let read = State::decode(alloc, config, bytes.as_slice()).ok()?;
     Some(read.equal(state))
 }
 
-/// Decides about an application, now and later, if the configuration has it.
+/// Runs every decision about a configured application, now and later.
 fn decides(config: &Config, state: &State, waits: &Waits, app: AppId) {
     if app.0 >= config.apps() {
         return;
@@ -47,7 +47,7 @@ fn decides(config: &Config, state: &State, waits: &Waits, app: AppId) {
     }
 }
 
-/// Whether the state is decided on and printed.
+/// True if the state can be decided on and printed.
 fn is_shown(alloc: Global, config: &Config, state: &State) -> Option<bool> {
     let mut waits = Waits::new(alloc, config).ok()?;
     waits.note(config, state, 3);
@@ -59,12 +59,12 @@ fn is_shown(alloc: Global, config: &Config, state: &State) -> Option<bool> {
     Some(!text.as_slice().is_empty())
 }
 
-/// Whether a step is answered, whatever it is, and not for want of memory.
+/// True if the step returns any result but `NoMemory`.
 fn is_answered(config: &Config, node: &mut Node, me: NodeId, event: Event) -> bool {
     node.step(config, me, event).err() != Some(Refusal::NoMemory)
 }
 
-/// Whether every command about a node and an application is answered.
+/// True if no command about a node and an application fails with `NoMemory`.
 fn takes_commands(config: &Config, node: &mut Node, me: NodeId, app: AppId, about: NodeId) -> bool {
     [
         Command::Permit {
@@ -85,7 +85,7 @@ fn takes_commands(config: &Config, node: &mut Node, me: NodeId, app: AppId, abou
     .all(|command| is_answered(config, node, me, Event::Command(*command)))
 }
 
-/// Whether what the node ships to another, if anything, is read from its bytes.
+/// True if the message that the node ships, if any, can be decoded.
 fn ships(alloc: Global, config: &Config, node: &mut Node, me: NodeId, to: NodeId) -> Option<bool> {
     match node.step(config, me, Event::Ship { to }) {
         Ok(Reply::Shipped(message)) => {
@@ -123,7 +123,7 @@ const FIRST: Forged = Forged {
     acked: Some((1, 1)),
 };
 
-/// Messages in an order in which no sender ships them: the interval comes before the whole state, counts of deltas fall again, and
+/// Messages in an order in which no sender ships them: intervals precede the whole state, delta counts fall, and
 /// acknowledgements name deltas and incarnations that the receiver never had.
 const FORGED: &[Forged] = &[
     Forged {
@@ -188,7 +188,7 @@ fn message(forged: &Forged, state: &State, to: NodeId) -> Option<Message> {
     })
 }
 
-/// Whether a node that came up replies to each forged message, and then ships messages that are read.
+/// True if a booted node returns from each forged message, and then ships messages that can be decoded.
 fn hears_forged(alloc: Global, config: &Config, state: &State, me: NodeId) -> Option<bool> {
     let mut node = Node::off(alloc, 0);
     let _up = node.step(config, me, Event::Boot { now: 0 }).ok()?;
@@ -208,7 +208,7 @@ fn hears_forged(alloc: Global, config: &Config, state: &State, me: NodeId) -> Op
     Some(all && is_spelled(alloc, config, node.state()?)?)
 }
 
-/// Whether a node hears the state, and answers all that it is asked then.
+/// True if a booted node accepts the state and returns from every event after it.
 fn hears(alloc: Global, config: &Config, state: &State, me: NodeId) -> Option<bool> {
     let mut node = Node::off(alloc, 0);
     let _up = node.step(config, me, Event::Boot { now: 0 }).ok()?;

@@ -1,6 +1,6 @@
 //! Forged states and messages, and whether every call accepts them.
 //!
-//! The tests of the controller try states that are written out, and the program `growths` random ones.
+//! The tests of the controller pass states written by hand, and the program `growths` random ones.
 #![tactic(auto)]
 
 pub use bearing::is_borne;
