@@ -7,16 +7,15 @@ use std::sync::Wait;
 use std::test::Fail;
 use std::thread::Threads;
 
-/// Two nodes.
 const TWO: &[u8] = b"[{kernel,[{distributed,[{a,[a@h,b@h]}]}]}].";
 
-/// So many ticks leave less room in a journal than the links need.
+/// Enough ticks to leave less room in a journal than the links need.
 const TICKS: u64 = 65_500;
 
-/// So many phases are enough for that.
+/// Enough phases for the links to fill it.
 const PHASES: u32 = 12;
 
-/// A line of the first caller.
+/// A line of caller 1.
 fn line(node: u8, what: Ask) -> Line {
     Line {
         node: NodeId(node),
@@ -25,7 +24,7 @@ fn line(node: u8, what: Ask) -> Line {
     }
 }
 
-/// Both nodes boot, the last one's journal is nearly filled, and in phases without lines the links do the rest.
+/// Both nodes boot, ticks nearly fill the second node's journal, and the links of further phases fill it.
 fn filling(alloc: Global) -> Option<Vec<Phase>> {
     let mut lines = Vec::new(alloc);
     lines.push(line(0, boot(0))).ok()?;
@@ -45,7 +44,7 @@ fn filling(alloc: Global) -> Option<Vec<Phase>> {
     Some(phases)
 }
 
-/// The faults of so many runs are all the cause: the last node's journal is full. That its end of a link is gone then is none.
+/// Whether each of `times` runs reports the full journal, and not the link that is lost because of it.
 fn all_say_full<R: Threads + Wait + Sync>(rt: &R, alloc: Global, times: u32) -> Option<bool> {
     let phases = filling(alloc)?;
     let full = RunFault::Site {

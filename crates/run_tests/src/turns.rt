@@ -1,4 +1,4 @@
-//! Who takes turns: the links of the last round in their order, and callers and links beside each other.
+//! The order of the links in the last round, and the interleaving of callers and links.
 use crate::runs::{EXAMPLE, Open, boot, ran, three_phases, tick};
 use dac_base::NodeId;
 use dac_live::{Closed, Gate, Line, Phase, Record};
@@ -9,10 +9,10 @@ use std::sync::atomic::{AtomicU64, Ordering};
 use std::test::Fail;
 use std::thread::Threads;
 
-/// The links of three nodes, by name.
+/// The links of three nodes, in name order.
 const LINKS: [(u8, u8); 6] = [(0, 1), (0, 2), (1, 0), (1, 2), (2, 0), (2, 1)];
 
-/// Counts all hearings of a run, and keeps the last one of each link.
+/// Counts all hearings, and records the last one of each link.
 #[derive(Drop)]
 struct Turns {
     all: AtomicU64,
@@ -34,7 +34,7 @@ impl Turns {
         }
     }
 
-    /// Whether the last hearings of all were those of the links, by name.
+    /// Whether the last six hearings are those of the links, in name order.
     fn are_in_order(&self) -> bool {
         let all = self.all.load(Ordering::SeqCst);
         let mut left = 6u64;
@@ -61,7 +61,7 @@ impl Gate for Turns {
     fn after(&self, _from: NodeId, _to: NodeId, _k: u64) {}
 }
 
-/// Where the last record stands that hears from this node.
+/// The position of the last hearing from `node`.
 fn last_hearing(records: &[Record], node: u8) -> Option<usize> {
     let mut last = None;
     for i in 0..records.len() {
@@ -73,7 +73,7 @@ fn last_hearing(records: &[Record], node: u8) -> Option<usize> {
     last
 }
 
-/// Where the last record stands that ships to this node.
+/// The position of the last ship to `node`.
 fn last_ship(records: &[Record], node: u8) -> Option<usize> {
     let mut last = None;
     for i in 0..records.len() {
@@ -85,7 +85,7 @@ fn last_ship(records: &[Record], node: u8) -> Option<usize> {
     last
 }
 
-/// Whether the last hearing from a node of a lesser name stands before the last ship to it.
+/// Whether the last hearing from `other` precedes the last ship to it.
 fn is_heard_first(closed: &[Closed], node: usize, other: u8) -> bool {
     let Some(one) = closed.get(node) else {
         return false;
@@ -99,7 +99,8 @@ fn is_heard_first(closed: &[Closed], node: usize, other: u8) -> bool {
     }
 }
 
-/// Whether the links of a run's last round took turns by name: each shipped and was heard before the next one shipped.
+/// Whether the links of a run's last round took turns in name order: each shipped and was heard before the next
+/// shipped.
 fn take_turns<R: Threads + Wait + Sync>(rt: &R, alloc: Global) -> Option<bool> {
     let gate = Turns::new();
     let phases = three_phases(alloc)?;
@@ -115,10 +116,9 @@ fn links_take_turns_by_name(rt: HostRuntime) -> Result<(), Fail> {
     Ok(())
 }
 
-/// Two nodes.
 const TWO: &[u8] = b"[{kernel,[{distributed,[{a,[a@h,b@h]}]}]}].";
 
-/// So often each of two callers of each node ticks.
+/// The number of ticks of each caller.
 const TICKS: u32 = 500;
 
 /// Two nodes boot, and then two callers of each tick.
@@ -151,7 +151,7 @@ fn ticking(alloc: Global) -> Option<Vec<Phase>> {
     Some(phases)
 }
 
-/// Whether the record is a tick of this caller.
+/// Whether the record is a tick of `caller`.
 fn is_tick(one: &Record, caller: u16) -> bool {
     match &one.event {
         Event::Tick { now: _ } => one.seat == caller,
@@ -159,7 +159,6 @@ fn is_tick(one: &Record, caller: u16) -> bool {
     }
 }
 
-/// Whether the record hears a message.
 fn is_hearing(one: &Record) -> bool {
     match &one.event {
         Event::Hear(_) => true,
@@ -167,7 +166,7 @@ fn is_hearing(one: &Record) -> bool {
     }
 }
 
-/// Whether the first caller ticks before and behind a tick of the second one, or before and behind a hearing.
+/// Whether caller 1 ticks both before and after a tick of caller 2, or a hearing.
 fn are_mixed(records: &[Record], hearing: bool) -> bool {
     let mut began = false;
     let mut other = false;
@@ -191,12 +190,12 @@ fn are_mixed(records: &[Record], hearing: bool) -> bool {
     false
 }
 
-/// Whether some journal is mixed so.
+/// Whether some journal is mixed.
 fn some_are_mixed(closed: &[Closed], hearing: bool) -> bool {
     closed.iter().any(|one| are_mixed(one.records(), hearing))
 }
 
-/// Whether one of so many runs has callers beside each other, and one has a caller beside a link.
+/// Whether callers interleave in one of `times` runs, and a caller and a link in one.
 fn run_beside<R: Threads + Wait + Sync>(rt: &R, alloc: Global, times: u32) -> Option<bool> {
     let phases = ticking(alloc)?;
     let mut callers = false;
