@@ -4,13 +4,13 @@
 Usage: python3 compare.py PROGRAM [--seed S] [--count N] [--scripts M] [--live L] [--racing R] [--recorded D] [--packets P]
        [--still T] [--reboots B] [--keys K] [--jobs J]
 
-PROGRAM may be a command of several words in one argument, as of a loader with its arguments. The word `check`, `sim`, `live` or `record`
-is added to it. A live run that hasn't ended after some minutes is a difference too. Packets are fed to `sim`, 500 by a script.
-What racing live scripts print hangs on the order of the threads. It is checked by what has to hold of each run: see racing.py.
-Such scripts and those with one outcome are recorded too: see recorded.py.
-Of long scripts some have many ticks at which nothing changes, some many reboots, and some maps of many keys: see random_long.py.
-The inputs that checks/fuzz found are played too, all of them: see found.py.
-The last line counts, and says whether PROGRAM is the proved program. Of a program elsewhere, as a copy, it says that it isn't.
+PROGRAM can be a command of several words in one argument, such as a loader with its arguments. The word `check`, `sim`,
+`live` or `record` is appended. A live run that hasn't ended after some minutes is also a difference. Packets are fed to
+`sim`, 500 per script. The output of racing live scripts depends on the order of the threads, so only properties of
+every run are checked: see racing.py. These scripts and those with one outcome are also recorded: see recorded.py. Long
+scripts have many ticks that change nothing, many reboots, or maps of many keys: see random_long.py. All inputs that
+checks/fuzz found are played too: see found.py. The last line counts, and says whether PROGRAM is the proved program. A
+program elsewhere, such as a copy, counts as not proved.
 """
 
 from __future__ import annotations

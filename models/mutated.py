@@ -1,19 +1,19 @@
 #!/usr/bin/env python3
-"""Changes the model of `distac sim` in one place at a time, and lists the changes that no row sees.
+"""Changes the model of `distac sim` in one place at a time, and lists the changes that no row detects.
 
 Usage: python3 mutated.py [--rows FOLDER] [--jobs J] [--list]
 
-A mutant is one change of world.py, placement.py, meaning.py or simulator.py: see mutations.py. It is a wrong definition, as an operator
-would see it. It falls if a row of examples/rows or an example prints something else by it (see row_files.py), if it fails, or if it
-takes more than some seconds. The texts of configurations (check.py) and the bytes (wire.py) aren't changed, because rows and tests
-of their own compare them, nor is what runs from the command line.
+A mutant is one change of world.py, placement.py, meaning.py or simulator.py (see mutations.py): a wrong definition, as
+an operator would see it. It falls if it changes the output of a row of examples/rows or of an example (see
+row_files.py), fails, or takes more than some seconds. The texts of configurations (check.py) and the bytes (wire.py)
+aren't changed, because they have rows and tests of their own; nor is command-line code.
 
-unseen.txt lists the mutants that no row sees, each with a reason. By those that are equivalent nothing is printed otherwise. Those
-that a test of the gate refuses name it, and fall. All others are left. An entry that names no mutant, one that a row sees, or
-no test, is a fault.
+unseen.txt lists the mutants that no row detects, each with a reason. Equivalent ones change no output. Those that a
+test of the gate refuses name it, and fall. All others are left. An entry is a fault if it names no mutant, one that a
+row detects, or no test.
 
-Each survivor is printed with its place, and as it reads before and after the change. The last line is `N mutants, K fall, S
-survive`, without those that are equivalent. The status is 0 if there is a reason for each survivor, and no entry is a fault.
+Each survivor is printed with its place, before and after the change. The last line is `N mutants, K fall, S survive`,
+without equivalent ones. The status is 0 if each survivor has a reason, and no entry is a fault.
 """
 
 from __future__ import annotations

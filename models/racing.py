@@ -1,17 +1,19 @@
-"""What has to hold of a run of `distac live` whose answers hang on the order of the threads.
+"""Properties of every run of `distac live` whose answers depend on the order of the threads.
 
 - It ends with status 0.
-- Its lines are those that the script asks for: each phase, each answer by node, caller and script, each feed, and each page.
-- Each answer is `ok`, `fresh`, or a refusal that its line can meet, and never `stale`. If a line is refused in any order, then it
-  is refused for the same in each.
-- Some order of a node's callers explains their answers and keeps the order of each caller. By it the node was on or off as the
-  answers say, and a tick was refused for its moment exactly if that went back. Each phase begins with what the last one left.
-- In the end a node is on or off as such an order leaves it, and its incarnation counts the boots that weren't refused.
-- All running nodes have the same page, and if no node went down then they have heard of everything that was issued.
-- `close ok` and `weave ok` stand last.
+- Its lines are those that the script requires: each phase, each answer by node, caller and script, each feed, and each
+  page.
+- Each answer is `ok`, `fresh`, or a possible refusal of its line, and never `stale`. A line that is refused in any
+  order is refused for the same reason in each.
+- Some order of a node's callers explains their answers and preserves the order of each caller. In it the node was on or
+  off as the answers say, and a tick was refused for its moment exactly if that went back. Each phase begins with the
+  result of the previous one.
+- At the end a node is on or off as such an order leaves it, and its incarnation counts the boots that weren't refused.
+- All running nodes have the same page, and if no node went down, they have heard all operations.
+- `close ok` and `weave ok` are the last lines.
 
-In a script that doesn't end with two phases in which nobody asks for anything, not all may have been heard in the end. Of such a
-script each page is looked at alone, and no two are compared.
+A script that doesn't end with two phases without lines may leave operations unheard at the end. Its pages are checked
+alone and not compared.
 """
 
 from __future__ import annotations

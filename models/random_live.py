@@ -1,28 +1,29 @@
 #!/usr/bin/env python3
-"""Random inputs of `distac live` whose output doesn't hang on the order of the threads, and faults of live scripts.
+"""Random inputs of `distac live` whose output doesn't depend on the order of the threads, and faults of live scripts.
 
-An answer is sure where it hangs on what was known when the phase began, and on what the same caller said since. So a script
-keeps these conditions:
+An answer is certain if it depends only on what was known when the phase began, and on earlier lines of its caller. So a
+script satisfies these conditions:
 
-- At the beginning of a phase all running nodes know the same, and may be asked. After one kind of phase they may not: the last
-  running node booted again in it, so others may have shipped to its earlier incarnation. Then comes a phase in which nodes
-  that run are only read.
-- What a line changes, no other caller looks at or changes in its phase. Such things are whether a node runs, its life, its
-  moments, whether it is drained, the permissions and the start wishes of an application at a node, and the claims of an
+- At the beginning of a phase all running nodes know the same, and can get lines. There is one exception: if the last
+  running node booted again in a phase, others may have shipped to its earlier incarnation. Then a phase follows in
+  which running nodes are only read.
+- No other caller reads or changes the things that a line changes in its phase: whether a node runs, its life, its
+  moments, whether it is drained, the permissions and start wishes of an application at a node, and the claims of an
   application.
-- A node that boots in a phase is asked there about itself alone. In a phase one node at most goes down and boots again.
-- A node goes down in a phase only before it has issued anything there, by a crash or since it gives up. Where nodes boot, some
-  node runs all the time, unless none ran at first. Else what was known might be lost.
-- In a phase with ticks one caller at most issues anything, and if lives change then no other node ticks. Every other node that
-  ticks is the candidate for no application, whatever part it has heard of what that caller issued.
+- A node that boots in a phase only gets lines about itself there. At most one node goes down and boots again in a
+  phase.
+- A node goes down in a phase only before it has issued anything there, by a crash or because it gives up. If nodes
+  boot, some node runs all the time, unless none ran at first. Otherwise known operations could be lost.
+- In a phase with ticks at most one caller issues anything, and if lives change, no other node ticks. Every other node
+  that ticks is the candidate for no application, however much it has heard of that caller's operations.
 
-Whether that is enough is tried out: `--shuffles` plays each script in many orders of its threads.
+`--shuffles` tests whether that suffices, by playing each script in many orders of its threads.
 
 Usage: python3 random_live.py SEED NUMBER
        python3 random_live.py SEED COUNT --shuffles N
 
-The first prints the input of a number. The second plays the inputs of all numbers below COUNT, each in N orders, and prints
-the first one whose output isn't always the same.
+The first form prints the input of a number. The second plays the inputs of all numbers below COUNT, each in N orders,
+and prints the first one whose output varies.
 """
 
 from __future__ import annotations

@@ -1,10 +1,10 @@
 #!/usr/bin/env python3
-"""Random inputs of `distac live` whose answers hang on the order of the threads.
+"""Random inputs of `distac live` whose answers depend on the order of the threads.
 
-Several callers of one node and of several nodes give commands in one phase, and boot and crash the same nodes. What such a run
-prints isn't sure; racing.py says what has to hold of it. Each script ends with two phases in which nobody asks for anything. In
-the first of them each hears of the last boots, and in the second what was bound to an earlier incarnation before. So in the end
-each running node has heard all that any of them knows.
+Several callers of one node and of several nodes give commands in one phase, and boot and crash the same nodes. The
+output of such a run isn't certain; racing.py lists the properties that it must have. Each script ends with two phases
+without lines: in the first one nodes hear of the last boots, and in the second one of messages that were bound to an
+earlier incarnation before. So at the end each running node has heard all that any of them knows.
 
 Usage: python3 random_racing.py SEED NUMBER
 

@@ -1,16 +1,16 @@
 #!/usr/bin/env python3
-"""What has to hold of what `distac record` prints: a run of a live script, as a script of `distac sim`.
+"""Properties of every output of `distac record`: a run of a live script, as a script of `distac sim`.
 
 - The configuration is the live script's, in its canonical text.
-- The comments are what `distac live` would print of such a run: of a racing script by what racing.py demands, and of one with one
-  outcome by what live.py answers.
-- The lines are events, and behind them the page of each node in name order.
-- Each link ships five times a phase, and as many of its messages are heard as were shipped, each behind its ship.
-- Without ships and hearings the lines of a node are those of its callers: phase by phase, each caller's in order, and each answered
-  as the comments say.
+- The comments are the output of `distac live` for such a run: for a racing script with the properties of racing.py, and
+  for one with one outcome by live.py.
+- The lines are events, followed by the page of each node in name order.
+- Each link ships five times a phase, and as many of its messages are heard as were shipped, each after its ship.
+- Without ships and hearings the lines of a node are those of its callers: phase by phase, each caller's in order, and
+  each answered as in the comments.
 - The pages that the simulator's model prints at the end are those of the comments.
 
-If a node's name has a space, then no line can name the node, and the line of that fault is printed alone.
+If a node's name has a space, no line can name the node, and only that fault's line is printed.
 
 Usage: python3 recorded.py LIVE-SCRIPT < RECORDED
 """

@@ -1,5 +1,5 @@
 #!/usr/bin/env python3
-"""Worked examples, whose answers were written down before any program: the models have to give them.
+"""Worked examples, whose outputs were written down before any program: the models must produce them.
 
 Usage: python3 worked.py
 """
@@ -650,7 +650,7 @@ def message_checks(config: Config) -> Iterator[tuple[str, bool]]:
 
 
 def is_spelled_once(config: Config, data: bytes) -> bool:
-    """Whether some bytes are refused, or are the only spelling of their value in their version."""
+    """Whether some bytes are refused, or are their version's spelling of the value read."""
     try:
         return packet_bytes(config, read_packet(config, data), data[3]) == data
     except WireFault:
