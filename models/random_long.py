@@ -1,8 +1,8 @@
 #!/usr/bin/env python3
-"""Random inputs of `distac sim` that are long: many ticks at which nothing changes, many reboots, or maps of many keys.
+"""Random inputs of `distac sim` that are long: many ticks that change nothing, many reboots, or maps of many keys.
 
-They are made without the model, because to play such a script takes it seconds. So numbers of operations are counted here, and
-only what is never refused is given a number.
+They are made without the model, which would take seconds to play such a script. So operations are counted here, and
+only lines that are never refused are counted as operations.
 
 Usage: python3 random_long.py KIND SEED NUMBER
 
