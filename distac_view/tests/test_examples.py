@@ -1,4 +1,4 @@
-"""The four subcommands on all examples."""
+"""`check`, `play`, `timeline` and `what-if` on all examples."""
 
 from __future__ import annotations
 
