@@ -1,8 +1,8 @@
 #!/usr/bin/env python3
 """Random inputs of `distac live` whose output doesn't depend on the order of the threads, and faults of live scripts.
 
-An answer is deterministic if it depends only on what was known when the phase began, and on earlier lines of its caller. So a
-script satisfies these conditions:
+An answer is deterministic if it depends only on what was known when the phase began, and on earlier lines of its
+caller. So a script satisfies these conditions:
 
 - At the beginning of a phase all running nodes know the same, and can get lines. There is one exception: if the last
   running node booted again in a phase, others may have shipped to its earlier incarnation. Then a phase follows in

@@ -2,9 +2,9 @@
 """Random inputs of `distac live` whose answers depend on the order of the threads.
 
 Several callers of one node and of several nodes give commands in one phase, and boot and crash the same nodes. The
-output of such a run isn't deterministic; racing.py lists the properties that it must have. Each script ends with two phases
-without lines. In the first one each node hears of the last boots; in the second one it also hears messages that were
-bound to an earlier incarnation before. So at the end each running node has heard all that any of them knows.
+output of such a run isn't deterministic; racing.py lists the properties that it must have. Each script ends with two
+phases without lines. In the first one each node hears of the last boots; in the second one it also hears messages that
+were bound to an earlier incarnation before. So at the end each running node has heard all that any of them knows.
 
 Usage: python3 random_racing.py SEED NUMBER
 
