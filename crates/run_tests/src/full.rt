@@ -78,6 +78,6 @@ fn a_full_journal_is_told_before_a_lost_link(rt: HostRuntime) -> Result<(), Fail
 fn a_full_journal_of_the_first_node_is_told_before_a_lost_link(
     rt: HostRuntime,
 ) -> Result<(), Fail> {
-    assert_eq!(rt; all_say_full(&rt, rt.alloc(), 0, 5), Some(true));
+    assert_eq!(rt; all_say_full(&rt, rt.alloc(), 0, 3), Some(true));
     Ok(())
 }
