@@ -1,6 +1,6 @@
 //! Tests of runs (concurrent link workers, callers interleaved with links, the order of the last round, counted
-//! hearings, five nodes, a full journal, reports), of links alone (missing ends, letters without a message, capacity),
-//! and of stale pages.
+//! hearings, five nodes, full journals, pages of callers' lines, reports), of links alone (missing ends, letters
+//! without a message, capacity), and of stale pages.
 #![tactic(auto)]
 
 #[cfg(test)]
@@ -13,6 +13,8 @@ mod fresh;
 mod full;
 #[cfg(test)]
 mod last_round;
+#[cfg(test)]
+mod own_reads;
 #[cfg(test)]
 mod runs;
 #[cfg(test)]
