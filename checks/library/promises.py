@@ -42,7 +42,7 @@ def promised(part: str) -> Iterator[Cited]:
 
 
 def cited_in(text: str, above: Sequence[Cited]) -> Iterator[Cited]:
-    """The names in a text. `The same` means those of the item above."""
+    """The names in a text. `the same` means those of the item above."""
     for part in text.split(";"):
         if part.strip().startswith("the same"):
             clauses = tuple(SPAN.findall(part))

@@ -85,7 +85,7 @@ class Standing:
 
     @property
     def key(self) -> tuple[object, ...]:
-        """The input of the next step: the nodes that are up, and the pending action for each application."""
+        """The input of the next step: the nodes that are up, and each application's place, verdict and marks."""
         held = ((each.app, each.runs_at, each.verdict, each.at, each.marks) for each in self.page.held.values())
         return (tuple(sorted(self.cluster.nodes)), tuple(held))
 
