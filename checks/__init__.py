@@ -1,1 +1,1 @@
-"""The scripts that check the repository, and their library."""
+"""The scripts that check the repository, with their library."""

@@ -1,4 +1,5 @@
-"""A program for people around `distac`: where a fault is, what a script did, and what happens if a node goes down.
+"""Tools for the users of `distac`: they locate faults, show the course of scripts, and predict the effects of lost
+nodes.
 
-It runs `distac` for every decision and has no rule of its own.
+It runs `distac` for every decision and contains no rule of its own.
 """

@@ -1,8 +1,9 @@
 #!/usr/bin/env python3
-"""Packs `distac-view` into one file that runs with Python 3.8 or later: `python3 distac_view/pack.py -o distac-view.pyz`.
+"""Packs `distac-view` into one file that runs with Python 3.8 or later: `python3 distac_view/pack.py -o
+distac-view.pyz`.
 
-The models are in it too, for `--models`. The same sources give the same bytes, on any machine and at any time. It knows no commit:
-distac_view/release.py packs one that does.
+It includes the models, for `--models`. The same sources yield the same bytes, on any machine and at any time. It
+contains no commit; distac_view/release.py packs one that does.
 """
 
 from __future__ import annotations
@@ -30,7 +31,7 @@ PACKED = ("distac_view/__init__.py", *(f"distac_view/{name}/*.py" for name in PA
 
 
 def members(commit: str) -> Iterator[Tuple[str, bytes]]:
-    """What is packed: the launcher under the name that Python runs, the modules in the order of their names, and the commit."""
+    """The packed files: the launcher under the name that Python runs, the modules in name order, and the commit."""
     yield "__main__.py", (TOP / "distac-view").read_bytes()
     for pattern in PACKED:
         for path in sorted(TOP.glob(pattern)):
@@ -40,7 +41,7 @@ def members(commit: str) -> Iterator[Tuple[str, bytes]]:
 
 
 def packed(commit: str = "") -> bytes:
-    """The bytes of the whole file. Nothing is compressed, since compressed bytes differ from machine to machine."""
+    """The bytes of the whole file. Nothing is compressed, because compressed bytes differ between machines."""
     stream = io.BytesIO(FIRST_LINE)
     stream.seek(0, os.SEEK_END)
     with zipfile.ZipFile(stream, "a", zipfile.ZIP_STORED) as archive:
@@ -53,7 +54,7 @@ def packed(commit: str = "") -> bytes:
 
 
 def main() -> int:
-    """Writes the file, and makes it a program."""
+    """Writes the file, and makes it executable."""
     parser = argparse.ArgumentParser(description="Packs distac-view into one file that runs with Python 3.8 or later.")
     parser.add_argument("-o", "--output", metavar="FILE", default="distac-view.pyz", help="the file, distac-view.pyz if absent")
     path = parser.parse_args().output

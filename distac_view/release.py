@@ -1,9 +1,9 @@
 #!/usr/bin/env python3
 """Makes the folder of a release: `python3 distac_view/release.py FOLDER`.
 
-In it are distac-view.pyz, the proved program distac, the JSON Schema of the answers, the license, RELEASE with the versions and
-the commit, and SHA256SUMS. It is made of a commit: nothing here may differ from it. Where the program isn't proved no release is
-made, unless --without-program leaves it out.
+It contains distac-view.pyz, the proved program distac, the JSON Schema of the answers, the license, RELEASE with the
+versions and the commit, and SHA256SUMS. It is made from a commit, from which no file may differ. If the program isn't
+proved, no release is made, unless --without-program leaves it out.
 """
 
 from __future__ import annotations
@@ -48,7 +48,7 @@ def release(folder: Path, has_program: bool) -> None:
 
 
 def clean_commit() -> str:
-    """The commit of this checkout, from which nothing here may differ."""
+    """The commit of this checkout, which must have no changes."""
     commit = commit_of(TOP)
     if commit.endswith(CHANGED) or (commit and git_says(TOP, "status", "--porcelain") != ""):
         raise Problem("files here differ from the commit, or aren't in it: commit them first")
@@ -56,7 +56,7 @@ def clean_commit() -> str:
 
 
 def proved_program() -> Path:
-    """The program, if it is proved and made of today's sources."""
+    """The program, if it is proved and made from the present sources."""
     state, _, path = text_of(launch("--which", "--proved")).strip().partition(": ")
     if state != "proved":
         raise Problem(f"there is no proved program ({state}): ./distac prove makes it, and --without-program leaves it out")
@@ -64,7 +64,7 @@ def proved_program() -> Path:
 
 
 def files_of(commit: str, program: Optional[Path]) -> Dict[str, bytes]:
-    """The files of a release by their names, but for the sums."""
+    """The files of a release by name, without the checksums."""
     files = {"distac-view.pyz": packed(commit)}
     if program:
         files["distac"] = program.read_bytes()
@@ -75,7 +75,7 @@ def files_of(commit: str, program: Optional[Path]) -> Dict[str, bytes]:
 
 
 def facts(commit: str, program: Optional[Path]) -> Dict[str, str]:
-    """What RELEASE says."""
+    """The contents of RELEASE."""
     left_out = "left out: distac-view.pyz asks the models with --models, or a program that --distac names"
     proved = f"{said_by(str(program), '--version')}, proved, for {platform.system()} {platform.machine()}"
     toolchain = said_by("rt", "version")
@@ -90,7 +90,7 @@ def facts(commit: str, program: Optional[Path]) -> Dict[str, str]:
 
 
 def said_by(*words: str) -> str:
-    """The first line that a command prints, if it is there."""
+    """The first line of a command's output, if the command exists."""
     try:
         done = subprocess.run(words, stdin=subprocess.DEVNULL, capture_output=True, timeout=MOST_SECONDS, check=True)
     except (OSError, subprocess.SubprocessError):
@@ -99,7 +99,7 @@ def said_by(*words: str) -> str:
 
 
 def fill(folder: Path, files: Dict[str, bytes]) -> None:
-    """Writes the files, and their sums."""
+    """Writes the files with their checksums."""
     folder.mkdir()
     sums = "".join(f"{hashlib.sha256(data).hexdigest()}  {name}\n" for name, data in files.items())
     for name, data in {**files, "SHA256SUMS": sums.encode()}.items():

@@ -1,4 +1,4 @@
-"""Words of the command lines of scripts."""
+"""Arguments of scripts."""
 
 from __future__ import annotations
 
@@ -7,7 +7,7 @@ from collections.abc import Callable
 
 
 def at_least(least: int) -> Callable[[str], int]:
-    """Reads a number that has to be so large."""
+    """Reads a number with a lower bound."""
 
     def number(word: str) -> int:
         if not word.isdecimal() or int(word) < least:

@@ -1,7 +1,7 @@
 #!/usr/bin/env python3
 """An outside model of `distac check`: a configuration text in, its canonical text or its first fault out.
 
-It is written from the description of the format and from no code of the program.
+It is written from the description of the format, without the program's code.
 
 Usage: python3 check.py < FILE
 """
@@ -34,7 +34,7 @@ MANDATORY, OPTIONAL, SYNC_TIMEOUT = b"sync_nodes_mandatory", b"sync_nodes_option
 
 
 class Fault(Exception):
-    """A fault: its kind and the byte at which it stands."""
+    """A fault: its kind and its byte."""
 
     word = "fault"
     kinds: list[str] = []
@@ -45,7 +45,7 @@ class Fault(Exception):
         self.at = at
 
     def line(self) -> bytes:
-        """The line that the program prints for it."""
+        """The program's line for it."""
         return f"{self.word} {self.kinds.index(self.kind) + 1} {self.kind} at {self.at}".encode()
 
 
@@ -61,7 +61,7 @@ class ConfigFault(Fault):
 
 @dataclass(frozen=True)
 class Token:
-    """A token: its kind, where it begins, where it ends, and the name of an atom or the digits of a number.
+    """A token: its kind, its beginning and end, and an atom's name or a number's digits.
 
     Kinds are the five marks, `stop`, `atom`, `number`, `string` and `end`.
     """
@@ -73,19 +73,19 @@ class Token:
 
 
 def is_bare_atom(name: bytes) -> bool:
-    """Whether the name can be written without quotes."""
+    """Whether a name needs no quotes."""
     return name[:1] != b"" and name[0] in SMALL_LETTERS and set(name) <= ATOM_BYTES and name != b"fun"
 
 
 def run_end(text: bytes, at: int, allowed: frozenset[int]) -> int:
-    """Where the longest run of allowed bytes that begins at a place ends."""
+    """The end of the longest run of allowed bytes from a place."""
     while at < len(text) and text[at] in allowed:
         at += 1
     return at
 
 
 def skip_blanks(text: bytes, at: int) -> int:
-    """The place of the next byte that is neither blank nor part of a comment."""
+    """The next byte that is neither blank nor in a comment."""
     while at < len(text):
         if text[at] in BLANKS:
             at += 1
@@ -98,7 +98,7 @@ def skip_blanks(text: bytes, at: int) -> int:
 
 
 def quoted_atom(text: bytes, at: int) -> Token:
-    """The quoted atom that begins at a place."""
+    """The quoted atom at a place."""
     here = at + 1
     while here < len(text) and text[here] != ord("'"):
         if text[here] == ord("\\") or text[here] < 0x20 or text[here] == 0x7F:
@@ -110,7 +110,7 @@ def quoted_atom(text: bytes, at: int) -> Token:
 
 
 def string_token(text: bytes, at: int) -> Token:
-    """The string that begins at a place. What it holds is looked at by nobody."""
+    """The string at a place. Its contents are skipped."""
     if text[at : at + 3] == b'"""':
         raise ConfigFault("Unsupported", at)
     here = at + 1
@@ -127,7 +127,7 @@ def string_token(text: bytes, at: int) -> Token:
 
 
 def bare_atom(text: bytes, at: int) -> Token:
-    """The bare atom that begins at a place."""
+    """The bare atom at a place."""
     past = run_end(text, at, ATOM_BYTES)
     if text[at:past] == b"fun":
         raise ConfigFault("Unsupported", at)
@@ -135,7 +135,7 @@ def bare_atom(text: bytes, at: int) -> Token:
 
 
 def number_token(text: bytes, at: int) -> Token:
-    """The number that begins at a place, with its sign."""
+    """The number at a place, with its sign."""
     past = run_end(text, at + 1, DIGITS)
     is_float = text[past : past + 1] == b"." and text[past + 1 : past + 2].isdigit()
     if is_float or text[past : past + 1] in (b"#", b"_"):
@@ -144,14 +144,14 @@ def number_token(text: bytes, at: int) -> Token:
 
 
 def full_stop(text: bytes, at: int) -> Token:
-    """The full stop that stands at a place, where there is a dot."""
+    """The full stop at a place with a dot."""
     if at + 1 < len(text) and text[at + 1] not in BLANKS and text[at + 1] != ord("%"):
         raise ConfigFault("BadToken", at)
     return Token("stop", at, at + 1)
 
 
 def token_at(text: bytes, at: int) -> Token:
-    """The next token from a place on."""
+    """The next token from a place."""
     at = skip_blanks(text, at)
     if at == len(text):
         return Token("end", at, at)
@@ -171,12 +171,12 @@ def token_at(text: bytes, at: int) -> Token:
     raise ConfigFault("Unsupported" if first in UNREAD_BYTES else "BadToken", at)
 
 
-# What is read
+# The draft
 
 
 @dataclass
 class Entry:
-    """An application as it is read: its timeout and its groups of names."""
+    """An application as read: its timeout and its groups of names."""
 
     name: bytes
     timeout: int = 0
@@ -185,7 +185,7 @@ class Entry:
 
 @dataclass
 class Draft:
-    """All that is read of a text, by names."""
+    """The contents of a text, by names."""
 
     entries: list[Entry] = field(default_factory=list)
     permissions: list[tuple[bytes, bool]] = field(default_factory=list)
@@ -196,7 +196,7 @@ class Draft:
 
 
 class Reader:
-    """Reads a text from left to right, with one token looked at ahead."""
+    """Reads a text from left to right with a lookahead of one token."""
 
     def __init__(self, text: bytes) -> None:
         self.text = text
@@ -208,7 +208,7 @@ class Reader:
         self.has_kernel = False
 
     def peek(self) -> Token:
-        """The next token, which stays the next one."""
+        """The next token, not consumed."""
         if self.ahead is None:
             token = token_at(self.text, self.place)
             if token.kind in ("[", "{") and self.depth == MOST_DEPTH:
@@ -217,7 +217,7 @@ class Reader:
         return self.ahead
 
     def take(self) -> Token:
-        """The next token, which is then behind."""
+        """The next token, consumed."""
         token = self.peek()
         self.ahead = None
         self.place = token.past
@@ -225,13 +225,13 @@ class Reader:
         return token
 
     def want(self, kind: str) -> Token:
-        """The next token, which has to be of a kind."""
+        """The next token, which must be of a kind."""
         if self.peek().kind != kind:
             raise ConfigFault("BadShape", self.peek().at)
         return self.take()
 
     def parted(self, closing: str, item: Callable[[], None]) -> None:
-        """One item or more, parted by commas, up to a closing bracket."""
+        """Comma-separated items, at least one, up to a closing bracket."""
         item()
         while self.peek().kind == ",":
             self.take()
@@ -239,7 +239,7 @@ class Reader:
         self.want(closing)
 
     def parted_or_none(self, closing: str, item: Callable[[], None]) -> None:
-        """Items parted by commas, maybe none, up to a closing bracket."""
+        """Comma-separated items, maybe none, up to a closing bracket."""
         if self.peek().kind == closing:
             self.take()
         else:
@@ -255,7 +255,7 @@ class Reader:
             raise ConfigFault("NoDistributed", len(self.text))
 
     def section(self) -> None:
-        """A section: the kernel's, or one that is passed over."""
+        """A section: the kernel's, or one that is skipped."""
         if self.peek().kind == "string":
             raise ConfigFault("Unsupported", self.peek().at)
         self.want("{")
@@ -272,7 +272,7 @@ class Reader:
         self.want("}")
 
     def parameter(self) -> None:
-        """A parameter of the kernel: one of the five, or one that is passed over."""
+        """A parameter of the kernel: one of the five, or one that is skipped."""
         self.want("{")
         name = self.want("atom")
         if name.value in self.seen:
@@ -296,14 +296,14 @@ class Reader:
         self.want("}")
 
     def name(self) -> Token:
-        """A name that is read."""
+        """A name."""
         token = self.want("atom")
         if len(token.value) > MOST_NAME:
             raise ConfigFault("NameTooLong", token.at)
         return token
 
     def node(self, twice: set[bytes]) -> bytes:
-        """A node's name, which may not be among some others."""
+        """A node's name, which must differ from some others."""
         token = self.name()
         if token.value in twice:
             raise ConfigFault("TwiceInList", token.at)
@@ -313,7 +313,7 @@ class Reader:
         return token.value
 
     def milliseconds(self) -> int:
-        """A number that is read."""
+        """A number."""
         token = self.want("number")
         digits = token.value.lstrip(b"-").lstrip(b"0") or b"0"
         if token.value[:1] == b"-" and digits != b"0":
@@ -377,7 +377,7 @@ class Reader:
         self.draft.permissions.append((name.value, value.value == b"true"))
 
     def sync_timeout(self) -> None:
-        """How long to wait: milliseconds or without end."""
+        """A wait in milliseconds, or without end."""
         token = self.peek()
         if token.kind == "atom" and token.value == b"infinity":
             self.take()
@@ -386,7 +386,7 @@ class Reader:
             self.draft.sync_timeout = self.milliseconds()
 
     def term(self) -> None:
-        """A term that is passed over."""
+        """A skipped term."""
         if self.peek().kind not in ("atom", "number", "string", "[", "{"):
             raise ConfigFault("BadShape", self.peek().at)
         token = self.take()
@@ -404,7 +404,7 @@ class Reader:
 
 @dataclass(frozen=True)
 class App:
-    """An application: its name, its wait, its permission where none stands, and its groups of nodes by number."""
+    """An application: its name, its wait, its default permission, and its groups of nodes by number."""
 
     name: bytes
     timeout: int
@@ -412,11 +412,11 @@ class App:
     groups: tuple[tuple[int, ...], ...]
 
     def group_of(self, node: int) -> int | None:
-        """The number of the group in which a node is."""
+        """The number of a node's group."""
         return next((number for number, group in enumerate(self.groups) if node in group), None)
 
     def nodes(self) -> list[int]:
-        """All nodes of its list, by group and then by name."""
+        """The nodes of its list, by group and name."""
         return [node for group in self.groups for node in group]
 
 
@@ -432,7 +432,7 @@ class Config:
 
     @cached_property
     def canonical_text(self) -> bytes:
-        """The one text that every equal configuration has."""
+        """The text shared by all equal configurations."""
         entries = [self.entry_text(app) for app in self.apps]
         permissions = [b"{%s,false}" % spelled(app.name) for app in self.apps if not app.permission]
         parts = [
@@ -453,12 +453,12 @@ class Config:
         return b"{%s,%d,[%s]}" % (spelled(app.name), app.timeout, b",".join(groups))
 
     def names_text(self, nodes: tuple[int, ...] | list[int]) -> bytes:
-        """The names of some nodes, parted by commas."""
+        """The names of some nodes, separated by commas."""
         return b",".join(spelled(self.nodes[node]) for node in nodes)
 
     @cached_property
     def mark(self) -> int:
-        """The FNV-1a value of 64 bits of the canonical text."""
+        """The 64-bit FNV-1a hash of the canonical text."""
         mark = 14695981039346656037
         for byte in self.canonical_text:
             mark = (mark ^ byte) * 1099511628211 % 2**64
@@ -466,12 +466,12 @@ class Config:
 
 
 def spelled(name: bytes) -> bytes:
-    """A name as it is printed."""
+    """A name as printed."""
     return name if is_bare_atom(name) else b"'%s'" % name
 
 
 def config_of(draft: Draft) -> Config:
-    """The configuration that a draft means."""
+    """The configuration of a draft."""
     nodes = tuple(sorted(draft.nodes))
     number = {name: place for place, name in enumerate(nodes)}
     permissions: dict[bytes, bool] = {}
@@ -492,7 +492,7 @@ def config_of(draft: Draft) -> Config:
 
 
 def read_config(text: bytes) -> Config:
-    """The configuration that a text says, or its first fault."""
+    """The configuration of a text, or its first fault."""
     if len(text) > MOST_BYTES:
         raise ConfigFault("TooLong", MOST_BYTES)
     reader = Reader(text)
@@ -501,7 +501,7 @@ def read_config(text: bytes) -> Config:
 
 
 def check(text: bytes) -> tuple[bytes, int]:
-    """What the program prints for an input, and its exit status."""
+    """The program's output for an input, and its exit status."""
     if len(text) > MOST_INPUT:
         return b"input fault 1 TooLong\n", 1
     try:
@@ -511,7 +511,7 @@ def check(text: bytes) -> tuple[bytes, int]:
 
 
 def main() -> int:
-    """Checks the standard input."""
+    """Checks standard input."""
     output, status = check(sys.stdin.buffer.read())
     sys.stdout.buffer.write(output)
     return status

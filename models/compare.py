@@ -4,13 +4,13 @@
 Usage: python3 compare.py PROGRAM [--seed S] [--count N] [--scripts M] [--live L] [--racing R] [--recorded D] [--packets P]
        [--still T] [--reboots B] [--keys K] [--jobs J]
 
-PROGRAM may be a command of several words in one argument, as of a loader with its arguments. The word `check`, `sim`, `live` or `record`
-is added to it. A live run that hasn't ended after some minutes is a difference too. Packets are fed to `sim`, 500 by a script.
-What racing live scripts print hangs on the order of the threads. It is checked by what has to hold of each run: see racing.py.
-Such scripts and those with one outcome are recorded too: see recorded.py.
-Of long scripts some have many ticks at which nothing changes, some many reboots, and some maps of many keys: see random_long.py.
-The inputs that checks/fuzz found are played too, all of them: see found.py.
-The last line counts, and says whether PROGRAM is the proved program. Of a program elsewhere, as a copy, it says that it isn't.
+PROGRAM can be a command of several words in one argument, such as a loader with its arguments. The word `check`, `sim`,
+`live` or `record` is appended. A live run that hasn't ended after some minutes is also a difference. Packets are fed to
+`sim`, 500 per script. The output of racing live scripts depends on the order of the threads, so only properties of
+every run are checked: see racing.py. These scripts and those with one outcome are also recorded: see recorded.py. Long
+scripts have many ticks that change nothing, many reboots, or maps of many keys: see random_long.py. All inputs that
+checks/fuzz found are played too: see found.py. The last line counts, and says whether PROGRAM is the proved program. A
+program elsewhere, such as a copy, counts as not proved.
 """
 
 from __future__ import annotations
@@ -42,17 +42,17 @@ from arguments import at_least
 
 Answer = Tuple[bytes, int]
 Model = Callable[[bytes], Answer]
-# Of an input and what the program answered: what is wrong with that, as a text, or nothing.
+# Of an input and the program's output: what is wrong, or nothing.
 Judge = Callable[[bytes, Answer], Optional[str]]
 BATCH = 50
-# What is counted of long scripts, by the words that its lines begin with.
+# The lines counted in long scripts, by their first words.
 COUNTED = {"still": (b"tick ",), "reboots": (b"crash ",), "keys": (b"permit ", b"start ")}
 MOST_SECONDS = 300
 
 
 @dataclass(frozen=True)
 class Kind:
-    """A kind of input: the command's word, how an input is made of a seed and a number, and who judges the answer."""
+    """A kind of input: the command's word, the generator from a seed and a number, and the judge of outputs."""
 
     word: str
     make: Callable[[int, int], bytes]
@@ -61,7 +61,7 @@ class Kind:
 
 @dataclass(frozen=True)
 class Difference:
-    """An input to which the program answers otherwise than it has to."""
+    """An input with a wrong output."""
 
     word: str
     number: int
@@ -72,20 +72,20 @@ class Difference:
 
 @dataclass(frozen=True)
 class Compared:
-    """The differences among some inputs, and how many lines of each kind of long scripts are counted."""
+    """The differences among some inputs, and the counted lines of long scripts."""
 
     differences: list[Difference]
     lines: Counter[str]
 
 
 def shown(who: str, answer: Answer) -> str:
-    """An answer as a text."""
+    """An output as a text."""
     output, status = answer
     return f"the {who}, with status {status}:\n{output.decode(errors='backslashreplace')}"
 
 
 def by_model(model: Model) -> Judge:
-    """Judges by what a model answers."""
+    """Judges by a model's output."""
 
     def judge(source: bytes, said: Answer) -> str | None:
         expected = model(source)
@@ -95,13 +95,13 @@ def by_model(model: Model) -> Judge:
 
 
 def by_what_holds(source: bytes, said: Answer) -> str | None:
-    """Judges by what has to hold of each run."""
+    """Judges by the properties of every run."""
     broken = racing.fault_of_run(source, *said)
     return None if broken is None else f"what doesn't hold: {broken}"
 
 
 def by_recording(judge: recorded.Judge) -> Judge:
-    """Judges by what has to hold of each recorded run, and its comments by this."""
+    """Judges by the properties of every recorded run, and its comments by this."""
     return lambda source, said: recorded.fault_of_record(judge, source, *said)
 
 
@@ -122,7 +122,7 @@ KINDS = {
 
 
 def run_program(program: list[str], word: str, source: bytes) -> Answer:
-    """What the program prints for an input, and its exit status."""
+    """The program's output for an input, and its exit status."""
     most = MOST_SECONDS if word in ("live", "record") else None
     try:
         done = subprocess.run([*program, word], input=source, stdout=subprocess.PIPE, check=False, timeout=most)
@@ -132,12 +132,12 @@ def run_program(program: list[str], word: str, source: bytes) -> Answer:
 
 
 def counted_in(word: str, source: bytes) -> int:
-    """How many lines of an input are counted."""
+    """The number of counted lines in an input."""
     return sum(line.startswith(COUNTED[word]) for line in source.split(b"\n")) if word in COUNTED else 0
 
 
 def compare_batch(program: list[str], word: str, seed: int, numbers: range) -> Compared:
-    """What is found of the inputs of some numbers."""
+    """The result for the inputs of some numbers."""
     kind = KINDS[word]
     found = Compared([], Counter())
     for number in numbers:
@@ -151,14 +151,14 @@ def compare_batch(program: list[str], word: str, seed: int, numbers: range) -> C
 
 
 def batches(word: str, count: int) -> Iterator[tuple[str, range]]:
-    """The numbers of all inputs of a kind, in batches. A long one is a batch of its own."""
+    """The numbers of all inputs of a kind, in batches. A long input is a batch of its own."""
     size = 1 if word in COUNTED else BATCH
     for start in range(0, count, size):
         yield word, range(start, min(start + size, count))
 
 
 def compare_all(program: list[str], seed: int, counts: dict[str, int], jobs: int) -> Compared:
-    """What is found of all inputs, by several processes at once."""
+    """The result for all inputs, from several processes at once."""
     work = [batch for word, count in counts.items() for batch in batches(word, count)]
     found = Compared([], Counter())
     with ProcessPoolExecutor(jobs) as pool:
@@ -169,7 +169,7 @@ def compare_all(program: list[str], seed: int, counts: dict[str, int], jobs: int
 
 
 def show(difference: Difference) -> None:
-    """Prints a difference whole."""
+    """Prints a whole difference."""
     print(f"{difference.word} {difference.number}, the input as bytes and as it is:")
     print(repr(difference.source))
     print(difference.source.decode(errors="backslashreplace"))
@@ -178,7 +178,7 @@ def show(difference: Difference) -> None:
 
 
 def arguments() -> argparse.Namespace:
-    """The words of the command line."""
+    """The command line's arguments."""
     parser = argparse.ArgumentParser(description="Compares the program with the models on random inputs.")
     parser.add_argument("--seed", type=int, default=1)
     parser.add_argument("--count", type=at_least(0), default=20_000, help="how many texts for `check`")
@@ -196,7 +196,7 @@ def arguments() -> argparse.Namespace:
 
 
 def of_long(lines: Counter[str]) -> str:
-    """What long scripts have."""
+    """The counts of long scripts."""
     return f"{lines['still']} ticks, {lines['reboots']} reboots and {lines['keys']} keys given"
 
 

@@ -1,4 +1,4 @@
-"""Folders in which scripts keep what they make."""
+"""Folders for the output of scripts."""
 
 from __future__ import annotations
 
@@ -8,7 +8,7 @@ from pathlib import Path
 
 
 def own(folder: Path) -> Path:
-    """This folder, which is made if it is missing. If it can't be written, the script ends with a sentence and status 1."""
+    """This folder, created if missing. If it can't be written, the script ends with a message and status 1."""
     try:
         folder.mkdir(parents=True, exist_ok=True)
         with tempfile.TemporaryFile(dir=folder):

@@ -1,8 +1,8 @@
 """Inputs that checks/fuzz found, in the folder `found`. Each reaches code of the program that no seed reaches.
 
-A command has a file with a line for each input: the digits of its bytes, the shortest input first. Those of `feed` are the
-bytes of packets. A script feeds them under the configuration of models/seeds.py. An input of `live` is kept only if no order
-of its threads changes what is printed.
+Each command has a file with one input per line, as hexadecimal bytes, the shortest first. Those of `feed` are the bytes
+of packets, which a script feeds under the configuration of models/seeds.py. An input of `live` is kept only if its
+output is the same in every order of its threads.
 """
 
 from __future__ import annotations
@@ -18,7 +18,7 @@ import seeds
 import simulator
 
 FOLDER = Path(__file__).resolve().parent / "found"
-# The program's word for each command that is tried.
+# The program's word for each command tried.
 WORDS = {"check": "check", "sim": "sim", "live": "live", "feed": "sim"}
 FEEDS = seeds.PACKETS_UNDER + seeds.PARTED + b"feed "
 
@@ -32,24 +32,24 @@ MODELS: dict[str, Callable[[bytes], Answer]] = {
 
 
 def source_of(command: str, found: bytes) -> bytes:
-    """What the program reads for an input."""
+    """The program's input for a kept one."""
     return FEEDS + found.hex().encode() + b"\n" if command == "feed" else found
 
 
 @lru_cache(None)
 def kept(command: str) -> tuple[bytes, ...]:
-    """The inputs that are kept."""
+    """The kept inputs."""
     path = FOLDER / f"{command}.txt"
     return tuple(map(bytes.fromhex, path.read_text().split())) if path.exists() else ()
 
 
 def source(command: str, _seed: int, number: int) -> bytes:
-    """What the program reads for the input of a number."""
+    """The program's input of a number."""
     return source_of(command, kept(command)[number])
 
 
 def keep(command: str, inputs: list[bytes]) -> None:
-    """Keeps some inputs beside those that are kept."""
+    """Adds some inputs to those kept."""
     all_kept = sorted({*kept(command), *inputs}, key=lambda data: (len(data), data))
     FOLDER.mkdir(exist_ok=True)
     (FOLDER / f"{command}.txt").write_text("".join(f"{data.hex()}\n" for data in all_kept))

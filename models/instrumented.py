@@ -1,7 +1,7 @@
-"""The program compiled without proof and instrumented: for sanitizers, and for a fuzzer that goes by coverage.
+"""The program compiled without proof and instrumented: for sanitizers, and for a coverage-guided fuzzer.
 
-To compile takes some minutes, and packages of Debian: crates/distac/compile-sanitized names them. What is compiled is kept in
-out/sanitized until a source is newer.
+Compiling takes some minutes, and the Debian packages that crates/distac/compile-sanitized names. The programs are kept
+in out/sanitized until a source is newer.
 """
 
 from __future__ import annotations
@@ -20,13 +20,13 @@ KEPT = TOP / "out" / "sanitized"
 
 
 def lines_of_crates() -> dict[str, str]:
-    """The lines of crates.txt, by the names that they begin with."""
+    """The lines of crates.txt, by their first names."""
     lines = (TOP / "crates.txt").read_text().splitlines()
     return {line.partition(":")[0].strip(): line for line in lines if line and not line.startswith("#")}
 
 
 def crates_below(name: str, lines: dict[str, str], seen: set[str]) -> Iterator[str]:
-    """A crate and what it stands on, lowest first, but for what was seen."""
+    """A crate and the crates below it, lowest first, without those seen before."""
     seen.add(name)
     for used in lines[name].partition(":")[2].split():
         if used in lines and used not in seen:
@@ -35,13 +35,13 @@ def crates_below(name: str, lines: dict[str, str], seen: set[str]) -> Iterator[s
 
 
 def newest_source(crates: list[str]) -> float:
-    """When the last source was changed that the program is made of."""
+    """The time of the last change of the program's sources."""
     folders = [TOP / "crates" / name / part for name in crates for part in ("src", "specs")]
     return max(path.stat().st_mtime for folder in folders for path in folder.rglob("*") if path.is_file())
 
 
 def made(path: Path, than: float, words: list[str], source: bytes = b"") -> Path:
-    """A file that is newer than its sources: one that is kept, or one that a command makes now."""
+    """A file newer than its sources: the kept one, or one that a command now makes."""
     if path.exists() and path.stat().st_mtime >= than:
         return path
     print(f"compiling {path.name}", file=sys.stderr, flush=True)

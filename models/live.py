@@ -1,8 +1,8 @@
 #!/usr/bin/env python3
-"""An outside model of `distac live`: a configuration and a live script in, what the program prints out.
+"""An outside model of `distac live`: a configuration and a live script in, the program's output out.
 
-No thread is here. In a phase one thread after another takes a step, chosen among those that can take one. So the model answers
-for scripts whose outcome doesn't hang on that choice; the head of random_live.py says which scripts those are.
+It has no threads. In a phase, one simulated thread after another takes a step, chosen among those that can. So the
+model is right for scripts whose output doesn't depend on that choice; the head of random_live.py describes these.
 
 Usage: python3 live.py < FILE
 """
@@ -37,10 +37,10 @@ OTHER_SHAPES: dict[bytes, tuple[str, ...]] = {FEED: SHAPES[FEED], PHASE: ()}
 
 
 class LiveReader(LineReader):
-    """Reads the lines of a live script. A first word of digits alone is a caller."""
+    """Reads the lines of a live script. A first word of only digits is a caller."""
 
     def kinds_of(self, words: list[bytes]) -> tuple[str, ...] | None:
-        """Of which kind each word of a line has to be, if it is a line at all."""
+        """The required kinds of a line's words, if it is a line at all."""
         if not words[0].isdigit():
             return (VERB, *OTHER_SHAPES[words[0]]) if words[0] in OTHER_SHAPES else None
         if len(words) == 1:
@@ -48,19 +48,19 @@ class LiveReader(LineReader):
         return (CALLER, VERB, *CALLER_SHAPES[words[1]]) if words[1] in CALLER_SHAPES else None
 
     def fault_of_word(self, kind: str, word: bytes) -> str | None:
-        """What is wrong with a word."""
+        """The fault of a word."""
         if kind == CALLER:
             return None if word in CALLERS else "BadNumber"
         return super().fault_of_word(kind, word)
 
     def value_of(self, kind: str, word: bytes) -> int | bool | bytes:
-        """The value of a word that is in order."""
+        """The value of a correct word."""
         return int(word) if kind == CALLER else super().value_of(kind, word)
 
 
 @dataclass(frozen=True)
 class Asked:
-    """What a caller of a node asks for: a word and the values behind it, the node first."""
+    """A caller's request to a node: a word and its values, the node first."""
 
     caller: int
     word: bytes
@@ -68,26 +68,26 @@ class Asked:
 
     @property
     def node(self) -> int:
-        """Where it is asked for."""
+        """Its node."""
         return int(self.values[0])
 
 
 @dataclass
 class Phase:
-    """What is asked for in a phase, and its feeds, each in the order of the script."""
+    """The requests of a phase, and its feeds, in script order."""
 
     asked: list[Asked] = field(default_factory=list)
     feeds: list[bytes] = field(default_factory=list)
 
 
 def asked_in(line: Line) -> Asked:
-    """What the line of a caller asks for."""
+    """The request in a caller's line."""
     caller, *values = line.values
     return Asked(int(caller), line.word, tuple(values))
 
 
 def phases_of(lines: list[Line]) -> list[Phase]:
-    """The phases of a script. The last one ends with it."""
+    """The phases of a script. The last one ends with the script."""
     phases = [Phase()]
     for line in lines:
         if line.word == PHASE:
@@ -114,13 +114,13 @@ Choose = Callable[[List[Thread]], Thread]
 
 
 def first(threads: list[Thread]) -> Thread:
-    """The first one: the callers by node and number, and then what is on its way is heard before more is shipped."""
+    """The first thread: callers by node and number, then receivers before shippers."""
     return threads[0]
 
 
 @dataclass
 class Link:
-    """A link from a node to another: how often is still shipped in this phase, and the messages on their way."""
+    """A link between two nodes: the ships left in this phase, and the messages in transit."""
 
     node: int
     to: int
@@ -139,25 +139,25 @@ class Run:
         self.links = [Link(node, to) for node in nodes for to in nodes if to != node]
 
     def play(self, phases: list[Phase]) -> bytes:
-        """What is printed for all phases, and what stands in the end."""
+        """The output of all phases and of the end."""
         lines = [line for number, phase in enumerate(phases, 1) for line in self.printed(number, phase)]
         for node in range(len(self.world.nodes)):
             lines += self.text.page(node)
         return b"".join(line + b"\n" for line in [*lines, b"close ok", b"weave ok"])
 
     def printed(self, number: int, phase: Phase) -> list[bytes]:
-        """What is printed for a phase: the answers by node, caller and script, and the feeds."""
+        """The output of a phase: the answers by node, caller and script, then the feeds."""
         answers = self.phase(phase.asked)
         order = sorted(range(len(answers)), key=lambda at: (phase.asked[at].node, phase.asked[at].caller))
         found = [self.named(phase.asked[at]) + answers[at] for at in order]
         return [b"phase %d" % number, *found, *(self.fed(data) for data in phase.feeds)]
 
     def named(self, asked: Asked) -> bytes:
-        """How the line of an answer begins."""
+        """The beginning of an answer's line."""
         return b"%s %d " % (self.text.node(asked.node), asked.caller)
 
     def fed(self, data: bytes) -> bytes:
-        """What bytes are, read as a packet."""
+        """The result of bytes read as a packet."""
         try:
             read_packet(self.world.config, data)
         except WireFault as fault:
@@ -165,7 +165,7 @@ class Run:
         return b"wire ok"
 
     def phase(self, asked: list[Asked]) -> list[bytes]:
-        """Plays a phase. The answer of each line."""
+        """Plays a phase: the answer of each line."""
         answers: dict[int, bytes] = {}
         for link in self.links:
             link.ships = SHIPS
@@ -178,14 +178,14 @@ class Run:
         return [answers[at] for at in range(len(asked))]
 
     def callers(self, asked: list[Asked], answers: dict[int, bytes]) -> list[Thread]:
-        """A thread for each caller that asks for something."""
+        """A thread for each caller with requests."""
         places: dict[tuple[int, int], deque[int]] = {}
         for at, line in enumerate(asked):
             places.setdefault((line.node, line.caller), deque()).append(at)
         return [self.caller(asked, places[who], answers) for who in sorted(places)]
 
     def caller(self, asked: list[Asked], places: deque[int], answers: dict[int, bytes]) -> Thread:
-        """The thread of a caller. It asks for what stands at some places, one after the other."""
+        """A caller's thread, which makes the requests at some places in turn."""
 
         def ask() -> None:
             at = places.popleft()
@@ -194,7 +194,7 @@ class Run:
         return Thread(lambda: bool(places), ask)
 
     def worker(self, link: Link) -> Thread:
-        """The thread that hears what comes out of a link."""
+        """The thread that hears the messages of a link."""
         return Thread(lambda: bool(link.letters), lambda: self.hear(link))
 
     def shipper(self, link: Link) -> Thread:
@@ -202,7 +202,7 @@ class Run:
         return Thread(lambda: link.ships > 0, lambda: self.ship(link))
 
     def answer(self, asked: Asked) -> bytes:
-        """What a caller is answered. Whoever reads gets a page that is fresh."""
+        """The answer to a caller. Pages read are always fresh."""
         if asked.word == READ:
             return b"fresh"
         event: Callable[..., object] = getattr(self.world, asked.word.decode())
@@ -213,7 +213,7 @@ class Run:
         return b"ok"
 
     def ship(self, link: Link) -> None:
-        """Ships once. Where that is refused nothing comes into the link."""
+        """Ships once, or adds nothing to the link if the ship is refused."""
         link.ships -= 1
         with suppress(Refused):
             link.letters.append(self.world.ship(link.node, link.to))
@@ -226,7 +226,7 @@ class Run:
 
 
 def run_live(source: bytes, choose: Choose = first) -> tuple[bytes, int]:
-    """What the program prints for an input, and its exit status."""
+    """The program's output for an input, and its exit status."""
     try:
         config, lines = read_input(source, LiveReader)
     except (InputFault, ConfigFault, ScriptFault) as fault:
@@ -237,7 +237,7 @@ def run_live(source: bytes, choose: Choose = first) -> tuple[bytes, int]:
 
 
 def main() -> int:
-    """Runs the standard input."""
+    """Runs standard input."""
     output, status = run_live(sys.stdin.buffer.read())
     sys.stdout.buffer.write(output)
     return status

@@ -1,4 +1,5 @@
-"""Operations, and what a set of operations means. Nothing is joined here: each part is read off the whole set."""
+"""Operations, and the meaning of a set of operations. Nothing is joined here: each part is computed from the whole
+set."""
 
 from __future__ import annotations
 
@@ -17,7 +18,7 @@ class Origin(NamedTuple):
 
 
 class Dot(NamedTuple):
-    """The name of an operation: who issued it, and which one of its operations it is."""
+    """The name of an operation: its issuer, and its number among the issuer's operations."""
 
     node: int
     inc: int
@@ -25,12 +26,12 @@ class Dot(NamedTuple):
 
     @property
     def origin(self) -> Origin:
-        """Who issued it."""
+        """Its issuer."""
         return Origin(self.node, self.inc)
 
 
 class Key(NamedTuple):
-    """What a permission or a start wish is about."""
+    """The subject of a permission or a start wish."""
 
     app: int
     node: int
@@ -38,14 +39,14 @@ class Key(NamedTuple):
 
 
 class Life(NamedTuple):
-    """The life of a node. At one incarnation up is below down."""
+    """A node's life. At the same incarnation up is below down."""
 
     inc: int
     is_down: bool
 
 
 class Claim(NamedTuple):
-    """A claim with its origin, in the order of claims. A `source` of -1 is none."""
+    """A claim with its origin, in the order of claims. A `source` of -1 means none."""
 
     term: int
     node: int
@@ -55,7 +56,7 @@ class Claim(NamedTuple):
 
     @property
     def origin(self) -> Origin:
-        """Who claims."""
+        """Its claimant."""
         return Origin(self.node, self.inc)
 
 
@@ -74,7 +75,7 @@ class Down:
 
 @dataclass(frozen=True)
 class Permit:
-    """A permission, in the place of others."""
+    """A permission, which replaces others."""
 
     key: Key
     value: bool
@@ -83,7 +84,7 @@ class Permit:
 
 @dataclass(frozen=True)
 class Start:
-    """A start wish, in the place of others."""
+    """A start wish, which replaces others."""
 
     key: Key
     over: tuple[Dot, ...]
@@ -99,7 +100,7 @@ class Stop:
 
 @dataclass(frozen=True)
 class ClaimAct:
-    """An application is claimed by the one who issues it."""
+    """Its issuer claims an application."""
 
     app: int
     term: int
@@ -109,7 +110,7 @@ class ClaimAct:
 
 @dataclass(frozen=True)
 class Drain:
-    """The word that an incarnation of a node is drained, or that it isn't, in the place of others."""
+    """An incarnation of a node is drained or not, which replaces others."""
 
     about: Origin
     value: bool
@@ -121,7 +122,7 @@ Act = Union[Up, Down, Permit, Start, Stop, ClaimAct, Drain]
 
 @dataclass(frozen=True)
 class Operation:
-    """An operation: its dot, and what it does."""
+    """An operation: its dot and its effect."""
 
     dot: Dot
     act: Act
@@ -134,7 +135,7 @@ class Operation:
 
 @dataclass
 class Meaning:
-    """What a set of operations means, in seven parts."""
+    """The meaning of a set of operations, in seven parts."""
 
     heard: set[Dot] = field(default_factory=set)
     known: set[Dot] = field(default_factory=set)
@@ -150,15 +151,15 @@ class Meaning:
         return None if life is None or life.is_down else life.inc
 
     def standing_permits(self, key: Key) -> tuple[Dot, ...]:
-        """The permits that stand at a key."""
+        """The standing permits of a key."""
         return tuple(sorted(self.permits.get(key, ())))
 
     def standing_starts(self, key: Key) -> tuple[Dot, ...]:
-        """The starts that stand at a key."""
+        """The standing starts of a key."""
         return tuple(sorted(self.starts.get(key, ())))
 
     def standing_drains(self, about: Origin) -> tuple[Dot, ...]:
-        """The drains that stand at an incarnation of a node."""
+        """The standing drains of a node's incarnation."""
         return tuple(sorted(self.drains.get(about, ())))
 
 
@@ -178,7 +179,7 @@ def meaning_of(operations: Iterable[Operation]) -> Meaning:
 
 
 def add_standing(found: Meaning, operation: Operation) -> None:
-    """Adds a permit, a start or a drain that nothing replaces."""
+    """Adds a permit, start or drain that nothing replaces."""
     act = operation.act
     if isinstance(act, Permit):
         found.permits.setdefault(act.key, {})[operation.dot] = act.value
@@ -189,7 +190,7 @@ def add_standing(found: Meaning, operation: Operation) -> None:
 
 
 def add_life(found: Meaning, operation: Operation) -> None:
-    """Adds what an operation says of a node's life."""
+    """Adds an operation's effect on a node's life."""
     if isinstance(operation.act, Up):
         node, life = operation.dot.node, Life(operation.dot.inc, False)
     elif isinstance(operation.act, Down):
@@ -200,7 +201,7 @@ def add_life(found: Meaning, operation: Operation) -> None:
 
 
 def add_claim(found: Meaning, operation: Operation) -> None:
-    """Adds a claim where it is the greatest of its application."""
+    """Adds a claim if it is the greatest of its application."""
     act = operation.act
     if isinstance(act, ClaimAct):
         claim = Claim(act.term, operation.dot.node, operation.dot.inc, act.how, act.source)

@@ -1,19 +1,19 @@
 #!/usr/bin/env python3
-"""Changes the model of `distac sim` in one place at a time, and lists the changes that no row sees.
+"""Changes the model of `distac sim` in one place at a time, and lists the changes that no row detects.
 
 Usage: python3 mutated.py [--rows FOLDER] [--jobs J] [--list]
 
-A mutant is one change of world.py, placement.py, meaning.py or simulator.py: see mutations.py. It is a wrong definition, as an operator
-would see it. It falls if a row of examples/rows or an example prints something else by it (see row_files.py), if it fails, or if it
-takes more than some seconds. The texts of configurations (check.py) and the bytes (wire.py) aren't changed, because rows and tests
-of their own compare them, nor is what runs from the command line.
+A mutant is one change of world.py, placement.py, meaning.py or simulator.py (see mutations.py): a wrong definition, as
+an operator would see it. It falls if it changes the output of a row of examples/rows or of an example (see
+row_files.py), fails, or takes more than some seconds. The texts of configurations (check.py) and the bytes (wire.py)
+aren't changed, because they have rows and tests of their own; nor is command-line code.
 
-unseen.txt lists the mutants that no row sees, each with a reason. By those that are equivalent nothing is printed otherwise. Those
-that a test of the gate refuses name it, and fall. All others are left. An entry that names no mutant, one that a row sees, or
-no test, is a fault.
+unseen.txt lists the mutants that no row detects, each with a reason. Equivalent ones change no output. Those that a
+test of the gate refuses name it, and fall. All others are left. An entry is a fault if it names no mutant, one that a
+row detects, or no test.
 
-Each survivor is printed with its place, and as it reads before and after the change. The last line is `N mutants, K fall, S
-survive`, without those that are equivalent. The status is 0 if there is a reason for each survivor, and no entry is a fault.
+Each survivor is printed with its place, before and after the change. The last line is `N mutants, K fall, S survive`,
+without equivalent ones. The status is 0 if each survivor has a reason, and no entry is a fault.
 """
 
 from __future__ import annotations
@@ -38,7 +38,7 @@ from row_files import TOP, Row, all_rows
 
 MODELS = Path(__file__).resolve().parent
 REASONS = MODELS / "unseen.txt"
-# Each module behind those that it imports.
+# Each module after those that it imports.
 MODULES = ("check", "meaning", "wire", "placement", "world", "simulator")
 CHANGED = ("world", "placement", "meaning", "simulator")
 MOST_SECONDS = 10.0
@@ -47,7 +47,7 @@ EQUIVALENT, LEFT, TESTED = "equivalent", "left", "tested by "
 
 
 class TooSlow(BaseException):
-    """A mutant took too long."""
+    """A mutant takes too long."""
 
 
 class BadReasons(Exception):
@@ -56,14 +56,14 @@ class BadReasons(Exception):
 
 @dataclass(frozen=True)
 class Reason:
-    """Why no row sees a mutant: it is equivalent, left, or tested by a test that is named."""
+    """Why no row detects a mutant: it is equivalent, left, or refused by a named test."""
 
     kind: str
     text: str
 
     @property
     def test(self) -> str:
-        """The test that refuses the mutant, by its crate, its module and its name, or nothing."""
+        """The crate, module and name of the test that refuses the mutant, or nothing."""
         return self.kind[len(TESTED) :] if self.kind.startswith(TESTED) else ""
 
 
@@ -78,7 +78,7 @@ def source_of(module: str) -> str:
 
 @lru_cache(None)
 def code_of(module: str) -> types.CodeType:
-    """The code of a module as it stands."""
+    """The unchanged code of a module."""
     code: types.CodeType = compile(source_of(module), f"{module}.py", "exec")
     return code
 
@@ -90,7 +90,8 @@ def all_mutations() -> list[Mutation]:
 
 @contextmanager
 def loaded(mutation: Mutation) -> Iterator[types.ModuleType]:
-    """The model with a change. While it is used, the changed module and those behind it stand in the place of the others."""
+    """The model with a change. In its context the changed module and those that depend on it replace the original
+    ones."""
     first = [f"{name}.py" for name in MODULES].index(mutation.file)
     kept = {name: importlib.import_module(name) for name in MODULES}
     try:
@@ -105,13 +106,13 @@ def loaded(mutation: Mutation) -> Iterator[types.ModuleType]:
 
 
 def give_up(_number: int, _frame: Optional[types.FrameType]) -> None:
-    """The time is up."""
+    """The time limit has passed."""
     raise TooSlow
 
 
 @contextmanager
 def limited(seconds: float) -> Iterator[None]:
-    """Ends what takes longer than so many seconds of the processor."""
+    """Ends a computation after so many seconds of processor time."""
     before = signal.signal(signal.SIGVTALRM, give_up)
     signal.setitimer(signal.ITIMER_VIRTUAL, seconds)
     try:
@@ -122,7 +123,7 @@ def limited(seconds: float) -> Iterator[None]:
 
 
 def seen_by(mutation: Mutation, rows: list[Row]) -> Optional[str]:
-    """What sees a mutant: the first row that it prints otherwise, or how it ends. None if nothing does."""
+    """The first row whose output changes, or the mutant's failure, or None if nothing detects it."""
     name = "nothing yet"
     try:
         with limited(MOST_SECONDS), loaded(mutation) as model:
@@ -136,12 +137,12 @@ def seen_by(mutation: Mutation, rows: list[Row]) -> Optional[str]:
 
 
 def seen_in(mutations: list[Mutation], rows: list[Row]) -> list[Optional[str]]:
-    """What sees each of some mutants."""
+    """The detection of each of some mutants."""
     return [seen_by(mutation, rows) for mutation in mutations]
 
 
 def survivors_of(mutations: list[Mutation], rows: list[Row], jobs: int) -> list[Mutation]:
-    """The mutants that nothing sees, found by several processes at once."""
+    """The undetected mutants, found by several processes at once."""
     with ProcessPoolExecutor(jobs) as pool:
         batches = [mutations[at : at + BATCH] for at in range(0, len(mutations), BATCH)]
         tasks = [pool.submit(seen_in, batch, rows) for batch in batches]
@@ -153,7 +154,7 @@ def survivors_of(mutations: list[Mutation], rows: list[Row], jobs: int) -> list[
 
 
 def read_reasons(text: str) -> dict[str, Reason]:
-    """The reason for each listed mutant. A reason is a line, and each indented line behind it is a mutant."""
+    """The reason for each listed mutant. A reason is a line; the indented lines after it are its mutants."""
     found: dict[str, Reason] = {}
     reason: Optional[Reason] = None
     for line in text.splitlines():
@@ -170,14 +171,14 @@ def read_reasons(text: str) -> dict[str, Reason]:
 
 
 def is_test(top: Path, name: str) -> bool:
-    """Whether there is a test of this crate, module and name."""
+    """Whether this test exists in this crate and module."""
     crate, module, function = name.split("::")
     path = top / "crates" / crate / "src" / f"{module}.rt"
     return path.exists() and f"#[test]\nfn {function}(" in path.read_text(encoding="utf-8")
 
 
 def faults_of(reasons: dict[str, Reason], mutations: list[Mutation], survivors: list[Mutation]) -> Iterator[str]:
-    """The entries that name no mutant, one that a row sees, or no test."""
+    """The entries without a mutant, with a detected one, or with an unknown test."""
     names, surviving = set(map(str, mutations)), set(map(str, survivors))
     for name, reason in reasons.items():
         if name not in names:
@@ -191,13 +192,13 @@ def faults_of(reasons: dict[str, Reason], mutations: list[Mutation], survivors: 
 
 
 def shown(mutation: Mutation, reason: Optional[Reason]) -> str:
-    """A mutant with its place, and why it is left, if that is known."""
+    """A mutant with its place, and why it is left, if known."""
     text = f"{mutation.file}:{mutation.line}: {mutation.function}: {mutation.old} -> {mutation.new}"
     return f"{text}\n    left because {reason.text}" if reason else text
 
 
 def report(mutations: list[Mutation], survivors: list[Mutation], reasons: dict[str, Reason]) -> int:
-    """Prints the survivors, the faults of the list and the counts. The exit status."""
+    """Prints the survivors, the faults of the list and the counts, and returns the exit status."""
     faults = list(faults_of(reasons, mutations, survivors))
     known = {one: reasons[str(one)] for one in survivors if str(one) in reasons}
     equivalent = [one for one, reason in known.items() if reason.kind == EQUIVALENT]
@@ -214,7 +215,7 @@ def report(mutations: list[Mutation], survivors: list[Mutation], reasons: dict[s
 
 
 def arguments() -> argparse.Namespace:
-    """The words of the command line."""
+    """The command line's arguments."""
     parser = argparse.ArgumentParser(description="Lists the changes of the model of `distac sim` that no row sees.")
     parser.add_argument("--rows", type=Path, default=TOP, help="the clone whose rows and examples are played, this one if not given")
     parser.add_argument("--jobs", type=at_least(1), default=2)
@@ -223,7 +224,7 @@ def arguments() -> argparse.Namespace:
 
 
 def main() -> int:
-    """Lists the mutants, or tries them."""
+    """Lists or tries the mutants."""
     words = arguments()
     mutations = all_mutations()
     if words.list:

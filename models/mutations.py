@@ -1,7 +1,7 @@
-"""Changes of a text of Python: one operator, comparison, constant, boolean, case or statement at a time.
+"""Changes of a Python text: one operator, comparison, constant, boolean, case or statement at a time.
 
-A text is changed where a part of its syntax tree stands, so each change can be shown, and what isn't changed keeps its place.
-Types, decorators, comments and what runs from the command line stay as they are.
+A text is changed at the position of a part of its syntax tree, so that each change can be shown and the rest keeps its
+place. Types, decorators, comments and command-line code stay as they are.
 """
 
 from __future__ import annotations
@@ -13,7 +13,7 @@ from collections.abc import Iterator
 from dataclasses import dataclass, replace
 from typing import Dict, Optional, Tuple, Type
 
-# How a comparison is written, and what is tried in its place.
+# How a comparison is written, and its replacements.
 COMPARISONS: Dict[Type[ast.cmpop], Tuple[str, Tuple[str, ...]]] = {
     ast.Lt: ("<", ("<=", ">=")),
     ast.LtE: ("<=", ("<", ">")),
@@ -40,20 +40,21 @@ OTHER_CALLS = {"max": "min", "min": "max", "any": "all", "all": "any", "sorted":
 CLAIMS = ("NORMAL", "FAILOVER", "TAKEOVER")
 VERDICTS = ("START", "FAILOVER", "MOVE", "TAKEOVER", "KEPT", "HALTED", "NOBODY")
 BODIES = ("WHOLE", "INTERVAL", "NOTHING")
-# The module whose names are the verdicts.
+# The module with the verdicts' names.
 PLACEMENT = "placement"
 
 STATEMENTS = (ast.Expr, ast.Assign, ast.AnnAssign, ast.AugAssign, ast.Break, ast.If, ast.IfExp, ast.For, ast.comprehension)
 UNTOUCHED_FUNCTIONS = ("main",)
 UNTOUCHED_FIELDS = ("annotation", "returns", "decorator_list", "bases", "ops", "op", "ctx")
 QUOTED = re.compile(r"[bf]?\"([^\"]*)\"|[bf]?'([^']*)'")
-# A part that is longer is shown by the lines of the change.
+# A longer part is shown only by the lines of the change.
 MOST_SHOWN = 120
 
 
 @dataclass(frozen=True)
 class Edit:
-    """A part of a text with what is put there, and the part around it that is shown. A pair of texts is shown in its place."""
+    """A part of a text with its replacement, and the surrounding part that is shown, or a pair of texts in its
+    place."""
 
     start: int
     end: int
@@ -64,7 +65,7 @@ class Edit:
 
 @dataclass(frozen=True)
 class Mutation:
-    """A change of a file: the function and the line in which it stands, and how that part reads before and after."""
+    """A change of a file: its function, its line, and the part before and after."""
 
     file: str
     function: str
@@ -82,7 +83,7 @@ class Mutation:
 
 
 def mutations_of(file: str, text: str) -> list[Mutation]:
-    """All changes of a file, from top to bottom. Of those of a function that read alike the later ones are numbered."""
+    """All changes of a file, from top to bottom. Later ones that look alike in a function are numbered."""
     found: list[Mutation] = []
     seen: Counter[str] = Counter()
     for mutation in Walk(file, text).mutations():
@@ -93,12 +94,12 @@ def mutations_of(file: str, text: str) -> list[Mutation]:
 
 
 def on_one_line(text: str) -> str:
-    """A text on one line."""
+    """A text in one line."""
     return " ".join(text.split())
 
 
 def is_skipped(node: ast.AST) -> bool:
-    """Whether a statement is no part of the rules: a comment, an import, a type, or what runs from the command line."""
+    """Whether a statement is outside the rules: a comment, an import, a type, or command-line code."""
     if isinstance(node, ast.Expr):
         return isinstance(node.value, ast.Constant)
     if isinstance(node, ast.If) and isinstance(node.test, ast.Compare):
@@ -117,14 +118,14 @@ def is_guard(node: ast.AST) -> bool:
 
 
 def numbers_in(function: ast.FunctionDef) -> frozenset[str]:
-    """The names in a function that stand for numbers: parameters that are, and what is counted through."""
+    """The numeric names of a function: parameters of a numeric type, and loop counters."""
     parameters = {one.arg for one in function.args.args if isinstance(one.annotation, ast.Name) and one.annotation.id == "int"}
     loops = (node.target for node in ast.walk(function) if isinstance(node, (ast.For, ast.comprehension)))
     return frozenset(parameters | {target.id for target in loops if isinstance(target, ast.Name)})
 
 
 class Walk:
-    """Goes through a text, and finds its changes."""
+    """Finds the changes of a text."""
 
     def __init__(self, file: str, text: str) -> None:
         self.file = file
@@ -143,7 +144,7 @@ class Walk:
             yield Mutation(self.file, function, line, edit, old, new)
 
     def shown(self, edit: Edit) -> Tuple[str, str]:
-        """How the part around a change reads before and after it, or as much of it as stands in the lines of the change."""
+        """The part around a change before and after it, or only the lines of the change if it is long."""
         start, end = edit.around
         if end - start > MOST_SHOWN:
             start = max(start, self.text.rfind("\n", 0, edit.start) + 1)
@@ -152,7 +153,7 @@ class Walk:
         return on_one_line(self.text[start:end]), on_one_line(new)
 
     def walk(self, node: ast.AST, around: Optional[ast.expr]) -> Iterator[Tuple[str, Edit]]:
-        """The changes of a part, which stands in a larger expression or in none, with their functions."""
+        """The changes of a part, possibly inside a larger expression, with their functions."""
         if is_skipped(node):
             return
         outer, numbers = self.function, self.numbers
@@ -168,7 +169,7 @@ class Walk:
         self.function, self.numbers = outer, numbers
 
     def parts(self, node: ast.AST) -> Iterator[ast.AST]:
-        """The parts of a part that may be changed. Of a text with values in it no part is."""
+        """The parts of a part that can be changed. A text with values in it has none."""
         fields = [] if isinstance(node, ast.JoinedStr) else ast.iter_fields(node)
         for name, value in fields:
             if name not in UNTOUCHED_FIELDS:
@@ -177,12 +178,12 @@ class Walk:
     # Places
 
     def span(self, node: ast.AST) -> Tuple[int, int]:
-        """From where to where a part goes."""
+        """The extent of a part."""
         start = self.lines[getattr(node, "lineno") - 1] + getattr(node, "col_offset")
         return start, self.lines[getattr(node, "end_lineno") - 1] + getattr(node, "end_col_offset")
 
     def said(self, node: ast.AST) -> str:
-        """How a part reads, between brackets where it could be torn otherwise."""
+        """The text of a part, in brackets if it needs them."""
         start, end = self.span(node)
         text = self.text[start:end]
         return f"({text})" if isinstance(node, (ast.BoolOp, ast.IfExp, ast.Lambda)) else text
@@ -193,7 +194,7 @@ class Walk:
         return Edit(start, end, put, self.span(around or node))
 
     def between(self, left: ast.AST, right: ast.AST, old: str, put: str, around: ast.AST) -> Edit:
-        """A change of what stands between two parts."""
+        """A change between two parts."""
         first, last = self.span(left)[1], self.span(right)[0]
         at = self.text.index(old, first, last)
         return Edit(at, at + len(old), put, self.span(around))
@@ -215,7 +216,7 @@ class Walk:
             yield from self.of_container(node, around)
 
     def in_body(self, node: ast.AST) -> Iterator[Edit]:
-        """Two statements change places, each of which may end the function."""
+        """Swaps two statements that may each end the function."""
         body = getattr(node, "body", None)
         for first, second in zip(body, body[1:]) if isinstance(body, list) else ():
             if is_guard(first) and is_guard(second) and not is_skipped(first):
@@ -226,7 +227,7 @@ class Walk:
                 yield Edit(start, end, self.said(second) + middle + self.said(first), (start, end), texts)
 
     def of_statement(self, node: ast.AST) -> Iterator[Edit]:
-        """A statement is left out, a case is always or never taken, or a loop takes its first item alone, or all but that."""
+        """Removes a statement, takes a case always or never, or takes only a loop's first item, or all except that."""
         if isinstance(node, (ast.If, ast.IfExp)):
             yield from (self.other(node.test, put) for put in ("True", "False"))
         elif isinstance(node, (ast.comprehension, ast.For)):
@@ -258,7 +259,7 @@ class Walk:
                 yield from (self.other(node, other, around) for other in sorted(self.numbers - {name}))
 
     def of_constant(self, node: ast.Constant, around: ast.expr) -> Iterator[Edit]:
-        """The other truth, a number one up or down, or a text with a mark behind one of its words."""
+        """The other truth value, a number one up or down, or a text with a mark after one of its words."""
         if isinstance(node.value, bool):
             yield self.other(node, str(not node.value), around)
         elif isinstance(node.value, int):
@@ -274,7 +275,7 @@ class Walk:
                 yield from (Edit(place, place, "!", shown) for place in places or [last])
 
     def of_operation(self, node: ast.expr) -> Iterator[Edit]:
-        """Another comparison or operator, or one of its sides alone."""
+        """Another comparison or operator, or only one of its sides."""
         if isinstance(node, ast.Compare):
             sides = [node.left, *node.comparators]
             for left, op, right in zip(sides, node.ops, sides[1:]):
@@ -294,7 +295,7 @@ class Walk:
             yield from self.of_sides(node)
 
     def of_sides(self, node: ast.BinOp) -> Iterator[Edit]:
-        """Another operator between two sides, or one side alone. A text that is filled in stays."""
+        """Another operator, or only one side. A format string stays."""
         texts = [side for side in (node.left, node.right) if isinstance(side, ast.Constant) and not isinstance(side.value, int)]
         if texts and isinstance(node.op, ast.Mod):
             return
@@ -307,7 +308,7 @@ class Walk:
                     yield self.other(node, self.said(side))
 
     def without_each(self, node: ast.expr, around: ast.expr) -> Iterator[Edit]:
-        """A tuple, list or set without one of its items, each in turn."""
+        """A tuple, list or set without one of its items."""
         if isinstance(node, (ast.Tuple, ast.List, ast.Set)) and len(node.elts) > 1:
             opening, closing = self.said(node)[0], self.said(node)[-1]
             for at in range(len(node.elts)):
@@ -315,7 +316,7 @@ class Walk:
                 yield self.other(node, opening + rest.rstrip() + closing, around)
 
     def of_call(self, node: ast.Call) -> Iterator[Edit]:
-        """Another function of the kind, one of several values alone, no order of its own, or two numbers that change places."""
+        """A related function, only one of several values, no sorting, or two numbers swapped."""
         if isinstance(node.func, ast.Name) and node.func.id in OTHER_CALLS:
             yield self.other(node.func, OTHER_CALLS[node.func.id], node)
             yield from (self.other(node, self.said(value)) for value in node.args if len(node.args) > 1)
@@ -329,13 +330,14 @@ class Walk:
                 yield Edit(start, end, "", self.span(node))
 
     def is_number(self, node: ast.expr) -> bool:
-        """Whether a part is a name that stands for a number."""
+        """Whether a part is a numeric name."""
         return isinstance(node, ast.Name) and node.id in self.numbers
 
     def of_container(self, node: ast.AST, around: Optional[ast.expr]) -> Iterator[Edit]:
-        """The first item in place of one by its number, an interval without a bound, a table without a row, an order turned."""
+        """The first item instead of an indexed one, an interval without a bound, a table without a row, an order
+        reversed."""
         if isinstance(node, ast.Subscript):
-            # (Python 3.8 has the index in a part of its own)
+            # (Python 3.8 wraps the index in a part of its own)
             index = getattr(node.slice, "value") if type(node.slice).__name__ == "Index" else node.slice
             if isinstance(index, (ast.Name, ast.Attribute)) and isinstance(node.ctx, ast.Load):
                 yield self.other(index, "0", node)
@@ -349,7 +351,7 @@ class Walk:
             yield self.other(node.body, f"({', '.join(items)})", node)
 
     def without_rows(self, node: ast.Dict) -> Iterator[Edit]:
-        """A table without one of its rows, each in turn."""
+        """A table without one of its rows."""
         for key, value in zip(node.keys, node.values):
             if key is not None:
                 start, end = self.span(key)[0], self.span(value)[1]

@@ -1,4 +1,4 @@
-"""Where each application belongs, by the meaning of a set of operations."""
+"""The placement of each application, from the meaning of a set of operations."""
 
 from __future__ import annotations
 
@@ -13,35 +13,35 @@ KEPT, HALTED, NOBODY = "kept", "halted", "nobody"
 
 @dataclass(frozen=True)
 class Verdict:
-    """What is to become of an application, and at which node. `nobody` has none."""
+    """The decision for an application, and its node. `nobody` has none."""
 
     what: str
     node: int | None = None
 
 
 def is_permitted(config: Config, meaning: Meaning, key: Key) -> bool:
-    """Whether an application may run there: of what stands, false wins."""
+    """Whether an application is permitted at a node: among the standing permits, false wins."""
     standing = meaning.permits.get(key)
     return all(standing.values()) if standing else config.apps[key.app].permission
 
 
 def is_drained(meaning: Meaning, about: Origin) -> bool:
-    """Whether an incarnation of a node is out of placement: of what stands, drained wins."""
+    """Whether an incarnation of a node is out of placement: among the standing drains, true wins."""
     return any(meaning.drains.get(about, {}).values())
 
 
 def is_allowed(config: Config, meaning: Meaning, key: Key) -> bool:
-    """Whether an application may run there, at an incarnation that isn't drained."""
+    """Whether an application is permitted at a node that isn't drained."""
     return is_permitted(config, meaning, key) and not is_drained(meaning, Origin(key.node, key.inc))
 
 
 def is_wished(meaning: Meaning, key: Key) -> bool:
-    """Whether some start wish stands."""
+    """Whether a start wish stands."""
     return bool(meaning.starts.get(key))
 
 
 def is_eligible(config: Config, meaning: Meaning, app: int, node: int) -> bool:
-    """Whether a node may get an application."""
+    """Whether a node is eligible for an application."""
     inc = meaning.live(node)
     if inc is None or config.apps[app].group_of(node) is None:
         return False
@@ -56,7 +56,7 @@ def holder(meaning: Meaning, app: int) -> Origin | None:
 
 
 def running_node(config: Config, meaning: Meaning, app: int) -> int | None:
-    """The node at which an application runs."""
+    """The node that runs an application."""
     origin = holder(meaning, app)
     if origin is None or meaning.live(origin.node) != origin.inc:
         return None
@@ -64,18 +64,18 @@ def running_node(config: Config, meaning: Meaning, app: int) -> int | None:
 
 
 def load(config: Config, meaning: Meaning, app: int, node: int) -> int:
-    """How many other applications run at a node."""
+    """The number of other applications that a node runs."""
     others = [other for other in range(len(config.apps)) if other != app]
     return sum(running_node(config, meaning, other) == node for other in others)
 
 
 def eligible_of_group(config: Config, meaning: Meaning, app: int, group: int) -> list[int]:
-    """The nodes of a group that may get the application."""
+    """The eligible nodes of a group."""
     return [node for node in config.apps[app].groups[group] if is_eligible(config, meaning, app, node)]
 
 
 def first(config: Config, meaning: Meaning, app: int) -> int | None:
-    """Of the earliest group that has any, the node with the least load, and of those the least by name."""
+    """The eligible node of the earliest group with one: the least load, then the least name."""
     for group in range(len(config.apps[app].groups)):
         nodes = eligible_of_group(config, meaning, app, group)
         if nodes:
@@ -84,13 +84,13 @@ def first(config: Config, meaning: Meaning, app: int) -> int | None:
 
 
 def to_first(what: str, config: Config, meaning: Meaning, app: int) -> Verdict:
-    """A verdict that names the first node, or nobody."""
+    """A verdict with the first node, or nobody."""
     node = first(config, meaning, app)
     return Verdict(NOBODY) if node is None else Verdict(what, node)
 
 
 def verdict(config: Config, meaning: Meaning, app: int) -> Verdict:
-    """What is to become of an application: the first case that holds."""
+    """The decision for an application: the first case that holds."""
     origin = holder(meaning, app)
     if origin is None:
         return to_first(START, config, meaning, app)
@@ -109,12 +109,12 @@ def verdict(config: Config, meaning: Meaning, app: int) -> Verdict:
 
 
 def candidate(config: Config, meaning: Meaning, app: int) -> int | None:
-    """The node that is to claim an application."""
+    """The node that should claim an application."""
     found = verdict(config, meaning, app)
     return found.node if found.what in (START, FAILOVER, MOVE, TAKEOVER) else None
 
 
 def lost_claim(meaning: Meaning, app: int) -> Claim | None:
-    """The greatest claim where its incarnation isn't live."""
+    """The greatest claim if its incarnation isn't live."""
     claim = meaning.claims.get(app)
     return claim if claim is not None and meaning.live(claim.node) != claim.inc else None

@@ -1,7 +1,7 @@
-"""The processes that a script starts. A run of the script that is ended ends all that it started, and leaves nothing behind.
+"""The processes that a script starts. When a run of the script is ended, it ends all of them and leaves nothing.
 
-Ctrl-C, SIGTERM and a terminal that is closed end a run. The work of the script runs in a thread beside the main one, which only waits and answers signals.
-So no signal comes amid the start of a process.
+Ctrl-C, SIGTERM and a closed terminal end a run. The script's work runs in a second thread, while the main one only
+waits and handles signals, so no signal interrupts the start of a process.
 """
 
 from __future__ import annotations
@@ -21,9 +21,9 @@ from types import FrameType
 from typing import NoReturn, Union
 
 Word = Union[str, Path]
-# What runs now. Each begins a session, in which all stand that it starts.
+# The running processes. Each leads a session, which contains everything that it starts.
 RUNNING: set[subprocess.Popen[bytes]] = set()
-# The sessions that are asked to end before they are killed, and how many seconds they have for it.
+# The sessions that are asked to end before they are killed, and the seconds that they have for it.
 ASKED: set[int] = set()
 MOST_SECONDS = 10
 LOCK = threading.Lock()
@@ -32,12 +32,12 @@ NO_END = -1
 
 
 class Ended(Exception):
-    """This run is ended before its work is done."""
+    """The run was ended before its work was done."""
 
 
 @dataclass(frozen=True)
 class Exit:
-    """What a process printed, and its status: NO_END where it took longer than it may."""
+    """A process's output and its status: NO_END if it exceeded its time."""
 
     status: int
     output: bytes
@@ -54,8 +54,8 @@ def run(
     is_asked: bool = False,
     seconds: float | None = None,
 ) -> Exit:
-    """Runs a command to its end. Its errors are part of its output where they are joined. A command that leaves something behind
-    when it is killed, as memory that it shares, is asked to end first."""
+    """Runs a command to its end. If joined, its errors are part of its output. A command that would leave something if
+    killed, such as shared memory, is asked to end first."""
     started = start(words, folder, variables, is_joined, is_asked)
     try:
         output, errors = started.communicate(source, timeout=seconds)
@@ -76,7 +76,7 @@ def run(
 def start(
     words: Sequence[Word], folder: Path | None, variables: Mapping[str, str] | None, is_joined: bool, is_asked: bool
 ) -> subprocess.Popen[bytes]:
-    """Starts a command, unless this run is ended."""
+    """Starts a command, unless this run was ended."""
     errors = subprocess.STDOUT if is_joined else subprocess.PIPE
     with LOCK:
         if ENDED.is_set():
@@ -105,7 +105,7 @@ def living(sessions: Collection[int]) -> Iterator[int]:
 
 
 def kill(sessions: Collection[int]) -> None:
-    """Kills all processes of these sessions, also those that are started meanwhile."""
+    """Kills all processes of these sessions, including those that they start meanwhile."""
     while found := list(living(sessions)):
         for process in found:
             with contextlib.suppress(ProcessLookupError):
@@ -123,7 +123,7 @@ def ask(sessions: Collection[int]) -> None:
 
 
 def end(number: int, _frame: FrameType | None) -> NoReturn:
-    """Ends all that runs, and then this run."""
+    """Ends all running processes, and then this run."""
     with LOCK:
         ENDED.set()
         sessions = {started.pid for started in RUNNING}
@@ -134,14 +134,14 @@ def end(number: int, _frame: FrameType | None) -> NoReturn:
 
 
 def handle_signals(handler: Callable[[int, FrameType | None], object]) -> None:
-    """Has a function answer the signals that ask a run to end. `nohup` has one of them ignored, and that stays."""
+    """Sets a handler for the signals that ask a run to end. One that `nohup` has ignored stays ignored."""
     for number in (signal.SIGHUP, signal.SIGINT, signal.SIGTERM):
         if number != signal.SIGHUP or signal.getsignal(number) != signal.SIG_IGN:
             signal.signal(number, handler)
 
 
 def work_until_ended(work: Callable[[], int]) -> int:
-    """Does the work of a script, and gives its status. A signal ends what the work started, and the work."""
+    """Does a script's work and returns its status. A signal ends the work and all that it started."""
     handle_signals(end)
     with ThreadPoolExecutor(1) as pool:
         return pool.submit(work).result()

@@ -1,4 +1,4 @@
-"""Which command runs the proved program: `./distac --which` says which program is proved."""
+"""Finds out which command runs the proved program, from `./distac --which`."""
 
 from __future__ import annotations
 
@@ -9,7 +9,7 @@ LAUNCHER = Path(__file__).resolve().parent.parent / "distac"
 
 
 def is_proved(command: list[str]) -> bool:
-    """Whether this command runs the proved program, and no source is newer. Of another program nothing is known."""
+    """Whether this command runs the proved program, with no newer source. Unknown programs count as not proved."""
     asked = subprocess.run([str(LAUNCHER), "--which"], stdout=subprocess.PIPE, text=True, check=False)
     state, _, path = asked.stdout.strip().partition(": ")
     ways = {(Path(path).resolve(),), (LAUNCHER,), (LAUNCHER, "--proved")}

@@ -1,17 +1,19 @@
-"""What has to hold of a run of `distac live` whose answers hang on the order of the threads.
+"""Properties of every run of `distac live` whose answers depend on the order of the threads.
 
 - It ends with status 0.
-- Its lines are those that the script asks for: each phase, each answer by node, caller and script, each feed, and each page.
-- Each answer is `ok`, `fresh`, or a refusal that its line can meet, and never `stale`. If a line is refused in any order, then it
-  is refused for the same in each.
-- Some order of a node's callers explains their answers and keeps the order of each caller. By it the node was on or off as the
-  answers say, and a tick was refused for its moment exactly if that went back. Each phase begins with what the last one left.
-- In the end a node is on or off as such an order leaves it, and its incarnation counts the boots that weren't refused.
-- All running nodes have the same page, and if no node went down then they have heard of everything that was issued.
-- `close ok` and `weave ok` stand last.
+- Its lines are those that the script requires: each phase, each answer by node, caller and script, each feed, and each
+  page.
+- Each answer is `ok`, `fresh`, or a possible refusal of its line, and never `stale`. A line that is refused in any
+  order is refused for the same reason in each.
+- Some order of a node's callers explains their answers and preserves the order of each caller. In it the node was on or
+  off as the answers say, and a tick was refused for its moment exactly if that went back. Each phase begins with the
+  result of the previous one.
+- At the end a node is on or off as such an order leaves it, and its incarnation counts the boots that weren't refused.
+- All running nodes have the same page, and if no node went down, they have heard all operations.
+- `close ok` and `weave ok` are the last lines.
 
-In a script that doesn't end with two phases in which nobody asks for anything, not all may have been heard in the end. Of such a
-script each page is looked at alone, and no two are compared.
+A script that doesn't end with two phases without lines may leave operations unheard at the end. Its pages are checked
+alone and not compared.
 """
 
 from __future__ import annotations
@@ -29,24 +31,24 @@ from simulator import COMMANDS, HOW_NAMES, read_input
 from world import REFUSALS
 
 OK, FRESH = b"ok", b"fresh"
-# Where a line has the node that it is about, and where the application.
+# The position in a line of the node that it is about, and of the application.
 ABOUT = {b"permit": 2, b"start": 2, b"stop": 2, b"drain": 1, b"down": 1, b"takeover": 0}
 APP = {b"permit": 1, b"start": 1, b"stop": 1, b"takeover": 1}
 VERDICTS = [word.encode() for word in (START, FAILOVER, MOVE, TAKEOVER, KEPT, HALTED)]
 HEARSAY = {b"stop": ("NotStarted",), b"takeover": ("NotEligible", "NotRunning", "AlreadyHolder", "LowerPriority")}
 
-# Whether a node runs, and its last moment if it does.
+# Whether a node runs, and its last moment if so.
 Moment = Tuple[bool, int]
 OFF: Moment = (False, 0)
 Row = List[Tuple[Asked, bytes]]
 
 
 class Broken(Exception):
-    """Something doesn't hold of a run."""
+    """A property that a run violates."""
 
 
 def demand(holds: bool, why: str) -> None:
-    """Says so if something doesn't hold."""
+    """Raises unless a property holds."""
     if not holds:
         raise Broken(why)
 
@@ -55,12 +57,12 @@ def demand(holds: bool, why: str) -> None:
 
 
 def refusal(name: str) -> bytes:
-    """The answer that refuses for this cause."""
+    """The answer with this cause of refusal."""
     return f"refused {REFUSALS.index(name) + 1} {name}".encode()
 
 
 def sure_refusal(config: Config, asked: Asked) -> str | None:
-    """Why a line is refused whatever its node has heard, if it is. The node is on and not declared down."""
+    """The refusal of a line whatever its node has heard, if there is one. The node is on and not declared down."""
     if asked.word not in ABOUT:
         return None
     about = int(asked.values[ABOUT[asked.word]])
@@ -75,7 +77,8 @@ def sure_refusal(config: Config, asked: Asked) -> str | None:
 
 
 def is_by_hearsay(asked: Asked, answer: bytes) -> bool:
-    """Whether a line may be answered so for what its node has heard. Of itself a node that isn't declared down has heard."""
+    """Whether what a node has heard can explain the answer to a line. A node that isn't declared down has heard of
+    itself."""
     names = HEARSAY.get(asked.word, ())
     if asked.values[ABOUT[asked.word]] != asked.node:
         names += ("NotLive",)
@@ -83,7 +86,7 @@ def is_by_hearsay(asked: Asked, answer: bytes) -> bool:
 
 
 def after_tick(config: Config, asked: Asked, answer: bytes, moment: Moment) -> Iterator[Moment]:
-    """What a node that is on may be after a tick that was answered so."""
+    """The possible states of a node after a tick with this answer, if it was on."""
     now = int(asked.values[1])
     if now < moment[1]:
         yield from [moment] if answer == refusal("MomentBack") else []
@@ -95,7 +98,7 @@ def after_tick(config: Config, asked: Asked, answer: bytes, moment: Moment) -> I
 
 
 def after(config: Config, asked: Asked, answer: bytes, moment: Moment) -> Iterator[Moment]:
-    """What a node may be after a line that was answered so, or nothing if it couldn't be answered so then."""
+    """The possible states of a node after a line with this answer, or none if it can't have it."""
     is_on = moment[0]
     refused = "AlreadyOn" if asked.word == b"boot" and is_on else sure_refusal(config, asked)
     if asked.word == READ:
@@ -118,12 +121,12 @@ def after(config: Config, asked: Asked, answer: bytes, moment: Moment) -> Iterat
 
 # Orders
 
-# How many lines of each caller were answered.
+# The number of answered lines of each caller.
 Places = Tuple[int, ...]
 
 
 def steps(config: Config, rows: list[Row], places: Places, moments: set[Moment]) -> Iterator[tuple[Places, set[Moment]]]:
-    """Where one more line leads to, of any caller."""
+    """The results of one more line, of any caller."""
     for at, row in enumerate(rows):
         if places[at] < len(row):
             found = {later for moment in moments for later in after(config, *row[places[at]], moment)}
@@ -131,7 +134,8 @@ def steps(config: Config, rows: list[Row], places: Places, moments: set[Moment])
 
 
 def after_all(config: Config, rows: list[Row], moments: set[Moment]) -> set[Moment]:
-    """What a node may be after its callers' lines, in any order that explains the answers and keeps that of each caller."""
+    """The possible states of a node after its callers' lines, in any order that explains the answers and preserves each
+    caller's."""
     level: dict[Places, set[Moment]] = {(0,) * len(rows): moments}
     for _ in range(sum(map(len, rows))):
         following: defaultdict[Places, set[Moment]] = defaultdict(set)
@@ -146,12 +150,12 @@ def after_all(config: Config, rows: list[Row], moments: set[Moment]) -> set[Mome
 
 
 def one_of(names: list[bytes]) -> bytes:
-    """What matches any of these texts."""
+    """A pattern for any of these texts."""
     return b"(?:%s)" % b"|".join(map(re.escape, names))
 
 
 def shared_pattern(config: Config) -> bytes:
-    """What matches a page behind its first line, with the numbers of operations heard and known."""
+    """A pattern for a page after its first line, with the numbers of operations heard and known."""
     names = [spelled(name) for name in config.nodes]
     name, number = one_of(names), rb"[1-9]\d*"
     how = rb"(?:%s|(?:%s|%s) from %s)" % (*HOW_NAMES.values(), name)
@@ -168,7 +172,7 @@ def shared_pattern(config: Config) -> bytes:
 
 @dataclass
 class Page:
-    """A page in the end: the node's incarnation if it runs, what is the same on all pages, and how much it heard."""
+    """A final page: the node's incarnation if it runs, the part shared by all pages, and how much it heard."""
 
     inc: int | None
     shared: bytes = b""
@@ -181,7 +185,7 @@ class Page:
 
 @dataclass
 class Checked:
-    """What was printed and isn't checked yet, and what was seen of the nodes so far."""
+    """The output not checked yet, and the nodes' states so far."""
 
     config: Config
     rest: bytes
@@ -193,7 +197,7 @@ class Checked:
     has_loss: bool = False
 
     def take(self, pattern: bytes, what: str) -> re.Match[bytes]:
-        """Takes what matches a pattern off what was printed."""
+        """Consumes a match of a pattern from the output."""
         match = re.match(pattern, self.rest)
         if match is None:
             raise Broken(f"{what} was to be printed at {self.rest[:80]!r}")
@@ -201,7 +205,7 @@ class Checked:
         return match
 
     def phase(self, number: int, phase: Phase, run: Run) -> None:
-        """Checks what is printed for a phase."""
+        """Checks the output of a phase."""
         self.take(rb"phase %d\n" % number, f"phase {number}")
         rows: defaultdict[tuple[int, int], Row] = defaultdict(list)
         for asked in sorted(phase.asked, key=lambda it: (it.node, it.caller)):
@@ -216,7 +220,7 @@ class Checked:
             self.take(re.escape(run.fed(data)) + b"\n", f"what feed {data.hex()} answers")
 
     def note(self, asked: Asked, answer: bytes) -> None:
-        """Notes what a line did."""
+        """Notes the effect of a line."""
         if answer != OK:
             return
         self.boots[asked.node] += asked.word == b"boot"
@@ -227,7 +231,7 @@ class Checked:
             self.declared.add(int(asked.values[1]))
 
     def page(self, node: int) -> Page:
-        """Takes a node's page, and checks it alone."""
+        """Consumes a node's page, and checks it alone."""
         name = re.escape(spelled(self.config.nodes[node]))
         head = self.take(rb"node %s (off|[1-9]\d*)\n" % name, f"the header of {name!r}")[1]
         is_off = head == b"off"
@@ -245,7 +249,7 @@ class Checked:
             self.compare(pages)
 
     def compare(self, pages: list[Page]) -> None:
-        """Checks the pages beside each other."""
+        """Compares the pages."""
         running = [page for page in pages if page.inc is not None]
         demand(len({page.shared for page in running}) <= 1, "running nodes have different pages")
         for page in running[:1]:
@@ -260,7 +264,7 @@ class Checked:
         demand(self.has_loss or page.heard >= self.issued, f"{self.issued} operations at least were issued")
 
     def life(self, node: int, page: Page, shared: bytes) -> None:
-        """Checks what all pages say of a node's life: a node that runs is up, unless another one said otherwise."""
+        """Checks a node's life on all pages: a running node is up, unless another one declared it down."""
         name = spelled(self.config.nodes[node])
         found = re.search(rb"^node %s (\w+) ?(\d*)" % re.escape(name), shared, re.MULTILINE)
         demand(found is not None and int(found[2] or 0) <= self.boots[node], f"{name!r} booted {self.boots[node]} times")
@@ -270,7 +274,7 @@ class Checked:
 
 
 def fault_of_run(source: bytes, output: bytes, status: int) -> str | None:
-    """What doesn't hold of a run, if anything."""
+    """The violation of a run, if there is one."""
     config, lines = read_input(source, LiveReader)
     checked = Checked(config, output, [{OFF} for _ in config.nodes])
     try:

@@ -1,28 +1,29 @@
 #!/usr/bin/env python3
-"""Random inputs of `distac live` whose output doesn't hang on the order of the threads, and faults of live scripts.
+"""Random inputs of `distac live` whose output doesn't depend on the order of the threads, and faults of live scripts.
 
-An answer is sure where it hangs on what was known when the phase began, and on what the same caller said since. So a script
-keeps these conditions:
+An answer is deterministic if it depends only on what was known when the phase began, and on earlier lines of its
+caller. So a script satisfies these conditions:
 
-- At the beginning of a phase all running nodes know the same, and may be asked. After one kind of phase they may not: the last
-  running node booted again in it, so others may have shipped to its earlier incarnation. Then comes a phase in which nodes
-  that run are only read.
-- What a line changes, no other caller looks at or changes in its phase. Such things are whether a node runs, its life, its
-  moments, whether it is drained, the permissions and the start wishes of an application at a node, and the claims of an
+- At the beginning of a phase all running nodes know the same, and can get lines. There is one exception: if the last
+  running node booted again in a phase, others may have shipped to its earlier incarnation. Then a phase follows in
+  which running nodes are only read.
+- No other caller reads or changes the things that a line changes in its phase: whether a node runs, its life, its
+  moments, whether it is drained, the permissions and start wishes of an application at a node, and the claims of an
   application.
-- A node that boots in a phase is asked there about itself alone. In a phase one node at most goes down and boots again.
-- A node goes down in a phase only before it has issued anything there, by a crash or since it gives up. Where nodes boot, some
-  node runs all the time, unless none ran at first. Else what was known might be lost.
-- In a phase with ticks one caller at most issues anything, and if lives change then no other node ticks. Every other node that
-  ticks is the candidate for no application, whatever part it has heard of what that caller issued.
+- A node that boots in a phase only gets lines about itself there. At most one node goes down and boots again in a
+  phase.
+- A node goes down in a phase only before it has issued anything there, by a crash or because it gives up. If nodes
+  boot, some node runs all the time, unless none ran at first. Otherwise known operations could be lost.
+- In a phase with ticks at most one caller issues anything, and if lives change, no other node ticks. Every other node
+  that ticks is the candidate for no application, however much it has heard of that caller's operations.
 
-Whether that is enough is tried out: `--shuffles` plays each script in many orders of its threads.
+`--shuffles` tests whether that suffices, by playing each script in many orders of its threads.
 
 Usage: python3 random_live.py SEED NUMBER
        python3 random_live.py SEED COUNT --shuffles N
 
-The first prints the input of a number. The second plays the inputs of all numbers below COUNT, each in N orders, and prints
-the first one whose output isn't always the same.
+The first form prints the input of a number. The second plays the inputs of all numbers below COUNT, each in N orders,
+and prints the first one whose output varies.
 """
 
 from __future__ import annotations
@@ -61,11 +62,11 @@ ODD_OF_KIND = {
 }
 
 
-# What may stand in a phase
+# The lines that a phase allows
 
 
 class Thing(NamedTuple):
-    """Something that lines look at and change: of a node, or of an application at a node. Claims are of no node."""
+    """Something that lines read and change: of a node, or of an application at a node. Claims belong to no node."""
 
     what: str
     node: int | None
@@ -74,7 +75,7 @@ class Thing(NamedTuple):
 
 @dataclass
 class Touch:
-    """What a line looks at, and what it changes."""
+    """The things that a line reads, and those that it changes."""
 
     reads: set[Thing] = field(default_factory=set)
     writes: set[Thing] = field(default_factory=set)
@@ -82,11 +83,11 @@ class Touch:
 
 @dataclass
 class OpenPhase:
-    """A phase that is being made: its lines by caller, its feeds, and what was done in it.
+    """A phase under construction: its lines by caller, its feeds, and their effects.
 
-    `running` has the nodes that ran at first and still run. `stages` has what is known at first, and with what the only caller
-    that issues something added: after each of its lines. A phase is closed once a node ticked that is to claim nothing. Then
-    nothing is issued in it any more.
+    `running` are the nodes that ran at first and still run. `stages` are the operations known at first, and then after
+    each line of the only caller that issues something. A phase is closed after a node that must claim nothing has
+    ticked; nothing more is issued in it.
     """
 
     stages: list[int]
@@ -116,7 +117,7 @@ class OpenPhase:
             self.writers[thing].add(who)
 
     def may_issue(self, who: Who) -> bool:
-        """Whether a caller may issue something beside the ticks that are there."""
+        """Whether a caller may issue something in addition to the ticks so far."""
         return not self.is_closed and self.claimer in (None, who)
 
     def may_claim(self, who: Who) -> bool:
@@ -128,15 +129,15 @@ class OpenPhase:
         return any(issuer == node for issuer, _ in self.issuers)
 
     def may_go(self, node: int) -> bool:
-        """Whether a node may go down: what it issued and what was known is with others too."""
+        """Whether a node may go down: others also have its operations and the known ones."""
         return not self.has_issued(node) and (not self.young or self.running != {node})
 
     def may_come(self) -> bool:
-        """Whether a node may boot: what was known at first is with one that runs all the time."""
+        """Whether a node may boot: a node that runs all the time has everything known at first."""
         return bool(self.running) or not self.crashed
 
     def lines(self, random: Random) -> list[bytes]:
-        """The lines in any order that keeps that of each caller, and that of the feeds."""
+        """The lines in an order that preserves that of each caller, and that of the feeds."""
         rows = [list(lines) for lines in (*self.said.values(), self.feeds)]
         turns = [row for row in rows for _ in row]
         random.shuffle(turns)
@@ -144,7 +145,7 @@ class OpenPhase:
 
 
 class LiveMaker:
-    """Makes a script phase by phase, with the model playing along. A line that breaks a condition is left out."""
+    """Makes a script phase by phase, with the model playing along. A line that violates a condition is left out."""
 
     def __init__(self, random: Random, config: Config) -> None:
         self.random = random
@@ -160,7 +161,7 @@ class LiveMaker:
 
     @property
     def world(self) -> World:
-        """The world as it is now."""
+        """The current world."""
         return self.run.world
 
     def on(self) -> list[int]:
@@ -174,7 +175,7 @@ class LiveMaker:
     # The conditions
 
     def touch(self, asked: Asked) -> Touch | None:
-        """What a line touches, or nothing where it may not stand in this phase."""
+        """The things that a line touches, or nothing if this phase doesn't allow it."""
         node = asked.node
         if asked.word == READ:
             return Touch()
@@ -191,14 +192,14 @@ class LiveMaker:
         return self.touch_of_boot(node) if asked.word == b"boot" else self.touch_of_command(asked)
 
     def touch_of_boot(self, node: int) -> Touch | None:
-        """What a boot touches."""
+        """The things that a boot touches."""
         is_second_restart = node in self.open.crashed and self.open.crashed & self.open.young
         if is_second_restart or not self.open.may_come():
             return None
         return Touch(set(), {Thing("on", node), Thing("life", node), Thing("moment", node)})
 
     def touch_of_command(self, asked: Asked) -> Touch | None:
-        """What a command at a running node touches."""
+        """The things that a command at a running node touches."""
         node = asked.node
         if asked.word == b"takeover":
             found = self.touch_of_takeover(int(asked.values[1]))
@@ -215,7 +216,7 @@ class LiveMaker:
         return found
 
     def touch_of_takeover(self, app: int) -> Touch:
-        """What a takeover touches beside its own node."""
+        """The things that a takeover touches, besides its own node."""
         if app == len(self.config.apps):
             return Touch()
         nodes = self.config.apps[app].nodes()
@@ -224,19 +225,19 @@ class LiveMaker:
         return Touch(of_keys | of_nodes, {Thing("claims", None, app)})
 
     def touch_of_drain(self, about: int) -> Touch:
-        """What a drain touches beside its own node."""
+        """The things that a drain touches, besides its own node."""
         if about == len(self.config.nodes):
             return Touch()
         return Touch({Thing("life", about)}, {Thing("drain", about)})
 
     def touch_of_wish(self, word: bytes, app: int, about: int) -> Touch:
-        """What a permission, a start or a stop touches beside its own node."""
+        """The things that a permission, a start or a stop touches, besides its own node."""
         if app == len(self.config.apps) or self.config.apps[app].group_of(about) is None:
             return Touch()
         return Touch({Thing("life", about)}, {Thing("permit" if word == b"permit" else "start", about, app)})
 
     def touch_of_tick(self, asked: Asked) -> Touch | None:
-        """What a tick at a running node touches."""
+        """The things that a tick at a running node touches."""
         node = asked.node
         found = Touch({Thing("life", other) for other in range(len(self.config.nodes))}, {Thing("moment", node)})
         found.reads.add(Thing("on", node))
@@ -262,7 +263,7 @@ class LiveMaker:
         return opening == "gave up"
 
     def is_idle(self, node: int) -> bool:
-        """Whether the node is to claim nothing, whatever it has heard of the only caller that issues something."""
+        """Whether the node claims nothing, whatever it has heard of the only caller that issues something."""
         states = [self.world.meaning(heard) for heard in self.open.stages]
         apps = range(len(self.config.apps))
         candidates = {placement.candidate(self.config, state, app) for state in states for app in apps}
@@ -271,7 +272,7 @@ class LiveMaker:
     # Lines
 
     def say(self, who: Who, verb: bytes, *words: bytes) -> bool:
-        """A caller of a node says something, unless a condition forbids it. Whether it does."""
+        """Adds a line of a node's caller, unless a condition forbids it, and returns whether it does."""
         node, caller = who
         line = b" ".join((b"%d" % caller, verb, self.name_of(node), *words))
         asked = asked_in(self.reader.read(line, 1))
@@ -285,14 +286,14 @@ class LiveMaker:
         return True
 
     def note_tick(self, who: Who) -> None:
-        """Notes whose ticks may claim, or that nothing is issued any more."""
+        """Notes whose ticks may claim, or that nothing more is issued."""
         if self.open.may_claim(who):
             self.open.claimer = who
         else:
             self.open.is_closed = True
 
     def play(self, who: Who, asked: Asked) -> None:
-        """Plays a line, and notes what it did."""
+        """Plays a line, and notes its effects."""
         was_on, count = self.world.is_on(asked.node), len(self.world.operations)
         self.run.answer(asked)
         if was_on and not self.world.is_on(asked.node):
@@ -305,7 +306,7 @@ class LiveMaker:
             self.open.young.add(asked.node)
 
     def end(self) -> None:
-        """Ends a phase: its lines are written, and all that was said is heard."""
+        """Ends a phase: its lines are written, and every operation is heard."""
         self.run.phase([])
         self.lines += [*self.open.lines(self.random), b"phase"]
         on = self.on()
@@ -328,12 +329,12 @@ class LiveMaker:
         return node, self.random.choice((1, 1, 1, 2, 2, 3, 4))
 
     def some_node(self) -> int:
-        """A node, most often one that runs."""
+        """A node, usually a running one."""
         on = self.on()
         return self.random.choice(on if on and self.random.random() < 0.95 else self.nodes)
 
     def pair(self) -> tuple[bytes, bytes]:
-        """An application and a node, most often of its list."""
+        """An application and a node, usually of its list."""
         roll = self.random.random()
         if roll < 0.03 or not self.apps:
             return b"zz", self.name_of(self.some_node())
@@ -344,7 +345,7 @@ class LiveMaker:
         return spelled(app.name), self.name_of(self.random.choice(listed if listed and roll < 0.95 else self.nodes))
 
     def moment(self) -> bytes:
-        """A moment, most often later than the one before."""
+        """A moment, usually later than the previous one."""
         waits = [app.timeout for app in self.config.apps if app.timeout < 10**6]
         self.now += self.random.choice((0, 0, 1, 3, 10, 999, 5000, self.random.choice(waits or [0])))
         back = self.random.choice((1, 100)) if self.random.random() < 0.04 else 0
@@ -383,7 +384,7 @@ class LiveMaker:
             self.line(self.who(node), verb)
 
     def come(self, node: int) -> None:
-        """A node boots, and most often starts what it may run."""
+        """A node boots, and usually starts all that it may run."""
         who = self.who(node)
         if not self.say(who, b"boot", self.moment()):
             return
@@ -392,7 +393,7 @@ class LiveMaker:
                 self.say(who, b"start", spelled(self.config.apps[app].name), self.name_of(node))
 
     def feed(self) -> None:
-        """The bytes of a packet, most often changed a little."""
+        """The bytes of a packet, usually with a small change."""
         data = random_packet(self.random, self.world)
         for _ in range(self.random.choice((0, 1, 1, 2))):
             data = changed_bytes(self.random, data)
@@ -408,14 +409,14 @@ class LiveMaker:
         self.end()
 
     def crowd(self) -> None:
-        """Many callers ask for something."""
+        """Many callers have lines."""
         profile = self.random.choice((CROWD, CROWD, GOING))
         for _ in range(self.random.choice((2, 5, 10, 20))):
             self.any_line(profile)
         self.end()
 
     def candidates(self) -> list[int]:
-        """The running nodes that are to claim something."""
+        """The running nodes that should claim something."""
         on = self.on()
         if not on:
             return []
@@ -424,7 +425,7 @@ class LiveMaker:
         return [node for node in on if node in found]
 
     def lone(self) -> None:
-        """One caller asks for much, most often for ticks. Other nodes only tick."""
+        """One caller has many lines, usually ticks. Other nodes only tick."""
         candidates = self.candidates()
         chosen = candidates and self.random.random() < 0.85
         who = self.who(self.random.choice(candidates) if chosen else self.some_node())
@@ -439,7 +440,8 @@ class LiveMaker:
         self.end()
 
     def loss(self) -> None:
-        """A node that has an application, most often, goes down. The others are told so and tick, or it comes back, or both."""
+        """A node goes down, usually one that runs an application. The others learn of it and tick, or it comes back, or
+        both."""
         holders = [node for node in self.on() if node in self.holders()]
         node = self.random.choice(holders) if holders and self.random.random() < 0.8 else self.some_node()
         self.line(self.who(node), "crash")
@@ -457,7 +459,7 @@ class LiveMaker:
             self.come_back(node)
 
     def drained(self) -> None:
-        """A node that has an application, most often, is drained. Others take over or tick, and it may be put back."""
+        """A node is drained, usually one that runs an application. Others take over or tick, and the drain may end."""
         holders = [node for node in self.on() if node in self.holders()]
         node = self.random.choice(holders) if holders and self.random.random() < 0.8 else self.some_node()
         self.say(self.who(self.some_node()), b"drain", self.name_of(node), b"true")
@@ -479,7 +481,7 @@ class LiveMaker:
         self.end()
 
     def come_back(self, node: int) -> None:
-        """A node comes back, and is then asked about others that it had forgotten."""
+        """A node comes back, and its next lines are about others that it had forgotten."""
         if not self.world.is_on(node):
             self.come(node)
             self.end()
@@ -488,12 +490,12 @@ class LiveMaker:
         self.end()
 
     def holders(self) -> set[int]:
-        """The nodes that have applications, by what a running node knows."""
+        """The nodes that hold applications, according to a running node."""
         states = [self.world.state(node) for node in self.on()[:1]]
         return {claim.node for state in states for claim in state.claims.values()}
 
     def rest(self) -> None:
-        """Nodes that run are only read."""
+        """Running nodes are only read."""
         for _ in range(self.random.choice((0, 1, 3))):
             self.line(self.who(self.random.choice(self.nodes)), self.random.choice(("read", "read", "tick", "start", "crash")))
         self.end()
@@ -512,7 +514,8 @@ class LiveMaker:
 
 
 def live_config(random: Random, seed: int, number: int) -> bytes:
-    """A configuration to run: one of the chosen ones, or any that is valid. Few have too many nodes, and then not very many."""
+    """A configuration to run: one of the chosen ones, or any valid one. Few have too many nodes, and then not by
+    much."""
     if random.random() < 0.7:
         return random.choice(CONFIGS)
     has_too_many = random.random() < 0.1
@@ -546,7 +549,7 @@ def odd_line(random: Random, config: Config) -> bytes:
 
 
 def with_odd_line(random: Random, lines: list[bytes], config: Config) -> list[bytes]:
-    """The lines with one more of that kind."""
+    """The lines with one more of this kind."""
     at = random.randint(0, len(lines))
     return [*lines[:at], odd_line(random, config), *lines[at:]]
 
@@ -588,13 +591,13 @@ class Paces:
         self.paces: dict[Thread, float] = {}
 
     def __call__(self, threads: list[Thread]) -> Thread:
-        """The thread that goes on."""
+        """The next thread to run."""
         weights = [self.paces.setdefault(thread, self.random.choice((0.001, 0.1, 1.0, 30.0))) for thread in threads]
         return self.random.choices(threads, weights)[0]
 
 
 def outputs(source: bytes, orders: int, seed: int) -> set[bytes]:
-    """What is printed for an input in some orders of its threads."""
+    """The outputs for an input in some orders of its threads."""
     shuffles = [run_live(source, Paces(Random(f"order {seed} {order}"))) for order in range(orders)]
     return {output for output, _ in (run_live(source), *shuffles)}
 
@@ -608,7 +611,7 @@ def show_outputs(source: bytes, found: set[bytes]) -> None:
 
 
 def play_shuffled(seed: int, count: int, orders: int) -> int:
-    """Plays many inputs in many orders each. How many don't always print the same."""
+    """Plays many inputs in many orders each, and counts those whose output varies."""
     changing = 0
     for number in range(count):
         source = random_live(seed, number)
@@ -622,7 +625,7 @@ def play_shuffled(seed: int, count: int, orders: int) -> int:
 
 
 def main() -> int:
-    """Prints an input, or plays many in any order."""
+    """Prints an input, or plays many in many orders."""
     parser = argparse.ArgumentParser(description="Random inputs of `distac live`.")
     parser.add_argument("seed", type=int)
     parser.add_argument("number", type=int, help="which input, or how many with --shuffles")

@@ -1,8 +1,8 @@
 #!/usr/bin/env python3
-"""Random inputs of `distac sim` that are long: many ticks at which nothing changes, many reboots, or maps of many keys.
+"""Random inputs of `distac sim` that are long: many ticks that change nothing, many reboots, or maps of many keys.
 
-They are made without the model, because to play such a script takes it seconds. So numbers of operations are counted here, and
-only what is never refused is given a number.
+They are made without the model, which would take seconds to play such a script. So operations are counted here, and
+only lines that are never refused are counted as operations.
 
 Usage: python3 random_long.py KIND SEED NUMBER
 
@@ -25,17 +25,17 @@ Pair = Tuple[int, int]
 
 MOST_APPS, MOST_NODES = 64, 17
 MOST_KEYS = MOST_APPS * MOST_NODES
-# Counts of keys around those at which a map gets another block, and the most.
+# Counts of keys near those at which a map gains a block, and the most.
 EDGES = (1, 2, 11, 12, 13, 22, 23, 24, 25, 46, 47, 144, 145, 276, 277, 528, 529, 1_087, 1_088)
 ORDERS = ("rising", "falling", "mixed")
-# How long applications wait for a node that is gone. Those that wait equally long are claimed at one tick.
+# Applications' waits for a lost node. Those with equal waits are claimed at one tick.
 WAITS = ((0,), (5,), (40,), (5, 5, 5, 50), (0, 7, 100))
 WAITING = b",{sync_nodes_%s,[n00@h,n01@h]},{sync_nodes_timeout,30}"
 GATES = (b"", b"", WAITING % b"optional", WAITING % b"mandatory")
 
 
 def names(letter: bytes, count: int, end: bytes = b"") -> list[bytes]:
-    """So many names, in order."""
+    """This many names, in order."""
     return [b"%s%02d%s" % (letter, number, end) for number in range(count)]
 
 
@@ -46,7 +46,7 @@ def in_order(random: Random, pairs: Sequence[Pair]) -> list[Pair]:
 
 
 class LongMaker:
-    """Makes a script of nodes n00@h, n01@h .. and applications a00, a01 .. of which nobody has to know more."""
+    """Makes a script of nodes n00@h, n01@h .. and applications a00, a01 .., whose names don't matter."""
 
     def __init__(self, random: Random, nodes: int, apps: int) -> None:
         self.random = random
@@ -58,19 +58,19 @@ class LongMaker:
         self.now = 0
 
     def config(self, lists: Sequence[bytes], gate: bytes = b"") -> bytes:
-        """A configuration with a list of nodes, and maybe a wait before it, for each application."""
+        """A configuration with a list of nodes for each application, maybe with a wait."""
         entries = b",".join(b"{%s,%s}" % it for it in zip(self.apps, lists))
         return b"[{kernel,[{distributed,[%s]}%s]}].\n" % (entries, gate)
 
     def some_list(self, waits: Sequence[int], least: int) -> bytes:
-        """A wait, and so many of the nodes or more: some by themselves, and the others of one group."""
+        """A wait, and at least so many nodes: some alone, the others in one group."""
         chosen = self.random.sample(self.nodes, self.random.randint(least, len(self.nodes)))
         alone = self.random.randint(0, len(chosen) - 1)
         groups = [*chosen[:alone], b"{%s}" % b",".join(chosen[alone:])]
         return b"%d,[%s]" % (self.random.choice(waits), b",".join(groups))
 
     def add(self, *words: bytes, issues: bool = False) -> None:
-        """Adds a line, which may issue an operation for sure."""
+        """Adds a line, which may be known to issue an operation."""
         self.lines.append(b" ".join(words))
         self.operations += issues
 
@@ -85,17 +85,17 @@ class LongMaker:
         self.off.add(node)
 
     def running(self) -> list[bytes]:
-        """The nodes that run, of which there is one at least."""
+        """The running nodes, of which there is at least one."""
         return [node for node in self.nodes if node not in self.off]
 
     def boot_all(self) -> None:
-        """All nodes come up and know it."""
+        """All nodes come up and share it."""
         for node in self.nodes:
             self.boot(node)
         self.add(b"share")
 
     def show(self) -> None:
-        """Pages and states of all nodes, or of two where there are many."""
+        """Pages and states of all nodes, or of two if there are many."""
         for node in self.nodes if len(self.nodes) < 6 else self.nodes[:2]:
             self.add(b"page", node)
             self.add(b"state", node)
@@ -104,7 +104,7 @@ class LongMaker:
     # Ticks at which nothing changes
 
     def open(self) -> None:
-        """All nodes start what they may, and claim it."""
+        """All nodes start and claim all that they may."""
         self.boot_all()
         for node in self.nodes:
             for app in self.apps:
@@ -116,7 +116,7 @@ class LongMaker:
             self.add(b"share")
 
     def happen(self) -> None:
-        """Something after which applications may be placed anew, now or after their waits."""
+        """An event after which applications may be placed anew, now or after their waits."""
         one, other = self.random.choice(self.running()), self.random.choice(self.nodes)
         truth = self.random.choice((b"true", b"false"))
         roll = self.random.random()
@@ -146,7 +146,7 @@ class LongMaker:
 
 
 def still(random: Random) -> bytes:
-    """Something happens, and then many ticks find all as it was. Waits end amid them, those of several applications at once."""
+    """An event, and then many ticks that change nothing. Waits end among them, some of several applications at once."""
     maker = LongMaker(random, random.randint(2, 5), random.randint(2, 12))
     waits = random.choice(WAITS)
     text = maker.config([maker.some_list(waits, 2) for _ in maker.apps], random.choice(GATES))
@@ -165,7 +165,7 @@ def still(random: Random) -> bytes:
 
 
 def reboot(maker: LongMaker, node: bytes) -> None:
-    """A node is booted again, and the first one hears of it most often."""
+    """A node boots again, and usually the first one hears of it."""
     first = maker.nodes[0]
     maker.now += maker.random.choice((0, 1, 5))
     maker.crash(node)
@@ -181,7 +181,7 @@ def reboot(maker: LongMaker, node: bytes) -> None:
 
 
 def reboots(random: Random) -> bytes:
-    """One node hears of hundreds or thousands of incarnations of the others, and now and then all share it."""
+    """One node hears of hundreds or thousands of incarnations of the others, and sometimes all share it."""
     maker = LongMaker(random, random.randint(2, 4), random.randint(1, 3))
     text = maker.config([maker.some_list((0, 5), len(maker.nodes)) for _ in maker.apps])
     maker.boot_all()
@@ -201,7 +201,7 @@ def reboots(random: Random) -> bytes:
 
 
 class Keys:
-    """Permissions or start wishes of many keys, given at one node or at two that hear of each other then."""
+    """Permissions or start wishes of many keys, given at one node or at two that then exchange them."""
 
     def __init__(self, random: Random, count: int) -> None:
         self.random = random
@@ -221,7 +221,7 @@ class Keys:
             self.maker.add(verb, *words, *truth, issues=True)
 
     def boot_again(self) -> None:
-        """All nodes but those that give are booted again, so that their keys are of another incarnation."""
+        """All nodes except those that give boot again, so that their keys are of another incarnation."""
         for node in self.maker.nodes[len(self.givers) :]:
             self.maker.crash(node)
             self.maker.boot(node)
@@ -229,7 +229,7 @@ class Keys:
                 self.maker.add(b"hand", giver, b"%d" % self.maker.operations)
 
     def play(self) -> None:
-        """Keys come in one order, are given anew or taken away in another one, and are shared and shown."""
+        """Keys arrive in one order, are given again or removed in another one, and are shared and shown."""
         self.maker.boot_all()
         self.give(self.verb, in_order(self.random, self.pairs))
         if self.is_again:
@@ -244,7 +244,7 @@ class Keys:
 
 
 def forged_keys(random: Random, text: bytes, pairs: Sequence[Pair]) -> bytes:
-    """A message whose state has a permission or a start wish at each pair, in the order in which they stand."""
+    """A message whose state has a permission or a start wish at each pair, in this order."""
     writer, sender = Writer(SECOND), Origin(0, 1)
     head = Message(WHOLE, sender, 1, 0, 1, None, None)
     known = writer.context({sender: (len(pairs), [])})
@@ -256,7 +256,7 @@ def forged_keys(random: Random, text: bytes, pairs: Sequence[Pair]) -> bytes:
 
 
 def swapped(random: Random, pairs: Sequence[Pair]) -> list[Pair]:
-    """The pairs in order, or with two of them swapped, or one of them twice."""
+    """The pairs in order, or with two of them swapped, or one of them repeated."""
     found = sorted(pairs)
     at, to = random.randrange(len(found)), random.randrange(len(found))
     roll = random.random()
@@ -282,7 +282,7 @@ MAKERS: dict[str, Callable[[Random], bytes]] = {"still": still, "reboots": reboo
 
 
 def random_long(kind: str, seed: int, number: int) -> bytes:
-    """The input of a kind, of a number under a seed."""
+    """The input of a kind and a number under a seed."""
     return MAKERS[kind](Random(f"{kind} {seed} {number}"))
 
 

@@ -1,4 +1,4 @@
-"""Random packets as bytes of both versions: those of a world, forged ones, and ones with a change."""
+"""Random packets as bytes of both versions: real ones, forged ones, and changed ones."""
 
 from __future__ import annotations
 
@@ -18,18 +18,18 @@ SIZES = (1, 5, 7, 8, 9, 11, 13, 14, 17, 18)
 
 
 def some_inc(random: Random) -> int:
-    """An incarnation, now and then one at an edge of what a version has."""
+    """An incarnation, sometimes at a limit of a version."""
     edges = (0, 2**32 - 1, 2**32, MOST_NUMBER, MOST_NUMBER + 1)
     return random.choice(edges) if random.random() < 0.06 else random.choice((1, 1, 1, 2))
 
 
 def some_node(random: Random, world: World) -> int:
-    """A node, now and then the number just past them."""
+    """A node, sometimes the number just past the last one."""
     return len(world.nodes) if random.random() < 0.06 else random.randrange(len(world.nodes))
 
 
 def some_dot(random: Random, world: World) -> Dot:
-    """A dot, of an operation or made."""
+    """A dot, real or made up."""
     if world.operations and random.random() < 0.6:
         return random.choice(world.operations).dot
     counter = random.choice((1, 1, 2, 3, 7, MOST_NUMBER, MOST_NUMBER + 1, 0))
@@ -48,7 +48,7 @@ def some_origin(random: Random, world: World) -> Origin:
 
 
 def some_over(random: Random, world: World) -> tuple[Dot, ...]:
-    """Dots that are replaced, most often in order."""
+    """Replaced dots, usually in order."""
     if random.random() < 0.03:
         return tuple(Dot(0, 1, n) for n in range(2, random.choice((1025, 1026, 1027)) + 1))
     dots = [some_dot(random, world) for _ in range(random.choice((0, 0, 1, 2, 3)))]
@@ -56,7 +56,7 @@ def some_over(random: Random, world: World) -> tuple[Dot, ...]:
 
 
 def some_act(random: Random, world: World) -> Act:
-    """Anything that an operation may say, and more."""
+    """Any operation's effect, and impossible ones."""
     makers: tuple[Callable[[], Act], ...] = (
         Up,
         lambda: Down(some_node(random, world), some_inc(random)),
@@ -95,7 +95,7 @@ def some_state(random: Random, world: World) -> Meaning:
 
 
 def shuffled(random: Random, items: list[bytes]) -> list[bytes]:
-    """The items, at times with one moved or doubled."""
+    """The items, sometimes with one moved or doubled."""
     if items and random.random() < 0.3:
         items.insert(random.randrange(len(items) + 1), random.choice(items))
     if len(items) > 1 and random.random() < 0.2:
@@ -104,7 +104,7 @@ def shuffled(random: Random, items: list[bytes]) -> list[bytes]:
 
 
 def forged_store(random: Random, writer: Writer, dots: list[Dot], abouts: list[bytes], values: list[bytes]) -> bytes:
-    """The bytes of what stands at some keys or incarnations, each followed by one of some values."""
+    """The bytes of a store: keys or incarnations, each followed by one of some values."""
     stores = []
     for about in abouts:
         standing = [writer.dot(dot) + random.choice(values) for dot in sorted(random.sample(dots, min(2, len(dots))))]
@@ -115,9 +115,9 @@ def forged_store(random: Random, writer: Writer, dots: list[Dot], abouts: list[b
 
 
 def forged_parts(random: Random, world: World, writer: Writer) -> bytes:
-    """The bytes of a state's parts, each item of which is most likely in order, but maybe not in place.
+    """The bytes of a state's parts, whose items are usually in order, but maybe not in place.
 
-    Most often one part has items and the others have none, so that the last part is reached too.
+    Usually only one part has items, so that the last part is also reached.
     """
     chosen = [number for number in range(len(world.operations)) if random.random() < 0.8]
     state = world.meaning(sum(1 << number for number in chosen))
@@ -151,7 +151,7 @@ def forged_packet(random: Random, world: World, version: int) -> bytes:
 
 
 def continued(random: Random, data: bytes) -> bytes:
-    """The bytes with the last dot of an unbroken row written as a further one, if there is such a row."""
+    """The bytes with an unbroken row's last dot written as a further one, if there is such a row."""
     places = range(len(data) - 12)
     rows = [at for at in places if data[at : at + 7] == bytes(7) and data[at + 7] > 0 and data[at + 8 : at + 12] == bytes(4)]
     if not rows:
@@ -172,7 +172,7 @@ def some_message(random: Random, world: World) -> Message:
 
 
 def some_packet(random: Random, world: World) -> Packet:
-    """A packet of a world, or one that is made."""
+    """A real packet, or a made-up one."""
     roll = random.random()
     if world.messages and roll < 0.4:
         return world.message(random.randint(1, len(world.messages)))
@@ -182,7 +182,7 @@ def some_packet(random: Random, world: World) -> Packet:
 
 
 def random_packet(random: Random, world: World) -> bytes:
-    """The bytes of a packet, of the second version most often."""
+    """The bytes of a packet, usually of the second version."""
     version = FIRST if random.random() < 0.3 else SECOND
     if random.random() < 0.25:
         return forged_packet(random, world, version)
@@ -195,7 +195,7 @@ def random_packet(random: Random, world: World) -> bytes:
 
 
 def changed_bytes(random: Random, data: bytes) -> bytes:
-    """Some bytes with a change: a byte, the version, a number at its edge, two parts swapped, or an end cut off."""
+    """Some bytes with a change: a byte, the version, a number at its limit, two parts swapped, or an end cut off."""
     at = random.randrange(12, len(data)) if len(data) > 13 and random.random() < 0.9 else random.randrange(len(data) + 1)
     roll = random.randrange(9)
     if roll == 8:

@@ -1,10 +1,10 @@
 #!/usr/bin/env python3
-"""Random inputs of `distac live` whose answers hang on the order of the threads.
+"""Random inputs of `distac live` whose answers depend on the order of the threads.
 
-Several callers of one node and of several nodes give commands in one phase, and boot and crash the same nodes. What such a run
-prints isn't sure; racing.py says what has to hold of it. Each script ends with two phases in which nobody asks for anything. In
-the first of them each hears of the last boots, and in the second what was bound to an earlier incarnation before. So in the end
-each running node has heard all that any of them knows.
+Several callers of one node and of several nodes give commands in one phase, and boot and crash the same nodes. The
+output of such a run isn't deterministic; racing.py lists the properties that it must have. Each script ends with two
+phases without lines. In the first one each node hears of the last boots; in the second one it also hears messages that
+were bound to an earlier incarnation before. So at the end each running node has heard all that any of them knows.
 
 Usage: python3 random_racing.py SEED NUMBER
 
@@ -31,7 +31,7 @@ PROFILES = (CROWD, CROWD, CLAIMS, CLAIMS, GOING)
 
 
 class RacingMaker:
-    """Makes a script phase by phase. No line is left out for what another one does."""
+    """Makes a script phase by phase. No line is left out because of another."""
 
     def __init__(self, random: Random, config: Config) -> None:
         self.random = random
@@ -42,7 +42,7 @@ class RacingMaker:
         self.lines: list[bytes] = []
 
     def moment(self) -> bytes:
-        """A moment near the last one, so that what one caller says may come too late behind another one."""
+        """A moment near the last one, so that one caller's line can come too late after another's."""
         self.now += self.random.choice((0, 0, 1, 10, 1000, 5000))
         return b"%d" % max(0, self.now - self.random.choice((0, 0, 0, 1, 10, 1000)))
 
@@ -51,11 +51,11 @@ class RacingMaker:
         return spelled(self.config.nodes[node])
 
     def some_node(self) -> bytes:
-        """A node's name. Few are of none."""
+        """A node's name, rarely an unknown one."""
         return b"zz@h" if self.random.random() < 0.02 else self.name_of(self.random.choice(self.nodes))
 
     def pair(self) -> tuple[bytes, bytes]:
-        """An application and a node, most often of its list."""
+        """An application and a node, usually of its list."""
         if not self.apps or self.random.random() < 0.02:
             return b"zz", self.some_node()
         app = self.random.choice(self.apps)
@@ -64,7 +64,7 @@ class RacingMaker:
         return spelled(app.name), self.name_of(node)
 
     def words(self, verb: str) -> tuple[bytes, ...]:
-        """What stands behind the node in a line of a kind."""
+        """The words after the node in a line of a kind."""
         truth = self.random.choice((b"true", b"false"))
         if verb == "permit":
             return (*self.pair(), truth)
@@ -83,12 +83,12 @@ class RacingMaker:
         return b" ".join((b"%d" % caller, verb.encode(), self.name_of(node), *self.words(verb)))
 
     def feed(self) -> bytes:
-        """The bytes of a packet, most often changed."""
+        """The bytes of a packet, usually changed."""
         data = changed_bytes(self.random, random_packet(self.random, World(self.config)))
         return b"feed " + (data or b"D").hex().encode()
 
     def arrive(self) -> None:
-        """All nodes boot, most often with all that they may run."""
+        """All nodes boot, usually with starts of all that they may run."""
         for node in self.nodes:
             self.lines.append(self.line(1, node, "boot"))
             for app in self.apps:
@@ -97,7 +97,7 @@ class RacingMaker:
                     self.lines.append(b"%d start %s %s %s" % (who, self.name_of(node), spelled(app.name), self.name_of(node)))
 
     def race(self) -> None:
-        """Some callers of each node ask for something, all at once."""
+        """Some callers of each node have lines at once."""
         profile = self.random.choice(PROFILES)
         verbs, weights = list(profile), list(profile.values())
         most = self.random.choice((1, 2, MOST_LINES))
@@ -113,7 +113,7 @@ class RacingMaker:
             self.lines.append(self.feed())
 
     def story(self) -> None:
-        """Some phases that race, and two in which nobody asks for anything."""
+        """Some phases that race, and two without lines."""
         self.arrive()
         for _ in range(self.random.choice((1, 2, 4, 8))):
             self.lines.append(b"phase")

@@ -35,7 +35,7 @@ CONFIGS = (
 
 
 def weighted(text: str) -> dict[str, int]:
-    """Verbs with their weights, as a text has them one after the other."""
+    """Verbs with their weights, from a text that lists them in turn."""
     words = text.split()
     return {verb: int(weight) for verb, weight in zip(words[::2], words[1::2])}
 
@@ -74,7 +74,7 @@ class ScriptMaker:
 
     @property
     def world(self) -> World:
-        """The world as it is now."""
+        """The current world."""
         return self.player.world
 
     def add(self, *words: bytes) -> None:
@@ -86,7 +86,7 @@ class ScriptMaker:
     # Words
 
     def name_of(self, node: int) -> bytes:
-        """A node's name as a word. A name with a space can't be one, and then another node's stands in its place."""
+        """A node's name as a word. A name with a space can't be one and is replaced by another node's."""
         names = [name for name in (self.config.nodes[node], *self.config.nodes) if b" " not in name]
         return spelled(names[0])
 
@@ -95,14 +95,14 @@ class ScriptMaker:
         return self.name_of(self.random.randrange(len(self.config.nodes)))
 
     def on(self) -> bytes:
-        """A node that runs, most often."""
+        """A node, usually a running one."""
         running = [node for node in range(len(self.config.nodes)) if self.world.is_on(node)]
         if running and self.random.random() < 0.93:
             return self.name_of(self.random.choice(running))
         return self.node()
 
     def about(self, app: int) -> bytes:
-        """A node that a line is about, most often of an application's list."""
+        """The node that a line is about, usually one of an application's list."""
         roll = self.random.random()
         if roll < 0.85 and app < len(self.config.apps):
             return self.name_of(self.random.choice(self.config.apps[app].nodes()))
@@ -117,7 +117,7 @@ class ScriptMaker:
         return at, spelled(apps[at].name)
 
     def moment(self) -> bytes:
-        """A moment, most often later than the one before."""
+        """A moment, usually later than the previous one."""
         self.now += self.random.choice((0, 0, 1, 3, 7, 10, 100, 999, 1000, 4999, 5000))
         back = self.random.choice((1, 100)) if self.random.random() < 0.04 else 0
         return b"%d" % max(0, self.now - back)
@@ -125,13 +125,13 @@ class ScriptMaker:
     # Lines
 
     def boot(self) -> None:
-        """A boot, most often of a node that is off."""
+        """A boot, usually of a node that is off."""
         off = [node for node in range(len(self.config.nodes)) if not self.world.is_on(node)]
         choose = off and self.random.random() < 0.9
         self.add(b"boot", self.name_of(self.random.choice(off)) if choose else self.node(), self.moment())
 
     def revive(self) -> None:
-        """A node that is off comes up, most often with start wishes for all that it may run."""
+        """A node that is off comes up, usually with start wishes for all that it may run."""
         off = [node for node in range(len(self.config.nodes)) if not self.world.is_on(node)]
         if not off:
             return
@@ -143,21 +143,21 @@ class ScriptMaker:
             self.add(b"share")
 
     def start_all(self, node: int, rate: float) -> None:
-        """Start wishes for what a node may run."""
+        """Start wishes for all that a node may run."""
         for app in self.config.apps:
             if app.group_of(node) is not None and b" " not in app.name and self.random.random() < rate:
                 at = self.name_of(node) if self.world.is_on(node) else self.on()
                 self.add(b"start", at, spelled(app.name), self.name_of(node))
 
     def crash(self) -> None:
-        """A crash, and at times what follows: the word that the node is down."""
+        """A crash, sometimes followed by its report."""
         node = self.on()
         self.add(b"crash", node)
         if self.random.random() < 0.5:
             self.add(b"down", self.on(), node)
 
     def down(self) -> None:
-        """The word that a node is down, most often of one that is."""
+        """A report that a node is down, usually a true one."""
         off = [node for node in range(len(self.config.nodes)) if not self.world.is_on(node)]
         choose = off and self.random.random() < 0.7
         self.add(b"down", self.on(), self.name_of(self.random.choice(off)) if choose else self.about(len(self.config.apps)))
@@ -169,11 +169,11 @@ class ScriptMaker:
         self.add(*words, *([self.random.choice((b"true", b"true", b"false"))] if verb == b"permit" else []))
 
     def drain(self) -> None:
-        """The word that a node is drained, most often of one that runs, or that it isn't."""
+        """A drain or its end, usually of a running node."""
         self.add(b"drain", self.on(), self.drained(), self.random.choice((b"true", b"true", b"false")))
 
     def drained(self) -> bytes:
-        """A node to drain, most often one that runs."""
+        """A node to drain, usually a running one."""
         return self.on() if self.random.random() < 0.7 else self.about(self.random.randrange(len(self.config.apps) + 1))
 
     def ship(self) -> None:
@@ -181,14 +181,14 @@ class ScriptMaker:
         self.add(b"ship", self.on(), self.about(self.random.randrange(len(self.config.apps) + 1)))
 
     def number_near(self, count: int) -> int:
-        """A number up to a count, most often one of the last."""
+        """A number up to a count, usually near it."""
         roll = self.random.random()
         if count == 0 or roll < 0.02:
             return self.random.choice((0, count + 1, 2**62))
         return self.random.randint(max(1, count - 5), count) if roll < 0.7 else self.random.randint(1, count)
 
     def hear(self) -> None:
-        """A delivery, most often to whom the message is for."""
+        """A delivery, usually to the message's receiver."""
         number = self.number_near(len(self.world.messages))
         node = self.node()
         if 1 <= number <= len(self.world.messages) and self.random.random() < 0.92:
@@ -196,7 +196,7 @@ class ScriptMaker:
         self.add(b"hear", node, b"%d" % number)
 
     def simple(self, verb: bytes) -> None:
-        """A line whose words hang together in no way."""
+        """A line of unrelated words."""
         words: dict[bytes, Callable[[], list[bytes]]] = {
             b"takeover": lambda: [self.on(), self.app()[1]],
             b"tick": lambda: [self.on(), self.moment()],
@@ -219,7 +219,7 @@ class ScriptMaker:
             self.simple(verb.encode())
 
     def feed_line(self) -> bytes:
-        """A line with the bytes of a packet, most often changed a little."""
+        """A line with the bytes of a packet, usually with a small change."""
         data = random_packet(self.random, self.world)
         for _ in range(self.random.choice((0, 0, 1, 1, 1, 2))):
             data = changed_bytes(self.random, data)
@@ -232,7 +232,7 @@ class ScriptMaker:
     # Whole scripts
 
     def open(self) -> None:
-        """Nodes come up, and most often start what they may and share it."""
+        """Nodes come up, and usually start and share all that they may."""
         for node in range(len(self.config.nodes)):
             if self.random.random() < 0.85:
                 self.add(b"boot", self.name_of(node), b"%d" % self.now)
@@ -252,14 +252,14 @@ class ScriptMaker:
             self.any_line(self.random.choices(list(profile), list(profile.values()))[0])
 
     def close(self) -> None:
-        """Everything is shown."""
+        """Shows everything."""
         for node in range(len(self.config.nodes)):
             self.add(b"page", self.name_of(node))
             self.add(b"state", self.name_of(node))
         self.add(b"bytes", b"%d" % len(self.world.messages))
 
     def tick_all(self) -> None:
-        """Each node looks after its applications, and all is shared. Where there are many nodes it is shared once."""
+        """All nodes tick, and all is shared: once if there are many nodes."""
         last = len(self.config.nodes) - 1
         for node in range(last + 1):
             self.add(b"tick", self.name_of(node), self.moment())
@@ -267,13 +267,13 @@ class ScriptMaker:
                 self.add(b"share")
 
     def holder(self) -> bytes:
-        """A node that has an application, by what a running node knows, or any."""
+        """A node that holds an application according to a running node, or any."""
         running = [node for node in range(len(self.config.nodes)) if self.world.is_on(node)]
         holders = {claim.node for node in running for claim in self.world.state(node).claims.values()}
         return self.name_of(self.random.choice(sorted(holders))) if holders else self.node()
 
     def burst(self, count: int) -> None:
-        """Many commands at one node, whose oldest deltas are then dropped."""
+        """Many commands at one node, which then drops its oldest deltas."""
         node = self.on()
         for _ in range(count):
             app, word = self.app()
@@ -295,7 +295,7 @@ class ScriptMaker:
 
 
 def usual(maker: ScriptMaker) -> None:
-    """A script of one profile, or of several after each other."""
+    """A script of one profile, or of several in turn."""
     maker.open()
     for _ in range(maker.random.choice((1, 1, 2, 3))):
         maker.some(maker.random.choice(PROFILES), maker.random.choice((5, 20, 40)))
@@ -303,7 +303,7 @@ def usual(maker: ScriptMaker) -> None:
 
 
 def dropped_fronts(maker: ScriptMaker) -> None:
-    """Acknowledgements, then more deltas than are kept, or nearly, and ships again."""
+    """Acknowledgements, then about as many deltas as are kept or more, and ships again."""
     maker.open()
     maker.exchange(8)
     for _ in range(maker.random.choice((1, 2))):
@@ -319,7 +319,7 @@ def standing_dots(maker: ScriptMaker) -> None:
 
 
 def very_many_standing_dots(maker: ScriptMaker) -> None:
-    """As many standing starts or drains as may be replaced, or one more. Such a script takes the program long."""
+    """As many standing starts or drains as can be replaced, or one more. Such a script takes the program long."""
     standing(maker, maker.random.choice((1023, 1024, 1025, 1026)))
 
 
@@ -375,7 +375,7 @@ def edge_of_buffer(maker: ScriptMaker) -> None:
 
 
 def disputes(maker: ScriptMaker) -> None:
-    """Permits, starts and drains of one key and its node, at several nodes that don't hear of each other, and then a share."""
+    """Permits, starts and drains of one key and its node, at several nodes without exchange, and then a share."""
     maker.open()
     maker.add(b"share")
     for _ in range(maker.random.randint(2, 6)):
@@ -407,7 +407,7 @@ def rebooted_holders(maker: ScriptMaker) -> None:
 
 
 def drained_holders(maker: ScriptMaker) -> None:
-    """Applications are claimed, some holders are drained, put back or booted again, and all is placed anew."""
+    """Applications are claimed, some holders are drained, undrained or booted again, and all is placed anew."""
     maker.open()
     for _ in range(maker.random.randint(1, 4)):
         maker.tick_all()
@@ -434,7 +434,7 @@ def drained_holders(maker: ScriptMaker) -> None:
 
 
 def quiet(maker: ScriptMaker) -> None:
-    """Two nodes exchange all until there is nothing left to say, then go on."""
+    """Two nodes exchange all until nothing is left to ship, then go on."""
     maker.open()
     for _ in range(maker.random.randint(2, 6)):
         maker.add(b"share")
@@ -461,12 +461,12 @@ def decorated(random: Random, lines: list[bytes]) -> bytes:
 
 
 def near_word(random: Random, word: bytes) -> bytes:
-    """A word that is nearly the one given."""
+    """A word similar to the given one."""
     return random.choice((b"0" + word, b"'%s'" % word, word + b"0", word.upper(), word[:-1] or b"+", b"+" + word, word + b"'"))
 
 
 def with_fault(random: Random, lines: list[bytes], odd_words: tuple[bytes, ...] = ODD_WORDS) -> list[bytes]:
-    """The lines with one changed so that it has a fault, most likely."""
+    """The lines, usually with a fault in one."""
     at = random.randrange(len(lines))
     words = lines[at].split(b" ")
     place = random.randrange(len(words) + 1)
@@ -485,7 +485,7 @@ def with_fault(random: Random, lines: list[bytes], odd_words: tuple[bytes, ...] 
 
 
 def odd_input(random: Random, text: bytes, script: bytes) -> bytes:
-    """An input with something wrong around the script, or nearly."""
+    """An input with a fault outside the script, or nearly."""
     mark = random.choice((b"", b"-- \n", b"--\r\n", b" --\n", b"---\n", b"--", b"--\n--\n", b"--\n\n--\n"))
     choices: tuple[Callable[[], bytes], ...] = (
         lambda: text + mark + script,
@@ -500,7 +500,7 @@ def odd_input(random: Random, text: bytes, script: bytes) -> bytes:
 
 
 def script_config(random: Random, seed: int, number: int) -> bytes:
-    """A configuration to play with: one of the chosen ones, or any that is valid."""
+    """A configuration to play with: one of the chosen ones, or any valid one."""
     if random.random() < 0.7:
         return random.choice(CONFIGS)
     for other in range(20):
@@ -544,7 +544,7 @@ def random_script(seed: int, number: int) -> bytes:
 
 
 def random_packets(seed: int, number: int) -> bytes:
-    """A script that feeds PACKETS packets, after a world has grown from which they may come."""
+    """A script that feeds PACKETS packets, after a world has grown as their source."""
     random = Random(f"packets {seed} {number}")
     text = random.choice(CONFIGS)
     maker = ScriptMaker(random, read_config(text))

@@ -1,6 +1,6 @@
-"""Forged states as bytes of the second version: well-formed ones, most of which no operations of a world mean.
+"""Forged states as bytes of the second version: well-formed, but mostly without operations that mean them.
 
-Most stand beside a small world. Some are wide: their maps have more keys than a block of a map takes.
+Most come with a small world. Some are wide: their maps have more keys than fit into a block of a map.
 """
 
 from __future__ import annotations
@@ -16,15 +16,15 @@ from wire import SECOND, Writer, read_state, u
 
 WORLDS = (CALM, DRAINS, HANDS, LETTERS)
 TRIES = 20
-# Incarnations of wide states, and how many keys their maps may have.
+# Incarnations of wide states, and the most keys of their maps.
 MOST_INC = 12
 WIDTHS = (0, 5, 11, 12, 13, 23, 24, 40)
-# What the program crates/growths reads.
+# The most bytes that the program crates/growths reads.
 MOST_BYTES = 4_000
 
 
 def is_state(config: Config, data: bytes) -> bool:
-    """Whether some bytes spell a state."""
+    """Whether some bytes are a state."""
     try:
         read_state(config, data)
     except Fault:
@@ -33,7 +33,7 @@ def is_state(config: Config, data: bytes) -> bool:
 
 
 def wide_parts(random: Random, config: Config) -> bytes:
-    """The bytes of a state with many keys, of incarnations whether live or not, and with dots of many origins."""
+    """The bytes of a state with many keys, of incarnations live or not, and with dots of many origins."""
     writer, nodes = Writer(SECOND), range(len(config.nodes))
     origins = [Origin(node, inc) for node in nodes for inc in range(1, MOST_INC + 1)]
     keys = [Key(app, *origin) for app, of in enumerate(config.apps) for origin in origins if of.group_of(origin.node) is not None]
@@ -42,7 +42,7 @@ def wide_parts(random: Random, config: Config) -> bytes:
     dots = [Dot(*origin, random.randint(1, unbroken)) for origin, (unbroken, _) in known.items()]
 
     def some(found: list[bytes], values: list[bytes]) -> bytes:
-        """What stands at some of these: one dot or two at each, in order."""
+        """One or two dots at each of some keys, in order."""
         chosen = sorted(random.sample(found, min(random.choice(WIDTHS), len(found))))
         at = [sorted(random.sample(dots, min(random.choice((1, 1, 1, 2)), len(dots)))) for _ in chosen]
         rows = [b"".join(writer.dot(dot) + random.choice(values) for dot in one) for one in at]
@@ -55,7 +55,7 @@ def wide_parts(random: Random, config: Config) -> bytes:
 
 
 def forged_states(config: Config, seed: int) -> Iterator[bytes]:
-    """States forged beside worlds, without an end; some come twice."""
+    """An endless supply of states forged with worlds; some repeat."""
     number = 0
     while True:
         number += 1

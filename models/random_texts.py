@@ -33,7 +33,7 @@ ANY_TOKEN = NODES + APPS + NUMBERS + BAD_NUMBERS + STRINGS + BAD_STRINGS + BAD_A
 
 
 def parted(items: list[Tokens]) -> Tokens:
-    """Items with commas between them."""
+    """Items separated by commas."""
     tokens: Tokens = []
     for item in items:
         tokens += ([b","] if tokens else []) + item
@@ -51,7 +51,7 @@ def tuple_of(items: list[Tokens]) -> Tokens:
 
 
 def named(random: Random, kind: str, most: int) -> list[bytes]:
-    """Different names, a few well-chosen ones or many made ones."""
+    """Distinct names, a few chosen ones or many made-up ones."""
     pool = list(NODES[:-1] if kind == "node" else APPS)
     if kind == "app" and random.random() < 0.8:
         pool.remove(b"'b'")
@@ -91,7 +91,7 @@ def entry(random: Random, app: bytes, nodes: list[bytes]) -> Tokens:
 
 
 def permission(random: Random, apps: list[bytes]) -> Tokens:
-    """A permission, of an application that is there or not."""
+    """A permission, of a listed application or another."""
     app = random.choice(apps) if random.random() < 0.8 else random.choice(APPS)
     return tuple_of([[app], [random.choice((b"true", b"false", b"false", b"'true'"))]])
 
@@ -117,7 +117,7 @@ def parameters(random: Random) -> list[Tokens]:
 
 
 def valid_tokens(random: Random) -> Tokens:
-    """The tokens of a text that is most likely valid."""
+    """The tokens of a text that is probably valid."""
     kernel = random.choice((b"kernel", b"kernel", b"'kernel'"))
     sections = [tuple_of([[kernel], listed(parameters(random))])]
     for _ in range(random.choice((0, 0, 0, 1, 2))):
@@ -127,14 +127,14 @@ def valid_tokens(random: Random) -> Tokens:
 
 
 def with_blanks(random: Random, tokens: Tokens) -> bytes:
-    """The tokens as a text, with blanks between them."""
+    """The tokens as a text, separated by blanks."""
     rate = random.choice((0.0, 0.02, 0.3))
     text = b"".join(token + (random.choice(BLANKS) if random.random() < rate else b"") for token in tokens)
     return text + random.choice((b"", b"\n", b"\n\n", b" %", b"% end"))
 
 
 def changed_token(random: Random, tokens: Tokens) -> Tokens:
-    """The tokens with one left out, doubled, swapped, put in or put in another's place."""
+    """The tokens with one removed, doubled, swapped, inserted or replaced by another."""
     at = random.randrange(len(tokens))
     before, token, after = tokens[:at], tokens[at], tokens[at + 1 :]
     roll = random.randrange(6)
@@ -152,7 +152,7 @@ def changed_token(random: Random, tokens: Tokens) -> Tokens:
 
 
 def group_at(tokens: Tokens, at: int) -> int:
-    """Where the group of the opening bracket at a place ends."""
+    """The end of the group of the opening bracket at a place."""
     depth = 0
     for place in range(at, len(tokens)):
         depth += (tokens[place] in (b"[", b"{")) - (tokens[place] in (b"]", b"}"))
@@ -168,7 +168,7 @@ def perhaps_string(random: Random) -> Tokens:
 
 
 def changed_group(random: Random, tokens: Tokens) -> Tokens:
-    """The tokens with one list or tuple emptied, doubled, or put in another's place, or with something in its place."""
+    """The tokens with one list or tuple emptied, doubled, replaced by another, or with something inserted."""
     places = [at for at, token in enumerate(tokens) if token in (b"[", b"{")]
     if not places:
         return tokens
@@ -190,7 +190,7 @@ def changed_group(random: Random, tokens: Tokens) -> Tokens:
 
 
 def changed_like(random: Random, tokens: Tokens) -> Tokens:
-    """The tokens with a name or a number that is another one."""
+    """The tokens with a name or a number replaced by another."""
     places = [at for at, token in enumerate(tokens) if token in NODES + APPS + NUMBERS]
     if not places:
         return tokens
@@ -204,7 +204,7 @@ def changed_like(random: Random, tokens: Tokens) -> Tokens:
 
 
 def changed_byte(random: Random, text: bytes) -> bytes:
-    """The text with one byte left out, put in or changed, or with its end cut off."""
+    """The text with one byte removed, inserted or changed, or with its end cut off."""
     at = random.randrange(len(text) + 1)
     roll = random.randrange(5)
     if roll == 0:
@@ -228,7 +228,7 @@ def too_many_nodes(random: Random) -> bytes:
 
 
 def too_many_apps(random: Random) -> bytes:
-    """Sixty-four applications or sixty-five, now and then with one twice."""
+    """Sixty-four applications or sixty-five, sometimes with a repeated one."""
     apps = [b"app%d" % number for number in range(random.choice((64, 65)))]
     if random.random() < 0.3:
         apps[random.randrange(len(apps))] = b"app0"
@@ -238,12 +238,12 @@ def too_many_apps(random: Random) -> bytes:
 
 
 def kernel_of(found: list[Tokens]) -> Tokens:
-    """A file whose kernel has these parameters alone."""
+    """A file with only these parameters of the kernel."""
     return [*listed([tuple_of([[b"kernel"], listed(found)])]), b"."]
 
 
 def long_name(random: Random) -> bytes:
-    """A name of 255 or 256 bytes where a name stands, or where none is read."""
+    """A name of 255 or 256 bytes, read or skipped."""
     name = random.choice((b"%s", b"'%s'")) % (b"n" * random.choice((255, 256)))
     tokens = valid_tokens(random)
     places = [at for at, token in enumerate(tokens) if token in NODES + APPS + WORDS]
@@ -252,7 +252,7 @@ def long_name(random: Random) -> bytes:
 
 
 def deep_term(random: Random) -> bytes:
-    """Brackets that are 64 or 65 deep, within a parameter that is passed over."""
+    """Brackets 64 or 65 deep, in a skipped parameter."""
     count = random.choice((59, 60, 61))
     opening = [random.choice((b"[", b"{")) for _ in range(count)]
     closing = [b"]" if bracket == b"[" else b"}" for bracket in reversed(opening)]
@@ -271,7 +271,7 @@ def long_text(random: Random) -> bytes:
 
 
 def long_number(random: Random) -> bytes:
-    """A number of very many digits, read or passed over."""
+    """A number of very many digits, read or skipped."""
     number = random.choice((b"", b"-")) + random.choice((b"0", b"9")) * random.choice((9, 10, 11, 5000)) + b"5"
     tokens = valid_tokens(random)
     places = [at for at, token in enumerate(tokens) if token in NUMBERS] or [0]
@@ -289,7 +289,7 @@ def no_applications(random: Random) -> bytes:
 
 
 def valid(random: Random) -> bytes:
-    """A text that is most likely valid."""
+    """A text that is probably valid."""
     return with_blanks(random, valid_tokens(random))
 
 
@@ -303,7 +303,7 @@ def near(random: Random) -> bytes:
 
 
 def emptied(random: Random) -> bytes:
-    """A valid text with one list or tuple without brackets in it emptied."""
+    """A valid text with one of its innermost lists or tuples emptied."""
     tokens = valid_tokens(random)
     places = [at for at, token in enumerate(tokens) if token in (b"[", b"{")]
     inmost = [at for at in places if tokens[at + 1] not in (b"[", b"{")]

@@ -1,16 +1,16 @@
 #!/usr/bin/env python3
-"""What has to hold of what `distac record` prints: a run of a live script, as a script of `distac sim`.
+"""Properties of every output of `distac record`: a run of a live script, as a script of `distac sim`.
 
 - The configuration is the live script's, in its canonical text.
-- The comments are what `distac live` would print of such a run: of a racing script by what racing.py demands, and of one with one
-  outcome by what live.py answers.
-- The lines are events, and behind them the page of each node in name order.
-- Each link ships five times a phase, and as many of its messages are heard as were shipped, each behind its ship.
-- Without ships and hearings the lines of a node are those of its callers: phase by phase, each caller's in order, and each answered
-  as the comments say.
+- The comments are the output of `distac live` for such a run: for a racing script with the properties of racing.py, and
+  for one with one outcome by live.py.
+- The lines are events, followed by the page of each node in name order.
+- Each link ships five times a phase, and as many of its messages are heard as were shipped, each after its ship.
+- Without ships and hearings the lines of a node are those of its callers: phase by phase, each caller's in order, and
+  each answered as in the comments.
 - The pages that the simulator's model prints at the end are those of the comments.
 
-If a node's name has a space, then no line can name the node, and the line of that fault is printed alone.
+If a node's name has a space, no line can name the node, and only that fault's line is printed.
 
 Usage: python3 recorded.py LIVE-SCRIPT < RECORDED
 """
@@ -32,9 +32,9 @@ SHIP, HEAR, PAGE = b"ship", b"hear", b"page"
 SHIPS_OF_PHASE = 5
 MARK = b"% "
 UNSPELLED = (b"record fault 2 Unspelled\n", 1)
-# A line of a caller with its answer.
+# A caller's line with its answer.
 Told = Tuple[bytes, Tuple[Value, ...], bytes]
-# Of a live script and the comments: what is wrong with these, or nothing.
+# Of a live script and the comments: what is wrong, or nothing.
 Judge = Callable[[bytes, bytes], Optional[str]]
 
 
@@ -44,12 +44,12 @@ def is_pages_line(line: bytes) -> bool:
 
 
 def printed_in(script: bytes) -> bytes:
-    """What the comments of a recorded script say was printed."""
+    """The output in a recorded script's comments."""
     return b"".join(line[len(MARK) :] + b"\n" for line in script.split(b"\n") if line.startswith(MARK))
 
 
 def told_in(printed: bytes, phases: List[Phase], config: Config) -> List[Dict[Tuple[int, int], List[Told]]]:
-    """What was asked in each phase of each caller of each node, but for reads, with the answers."""
+    """The lines of each phase, by caller and node, without reads, with their answers."""
     lines = iter(printed.split(b"\n"))
     run = Run(config)
     told: List[Dict[Tuple[int, int], List[Told]]] = []
@@ -67,7 +67,7 @@ def told_in(printed: bytes, phases: List[Phase], config: Config) -> List[Dict[Tu
 
 
 def is_merged(all_told: List[Told], rows: List[List[Told]]) -> int | None:
-    """How many lines at the front are those of these rows, each row's in order, if they are."""
+    """The number of lines at the front that merge these rows, each in order, if they do."""
     count = sum(map(len, rows))
     places = {(0,) * len(rows)}
     for one in all_told[:count]:
@@ -89,7 +89,7 @@ def demand_callers(config: Config, events: List[Tuple[Line, bytes]], told: List[
 
 
 def demand_links(config: Config, events: List[Tuple[Line, bytes]], phases: int) -> None:
-    """Demands that each link ships as often as it has to, and that all is heard that was shipped, and nothing else."""
+    """Demands that each link ships as often as it must, and that exactly the shipped messages are heard."""
     ships = Counter(line.values for line, _ in events if line.word == SHIP)
     nodes = range(len(config.nodes))
     wanted = {(a, b): SHIPS_OF_PHASE * phases for a in nodes for b in nodes if a != b}
@@ -108,12 +108,12 @@ def demand_links(config: Config, events: List[Tuple[Line, bytes]], phases: int) 
 
 
 def answer_of(said: List[bytes]) -> bytes:
-    """What a caller is told of a line that printed this."""
+    """The answer to a line with this output."""
     return said[0] if said[0].startswith((b"refused ", b"no ")) else OK
 
 
 def demand_all(source: bytes, output: bytes, judge: Judge) -> None:
-    """Demands all of it."""
+    """Demands all properties."""
     config, asked = read_input(source, LiveReader)
     phases = phases_of(asked)
     found, lines = read_input(output, LineReader)
@@ -136,7 +136,7 @@ def demand_all(source: bytes, output: bytes, judge: Judge) -> None:
 
 
 def by_races(source: bytes, printed: bytes) -> str | None:
-    """What doesn't hold of the comments on a racing script."""
+    """The violation in the comments on a racing script."""
     return racing.fault_of_run(source, printed, 0)
 
 
@@ -146,7 +146,7 @@ def by_outcome(source: bytes, printed: bytes) -> str | None:
 
 
 def fault_of_record(judge: Judge, source: bytes, output: bytes, status: int) -> str | None:
-    """What doesn't hold of what was printed, if anything. A script that isn't run has the line of `distac live`."""
+    """The violation in an output, if there is one. A script that isn't run has the line of `distac live`."""
     expected, wanted = live.run_live(source) if judge is by_outcome else (b"", 0)
     if wanted:
         return None if (output, status) == (expected, wanted) else "the line of a fault is another one"
@@ -161,7 +161,7 @@ def fault_of_record(judge: Judge, source: bytes, output: bytes, status: int) -> 
 
 
 def main() -> int:
-    """Judges the standard input as a run of a racing script."""
+    """Judges standard input as a run of a racing script."""
     with open(sys.argv[1], "rb") as file:
         wrong = fault_of_record(by_races, file.read(), sys.stdin.buffer.read(), 0)
     if wrong is not None:

@@ -1,4 +1,4 @@
-"""The rows of `distac sim` in examples/rows, and the examples of `distac sim`: each an input, its output and its status."""
+"""The rows of `distac sim` in examples/rows, and its examples: each an input, its output and its status."""
 
 from __future__ import annotations
 
@@ -7,7 +7,7 @@ from dataclasses import dataclass
 from pathlib import Path
 
 TOP = Path(__file__).resolve().parent.parent
-# The folders of rows that `sim` plays, each with the status of its rows.
+# The folders of rows for `sim`, with the status of their rows.
 FOLDERS = {"sim": 0, "sim-faults": 1}
 
 

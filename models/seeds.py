@@ -1,7 +1,8 @@
-"""What a fuzzer begins with: inputs of each command, and the words that its formats have.
+"""The initial inputs of a fuzzer for each command, and the words of its formats.
 
-The inputs are the examples, the rows of examples/rows, the worked examples, and random ones. Those of `feed` are the bytes of
-packets under one configuration. The words stand in the tables of docs/FORMATS.md, and in its grammar of the configuration.
+The inputs are the examples, the rows of examples/rows, the worked examples, and random ones. Those of `feed` are the
+bytes of packets under one configuration. The words come from the tables of docs/FORMATS.md and its grammar of
+configurations.
 """
 
 from __future__ import annotations
@@ -21,7 +22,7 @@ FORMATS = TOP / "docs" / "FORMATS.md"
 PARTED = b"--\n"
 # Longer inputs make a fuzzer slow.
 MOST_BYTES = 4096
-# The configuration under which packets are read.
+# The configuration for packets.
 PACKETS_UNDER = worked.TWO_APPLICATIONS
 MARK = read_config(PACKETS_UNDER).mark.to_bytes(8, "big")
 
@@ -30,7 +31,7 @@ MARK = read_config(PACKETS_UNDER).mark.to_bytes(8, "big")
 
 
 def examples(pattern: str) -> Iterator[bytes]:
-    """The examples of some names."""
+    """The examples with these names."""
     for path in sorted(TOP.glob(f"examples/{pattern}")):
         yield path.read_bytes()
 
@@ -66,13 +67,13 @@ def live_scripts() -> Iterator[bytes]:
 
 
 def fed_in(source: bytes) -> Iterator[bytes]:
-    """The bytes that a script feeds."""
+    """The bytes fed by a script."""
     for digits in re.findall(rb"^feed ((?:[0-9a-f]{2})+)$", source, re.MULTILINE):
         yield bytes.fromhex(digits.decode())
 
 
 def packets() -> Iterator[bytes]:
-    """Packets, with the mark of their configuration in place of any other."""
+    """Packets, with the mark of this configuration."""
     config = read_config(PACKETS_UNDER)
     found = [worked.message_of(config, version) for version in (1, 2)]
     found += [packet for source in (*scripts(), *live_scripts()) for packet in fed_in(source)]
@@ -90,7 +91,7 @@ SOURCES: dict[str, Callable[[], Iterator[bytes]]] = {
 
 
 def seeds(command: str) -> list[bytes]:
-    """The inputs to begin with, each once."""
+    """The initial inputs, without duplicates."""
     return [source for source in dict.fromkeys(SOURCES[command]()) if 0 < len(source) <= MOST_BYTES]
 
 
@@ -98,26 +99,26 @@ def seeds(command: str) -> list[bytes]:
 
 
 def sections() -> dict[str, str]:
-    """The parts of docs/FORMATS.md by their titles."""
+    """The sections of docs/FORMATS.md by their titles."""
     parts = re.split(r"^#+ (.*)$", FORMATS.read_text(), flags=re.MULTILINE)
     return dict(zip(parts[1::2], parts[2::2]))
 
 
 def spans_of(section: str, columns: int = 1) -> list[str]:
-    """What stands between backticks in the first columns of the tables of a part."""
+    """The texts in backticks in the first columns of a section's tables."""
     rows = re.findall(r"^\|(.*)\|$", section, re.MULTILINE)
     return [span for row in rows for cell in row.split("|")[:columns] for span in re.findall(r"`([^`]+)`", cell)]
 
 
 def numbers_in(section: str) -> list[int]:
-    """The bounds that a part names, each with the number above it."""
+    """The limits in a section, each with the number above it."""
     powers = [2 ** int(power) for power in re.findall(r"2\^(\d+)", section)]
     written = [int(number.replace(",", "")) for number in re.findall(r"\d{1,3}(?:,\d{3})+", section)]
     return sorted({number + more for number in powers + written for more in (0, 1)})
 
 
 def words_of_texts(parts: dict[str, str]) -> Iterator[bytes]:
-    """The words of configurations: signs and the names of the grammar, but for those of its rules."""
+    """The words of configurations: the signs and names of the grammar, without those of its rules."""
     grammar = parts["Shapes"]
     block = grammar.split("```")[1]
     rules = {*re.findall(r"^(\w+) *=", block, re.MULTILINE), *"atom number string fullstop end".split()}
@@ -128,7 +129,7 @@ def words_of_texts(parts: dict[str, str]) -> Iterator[bytes]:
 
 
 def words_of_lines(parts: dict[str, str], title: str) -> Iterator[bytes]:
-    """The words of scripts: those of the tables that don't stand for something else, and bounds."""
+    """The words of scripts: those of the tables except placeholders, and limits."""
     words = [word for span in spans_of(parts[title]) for word in span.split()]
     yield from (word.encode() for word in words if word.islower())
     yield from (b"true", b"false", b"\n" + PARTED)
@@ -136,7 +137,7 @@ def words_of_lines(parts: dict[str, str], title: str) -> Iterator[bytes]:
 
 
 def words_of_packets(parts: dict[str, str]) -> Iterator[bytes]:
-    """The fields of packets: written bytes, acts and kinds, and bounds in each width that holds them."""
+    """The fields of packets: written bytes, acts and kinds, and limits in each width that holds them."""
     section = parts["State bytes"] + parts["Message bytes"]
     yield from (bytes.fromhex(span) for span in re.findall(r"`((?:[0-9a-f]{2} ?)+)`", section))
     yield from (bytes((number,)) for number in range(8))
@@ -146,7 +147,7 @@ def words_of_packets(parts: dict[str, str]) -> Iterator[bytes]:
 
 
 def words(command: str) -> list[bytes]:
-    """The words of a command's inputs, each once."""
+    """The words of a command's inputs, without duplicates."""
     parts = sections()
     found = {
         "check": words_of_texts(parts),
@@ -158,10 +159,10 @@ def words(command: str) -> list[bytes]:
 
 
 def dictionary(command: str) -> str:
-    """The words as AFL++ reads them, a line for each."""
+    """The words in AFL++'s format, one per line."""
     return "".join(f'"{"".join(map(escaped, word))}"\n' for word in words(command))
 
 
 def escaped(byte: int) -> str:
-    """A byte by its digits."""
+    """A byte as hexadecimal digits."""
     return f"\\x{byte:02x}"

@@ -1,12 +1,12 @@
 #!/usr/bin/env python3
-"""Runs the model of `distac sim`: a configuration and a script in, what the program prints for each line out.
+"""Runs the model of `distac sim`: a configuration and a script in, the program's output for each line out.
 
 Usage: python3 sim.py < FILE
 """
 
 import sys
 
-# An older Python prints this too, so nothing above it may be new.
+# Older Pythons must print this, so nothing above may need a newer one.
 if sys.version_info < (3, 8):
     sys.stderr.write("sim.py: this is Python %d.%d, and 3.8 or later is needed\n" % sys.version_info[:2])
     sys.exit(2)

@@ -1,6 +1,6 @@
-"""An outside model of `distac sim`: a configuration and a script in, what the program prints for each line out.
+"""An outside model of `distac sim`: a configuration and a script in, the program's output for each line out.
 
-The file sim.py runs it.
+sim.py runs it.
 """
 
 from __future__ import annotations
@@ -38,14 +38,14 @@ COMMANDS = (b"down", b"permit", b"start", b"stop", b"drain", b"takeover")
 
 
 class InputFault(Exception):
-    """What is wrong with an input as a whole."""
+    """A fault of a whole input."""
 
     def __init__(self, kind: str) -> None:
         super().__init__(kind)
         self.kind = kind
 
     def line(self) -> bytes:
-        """The line that the program prints for it."""
+        """The program's line for it."""
         return f"input fault {INPUT_FAULTS.index(self.kind) + 1} {self.kind}".encode()
 
 
@@ -58,7 +58,7 @@ class ScriptFault(Exception):
         self.kind = kind
 
     def line(self) -> bytes:
-        """The line that the program prints for it."""
+        """The program's line for it."""
         return f"script fault {self.number} {SCRIPT_FAULTS.index(self.kind) + 1} {self.kind}".encode()
 
 
@@ -70,14 +70,14 @@ Value = Union[int, bool, bytes]
 
 @dataclass(frozen=True)
 class Line:
-    """A line that is in order: the word that says what it does, and the values of the others."""
+    """A correct line: its verb, and the values of its other words."""
 
     word: bytes
     values: tuple[Value, ...]
 
 
 def atom_name(word: bytes) -> bytes | None:
-    """The name that a word spells, if it is an atom."""
+    """The name of a word, if it is an atom."""
     if is_bare_atom(word):
         return word
     inner = word[1:-1]
@@ -88,14 +88,14 @@ def atom_name(word: bytes) -> bytes | None:
 
 
 def number_of(word: bytes) -> int | None:
-    """The number that a word is, if it is one within bounds."""
+    """The number of a word, if it is one within bounds."""
     if not word.isdigit() or (word[:1] == b"0" and word != b"0") or len(word) > len(str(MOST_NUMBER)):
         return None
     return int(word) if int(word) <= MOST_NUMBER else None
 
 
 def bytes_of(word: bytes) -> bytes | None:
-    """The bytes that a word spells, if it does."""
+    """The bytes of a word, if it has some."""
     if len(word) % 2 or any(byte not in b"0123456789abcdef" for byte in word):
         return None
     return bytes.fromhex(word.decode())
@@ -109,7 +109,7 @@ class LineReader:
         self.apps = [app.name for app in config.apps]
 
     def kinds_of(self, words: list[bytes]) -> tuple[str, ...] | None:
-        """Of which kind each word of a line has to be, if it is a line at all."""
+        """The required kinds of a line's words, if it is a line at all."""
         return (VERB, *SHAPES[words[0]]) if words[0] in SHAPES else None
 
     def fault_of(self, words: list[bytes]) -> str | None:
@@ -123,7 +123,7 @@ class LineReader:
         return min((fault for fault in faults if fault), key=SCRIPT_FAULTS.index, default=None)
 
     def fault_of_word(self, kind: str, word: bytes) -> str | None:
-        """What is wrong with a word."""
+        """The fault of a word."""
         if kind in (ACTOR, NODE, APP) and atom_name(word) is None:
             return "BadName"
         if kind == TRUTH and word not in (b"true", b"false"):
@@ -135,7 +135,7 @@ class LineReader:
         return "BadHex" if kind == HEX and bytes_of(word) is None else None
 
     def value_of(self, kind: str, word: bytes) -> Value:
-        """The value of a word that is in order. A name that isn't there is the number just past the others."""
+        """The value of a correct word. An unknown name is the number just past the others."""
         if kind in (ACTOR, NODE, APP):
             name, names = atom_name(word) or b"", self.apps if kind == APP else self.nodes
             return names.index(name) if name in names else len(names)
@@ -155,13 +155,13 @@ class LineReader:
 
 
 def read_lines(reader: LineReader, script: bytes) -> list[Line]:
-    """All lines of a script that do something, or the first fault."""
+    """All lines of a script but comments and empty ones, or the first fault."""
     lines = enumerate(script.split(b"\n"), 1)
     return [reader.read(line, number) for number, line in lines if line and line[:1] != b"%"]
 
 
 def parted(source: bytes) -> tuple[bytes, bytes] | None:
-    """The configuration and the script of an input, at its first line that is exactly two dashes."""
+    """The configuration and the script of an input, separated by its first line that is exactly two dashes."""
     at = 0
     while at < len(source):
         line_end = source.find(b"\n", at)
@@ -202,11 +202,11 @@ class Printer:
         return spelled(self.config.apps[app].name)
 
     def how(self, how: int, source: int) -> bytes:
-        """How an application was claimed."""
+        """The kind of a claim."""
         return HOW_NAMES[how] + (b" from " + self.node(source) if source >= 0 else b"")
 
     def issued(self, number: int) -> bytes:
-        """An operation that a command issued."""
+        """An operation issued by a command."""
         dot = self.world.operations[number - 1].dot
         return b"issued %d %s %d %d" % (number, self.node(dot.node), dot.inc, dot.n)
 
@@ -241,7 +241,7 @@ class Printer:
         return b"node %s off" % self.node(node)
 
     def life(self, state: Meaning, node: int) -> bytes:
-        """The line of a node's life. Of one that is live it says too whether it is drained."""
+        """The line of a node's life. If the node is live, it includes whether it is drained."""
         life = state.lives.get(node)
         if life is None:
             return b"node %s unknown" % self.node(node)
@@ -251,7 +251,7 @@ class Printer:
         return b"node %s up %d%s" % (self.node(node), life.inc, drained)
 
     def app_line(self, state: Meaning, app: int) -> bytes:
-        """The line of an application: who holds it, and what is to become of it."""
+        """The line of an application: its holder and its verdict."""
         claim = state.claims.get(app)
         found = placement.verdict(self.config, state, app)
         at = b"" if found.node is None else b" " + self.node(found.node)
@@ -267,7 +267,7 @@ class Printer:
         return b"list" + b"".join(b" %s=%s" % (self.node(node), self.mark(state, app, node)) for node in listed)
 
     def mark(self, state: Meaning, app: int, node: int) -> bytes:
-        """How a node of a list stands."""
+        """The state of a node in a list."""
         inc = state.live(node)
         if inc is None:
             return b"down"
@@ -304,7 +304,7 @@ class Player:
         }
 
     def play(self, line: Line) -> list[bytes]:
-        """What is printed for a line."""
+        """The output for a line."""
         try:
             if line.word in COMMANDS:
                 command: Callable[..., int] = getattr(self.world, line.word.decode())
@@ -349,7 +349,7 @@ class Player:
         return [b"same" if is_same else b"differ"]
 
     def feed(self, data: bytes) -> list[bytes]:
-        """Bytes that are read as a packet."""
+        """Bytes read as a packet."""
         read_packet(self.world.config, data)
         return [b"wire ok"]
 
@@ -359,13 +359,13 @@ class Player:
 
 
 def play_all(config: Config, lines: list[Line]) -> bytes:
-    """What is printed for all lines."""
+    """The output for all lines."""
     player = Player(config)
     return b"".join(text + b"\n" for line in lines for text in player.play(line))
 
 
 def simulate(source: bytes) -> tuple[bytes, int]:
-    """What the program prints for an input, and its exit status."""
+    """The program's output for an input, and its exit status."""
     try:
         config, lines = read_input(source, LineReader)
     except (InputFault, ConfigFault, ScriptFault) as fault:
@@ -374,7 +374,7 @@ def simulate(source: bytes) -> tuple[bytes, int]:
 
 
 def main() -> int:
-    """Plays the standard input."""
+    """Plays standard input."""
     output, status = simulate(sys.stdin.buffer.read())
     sys.stdout.buffer.write(output)
     return status

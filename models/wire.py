@@ -1,6 +1,6 @@
 """The bytes of states, messages and single operations, written and read.
 
-There are two versions. In the second an incarnation has eight bytes and not four, and there are drains.
+There are two versions. The second has drains, and incarnations of eight bytes instead of four.
 """
 
 from __future__ import annotations
@@ -33,12 +33,12 @@ class WireFault(Fault):
     kinds = PACKET_FAULTS
 
 
-# For each origin how far its dots go unbroken from the first on, and the further counters in order.
+# For each origin the length of its unbroken run of dots from the first, and the further counters in order.
 Rows = Dict[Origin, Tuple[int, List[int]]]
 
 
 def rows_of(dots: set[Dot]) -> Rows:
-    """How a set of dots is spelled."""
+    """The written form of a set of dots."""
     counters: dict[Origin, list[int]] = {}
     for dot in sorted(dots):
         counters.setdefault(dot.origin, []).append(dot.n)
@@ -46,7 +46,7 @@ def rows_of(dots: set[Dot]) -> Rows:
 
 
 def row_of(counters: list[int]) -> tuple[int, list[int]]:
-    """How the dots of one origin are spelled, by their counters in order."""
+    """The written form of one origin's dots, from its counters in order."""
     unbroken = 0
     while unbroken < len(counters) and counters[unbroken] == unbroken + 1:
         unbroken += 1
@@ -55,7 +55,7 @@ def row_of(counters: list[int]) -> tuple[int, list[int]]:
 
 @dataclass(frozen=True)
 class SpelledState:
-    """A state with its sets of dots as they are spelled."""
+    """A state with sets of dots in their written form."""
 
     heard: Rows
     known: Rows
@@ -67,14 +67,14 @@ class SpelledState:
 
     @classmethod
     def of(cls, state: Meaning) -> SpelledState:
-        """A state, spelled."""
+        """The written form of a state."""
         heard, known = rows_of(state.heard), rows_of(state.known)
         return cls(heard, known, state.permits, state.starts, state.lives, state.claims, state.drains)
 
 
 @dataclass(frozen=True)
 class Header:
-    """What a message has beside its body. `only` is 0 for any incarnation."""
+    """The fields of a message before its body. `only` is 0 for any incarnation."""
 
     kind: int
     sender: Origin
@@ -103,7 +103,7 @@ def u(size: int, number: int) -> bytes:
 
 
 class Writer:
-    """Writes a version of the bytes. What it has no place for is left out."""
+    """Writes a version of the bytes, without whatever that version can't express."""
 
     def __init__(self, version: int = SECOND) -> None:
         self.version = version
@@ -134,11 +134,11 @@ class Writer:
         return self.origin(origin) + u(8, unbroken) + u(4, len(further)) + b"".join(u(8, n) for n in further)
 
     def votes(self, about: bytes, values: dict[Dot, bool]) -> bytes:
-        """What stands with values at a key, or at an incarnation of a node."""
+        """The values at a key, or at a node's incarnation."""
         return about + u(4, len(values)) + b"".join(self.dot(dot) + u(1, values[dot]) for dot in sorted(values))
 
     def starts(self, key: Key, dots: set[Dot]) -> bytes:
-        """The starts that stand at a key."""
+        """The standing starts of a key."""
         return self.key(key) + u(4, len(dots)) + b"".join(map(self.dot, sorted(dots)))
 
     def life(self, node: int, life: Life) -> bytes:
@@ -165,7 +165,7 @@ class Writer:
         return b"".join(parts)
 
     def head(self, config: Config, kind: int) -> bytes:
-        """What every packet begins with."""
+        """The head of every packet."""
         return MAGIC + u(1, self.version) + u(8, config.mark) + u(1, kind)
 
     def message(self, config: Config, message: Message) -> bytes:
@@ -208,7 +208,7 @@ def packet_bytes(config: Config, packet: Packet, version: int = SECOND) -> bytes
 
 
 class Fields:
-    """Reads field after field of a version. Places are counted from the first byte of all."""
+    """Reads the fields of a version in turn. Positions count from the very first byte."""
 
     def __init__(self, config: Config, data: bytes, at: int, version: int) -> None:
         self.config = config
@@ -217,7 +217,7 @@ class Fields:
         self.version = version
 
     def number(self, size: int, least: int, most: int, otherwise: str = "BadNumber") -> int:
-        """A number of so many bytes, within a range; or else the fault of that kind."""
+        """A number of so many bytes within a range, or else a fault of this kind."""
         if self.at + size > len(self.data):
             raise WireFault("Short", self.at)
         found = int.from_bytes(self.data[self.at : self.at + size], "big")
@@ -227,11 +227,11 @@ class Fields:
         return found
 
     def count(self, size: int) -> int:
-        """How many items follow."""
+        """The number of items that follow."""
         return self.number(size, 0, 256**size - 1)
 
     def name(self, size: int, past: int) -> int:
-        """The number of a node or an application, of which there are so many."""
+        """A node or an application as a number below a count."""
         return self.number(size, 0, past - 1, "BadName")
 
     def node(self) -> int:
@@ -251,7 +251,7 @@ class Fields:
         return self.number(INC_SIZES[self.version], 0, 0) if kind == WHOLE else self.inc()
 
     def truth(self) -> bool:
-        """Whether something holds."""
+        """A boolean."""
         return bool(self.number(1, 0, 1))
 
     def origin(self) -> Origin:
@@ -264,7 +264,7 @@ class Fields:
         return Dot(origin.node, origin.inc, self.number(8, 1, MOST_NUMBER))
 
     def listed(self, app: int, node: int, at: int) -> None:
-        """Refuses a node that isn't in the application's list."""
+        """Refuses a node outside the application's list."""
         if self.config.apps[app].group_of(node) is None:
             raise WireFault("NotInList", at)
 
@@ -293,13 +293,13 @@ K = TypeVar("K", Key, Origin)
 
 
 def above(found: object, last: object | None, at: int) -> None:
-    """Refuses an item that isn't above the one before."""
+    """Refuses an item that isn't above the previous one."""
     if last is not None and not last < found:  # type: ignore[operator]
         raise WireFault("BadOrder", at)
 
 
 def read_context(fields: Fields) -> Rows:
-    """A set of dots as it is spelled: for each origin how far it goes unbroken, and its further counters."""
+    """The written form of a set of dots: for each origin the length of its unbroken run, and its further counters."""
     rows: Rows = {}
     last = None
     for _ in range(fields.count(2)):
@@ -314,7 +314,7 @@ def read_context(fields: Fields) -> Rows:
 
 
 def read_further(fields: Fields, unbroken: int, count: int) -> list[int]:
-    """The counters of an origin behind the first gap."""
+    """An origin's counters after the first gap."""
     further: list[int] = []
     for _ in range(count):
         at = fields.at
@@ -331,7 +331,7 @@ def has_dot(rows: Rows, dot: Dot) -> bool:
 
 
 def is_within(rows: Rows, others: Rows) -> bool:
-    """Whether all dots of one spelled set are in another, without listing those that go unbroken."""
+    """Whether all dots of one set are in another, without listing unbroken runs."""
     for origin, (unbroken, further) in rows.items():
         other_unbroken, other_further = others.get(origin, (0, []))
         has = set(other_further)
@@ -344,7 +344,7 @@ def is_within(rows: Rows, others: Rows) -> bool:
 
 
 def read_stores(fields: Fields, read: Callable[[], K], known: Rows, has_value: bool) -> dict[K, dict[Dot, bool]]:
-    """What stands at each key, or at each incarnation of a node: permits or drains with their values, or starts."""
+    """The store of each key, or of each node's incarnation: permits or drains with their values, or starts."""
     stores: dict[K, dict[Dot, bool]] = {}
     last = None
     for _ in range(fields.count(4)):
@@ -357,7 +357,7 @@ def read_stores(fields: Fields, read: Callable[[], K], known: Rows, has_value: b
 
 
 def read_standing(fields: Fields, known: Rows, has_value: bool) -> dict[Dot, bool]:
-    """The dots that stand at one key, or at one incarnation."""
+    """The standing dots of one key, or of one incarnation."""
     standing: dict[Dot, bool] = {}
     last = None
     for _ in range(fields.number(4, 1, 2**32 - 1)):
@@ -402,7 +402,7 @@ def read_claims(fields: Fields) -> dict[int, Claim]:
 
 
 def read_parts(fields: Fields) -> SpelledState:
-    """A state, whatever comes after it."""
+    """A state, whatever follows it."""
     heard = read_context(fields)
     known = read_context(fields)
     if not is_within(heard, known):
@@ -415,7 +415,7 @@ def read_parts(fields: Fields) -> SpelledState:
 
 
 def read_state(config: Config, data: bytes, version: int = SECOND) -> SpelledState:
-    """The state that some bytes are, or the first fault."""
+    """The state of some bytes, or their first fault."""
     fields = Fields(config, data, 0, version)
     state = read_parts(fields)
     fields.end()
@@ -423,7 +423,7 @@ def read_state(config: Config, data: bytes, version: int = SECOND) -> SpelledSta
 
 
 def read_over(fields: Fields) -> tuple[Dot, ...]:
-    """The dots that an operation replaces."""
+    """The dots replaced by an operation."""
     over: list[Dot] = []
     for _ in range(fields.count(2)):
         at = fields.at
@@ -434,7 +434,7 @@ def read_over(fields: Fields) -> tuple[Dot, ...]:
 
 
 def read_act(fields: Fields, dot: Dot) -> Act:
-    """What an operation does."""
+    """The effect of an operation."""
     code = fields.number(1, 1, LAST_ACTS[fields.version])
     if code == ACT_CODES[Up]:
         return Up()
@@ -486,7 +486,7 @@ def read_message(fields: Fields, kind: int) -> Message:
 
 
 def read_packet(config: Config, data: bytes) -> Packet:
-    """The packet that some bytes of either version are, or the first fault."""
+    """The packet of some bytes of either version, or their first fault."""
     if len(data) > MOST_BYTES:
         raise WireFault("TooLong", MOST_BYTES)
     if data[:3] != MAGIC:

@@ -1,5 +1,5 @@
 #!/usr/bin/env python3
-"""Worked examples, whose answers were written down before any program: the models have to give them.
+"""Worked examples, whose outputs were written down before any program: the models must produce them.
 
 Usage: python3 worked.py
 """
@@ -47,7 +47,7 @@ def whole(text: str) -> list[str]:
 
 
 def matches(lines: list[str], expected: list[str]) -> bool:
-    """Whether lines are those expected, where two dots stand for any lines."""
+    """Whether lines are the expected ones. Two dots stand for any lines."""
     if not expected:
         return not lines
     if expected[0] == ANY_LINES:
@@ -57,7 +57,7 @@ def matches(lines: list[str], expected: list[str]) -> bool:
 
 @dataclass(frozen=True)
 class Row:
-    """A script under a configuration, after some nodes booted, and what it prints. What a share prints is left out."""
+    """A script under a configuration, after some nodes booted, and its output. The output of a share is left out."""
 
     name: str
     config: bytes
@@ -66,7 +66,7 @@ class Row:
     output: str
 
     def failure(self) -> str | None:
-        """What is wrong, if anything."""
+        """The fault, if there is one."""
         config = read_config(self.config)
         player, reader = Player(config), LineReader(config)
         printed: list[str] = []
@@ -293,7 +293,7 @@ ROWS = (
 
 @dataclass(frozen=True)
 class LiveRow:
-    """A live script under a configuration, and what it prints in any order of its threads."""
+    """A live script under a configuration, and its output in any order of its threads."""
 
     name: str
     config: bytes
@@ -301,7 +301,7 @@ class LiveRow:
     output: str
 
     def failure(self) -> str | None:
-        """What is wrong, if anything."""
+        """The fault, if there is one."""
         source = self.config + b"--\n" + "\n".join(whole(self.script)).encode()
         expected = "".join(line + "\n" for line in whole(self.output)).encode()
         other = next((output for output in outputs(source, ORDERS, 1) if output != expected), None)
@@ -412,7 +412,7 @@ feed 44
 phase
 phase
 """
-# What the run above may not print: what stands in it, and what in its place.
+# Impossible outputs of the run above: texts in it with their replacements.
 BROKEN = {
     "a stale page": (b"c1@h 3 fresh", b"c1@h 3 stale"),
     "an answer too few": (b"c1@h 3 fresh\n", b""),
@@ -447,7 +447,7 @@ QUOTED_CANONICAL = (
 
 
 def one_entry(entries: bytes) -> bytes:
-    """A file with these applications alone."""
+    """A file with only these applications."""
     return b"[{kernel,[{distributed,[%s]}]}]." % entries
 
 
@@ -605,12 +605,12 @@ def message_of(config: Config, version: int) -> bytes:
     return head + fields + bytes(state)
 
 
-# Where the first fields of a message begin, and a place behind them.
+# The positions of a message's first fields, and of the end after them.
 MESSAGE_FIELDS = {FIRST: (4, 12, 13, 14, 18, 19, 23, 31, 32, 34), SECOND: (4, 12, 13, 14, 22, 23, 31, 39, 40, 42)}
 
 
 def fault_of_prefix(length: int, version: int) -> Fault:
-    """The fault of so many bytes of a message: after its first bytes, a field that isn't whole."""
+    """The fault of a message cut off after its first bytes, amid a field."""
     if length < 4:
         return ("BadMagic", 0) if length < 3 else ("BadVersion", 3)
     return "Short", max(at for at in MESSAGE_FIELDS[version] if at <= length)
@@ -650,7 +650,7 @@ def message_checks(config: Config) -> Iterator[tuple[str, bool]]:
 
 
 def is_spelled_once(config: Config, data: bytes) -> bool:
-    """Whether some bytes are refused, or are how their version spells what they are read as."""
+    """Whether some bytes are refused, or are their version's spelling of the value read."""
     try:
         return packet_bytes(config, read_packet(config, data), data[3]) == data
     except WireFault:
@@ -689,7 +689,7 @@ def single_checks(config: Config) -> Iterator[tuple[str, bool]]:
 
 
 def operation_checks() -> Iterator[tuple[str, bool]]:
-    """What makes an operation, and what it means."""
+    """The conditions and meanings of operations."""
     key = Key(0, 0, 1)
     yield "its own dot replaced", not is_operation(Operation(D2, Start(key, (D2,))))
     yield "a start that is the first", not is_operation(Operation(D1, Start(key, ())))
@@ -723,7 +723,7 @@ def verdicts_of(config: Config, state: Meaning) -> tuple[str, str, int]:
 
 
 def placement_checks() -> Iterator[tuple[str, bool]]:
-    """Where two applications belong."""
+    """The placement of two applications."""
     config = read_config(TWO_APPLICATIONS)
     ups = [Operation(Dot(node, 1, 1), Up()) for node in range(3)]
     starts = [Operation(Dot(node, 1, 2), Start(Key(0, node, 1), ())) for node in range(3)]
@@ -755,7 +755,7 @@ def placement_checks() -> Iterator[tuple[str, bool]]:
 
 
 def many_drains_checks() -> Iterator[tuple[str, bool]]:
-    """As many drains that stand together as may be replaced, and one more."""
+    """As many drains that stand together as can be replaced, and one more."""
     drains = range(3, 3 + 2 * 1025, 2)
     lines = ["boot x 0", *["boot y 0", "hand y 1", "drain y x true", "crash y"] * 1025]
     lines += [*(f"hand x {number}" for number in drains[:-1]), "drain x x false"]
@@ -767,7 +767,7 @@ def many_drains_checks() -> Iterator[tuple[str, bool]]:
 
 
 def two_fault_checks() -> Iterator[tuple[str, bool]]:
-    """Inputs with two faults, of which the one that is looked for first is answered."""
+    """Inputs with two faults, the first of which must be reported."""
     source = TWO_APPLICATIONS + b"--\nboot zz@h 01\n"
     yield "a line with two faults", simulate(source) == (b"script fault 1 4 BadNumber\n", 1)
     source = TWO_APPLICATIONS + b"--\ndrain zz@h c1@h True\n"
@@ -779,7 +779,7 @@ def two_fault_checks() -> Iterator[tuple[str, bool]]:
 
 
 def live_fault_checks() -> Iterator[tuple[str, bool]]:
-    """Live scripts with a fault, and what comes before what."""
+    """Live scripts with a fault, and the order of faults."""
     for fault, lines in LIVE_FAULTS.items():
         for line in lines.replace(" x", " c1@h").split(";"):
             source = ONE_APPLICATION + f"--\n\n% note\n4 read c3@h\n{line}\n7\n".encode()
@@ -794,7 +794,7 @@ def live_fault_checks() -> Iterator[tuple[str, bool]]:
 
 
 def racing_checks() -> Iterator[tuple[str, bool]]:
-    """What has to hold of a run whose answers hang on the threads: the model's runs, and changed ones."""
+    """Properties of a run whose answers depend on the threads: the model's runs, and changed ones."""
     output, status = run_live(RACING)
     yield "a racing run", fault_of_run(RACING, output, status) is None
     yield "a racing run that fails", fault_of_run(RACING, output, 1) is not None
@@ -805,7 +805,7 @@ def racing_checks() -> Iterator[tuple[str, bool]]:
 
 
 def run_all() -> Iterator[tuple[str, bool]]:
-    """Each example's name, and whether the models give its answer."""
+    """Each example's name, and whether the models agree with it."""
     rows: list[Row | LiveRow] = [*ROWS, *LIVE_ROWS]
     for row in rows:
         failure = row.failure()

@@ -1,7 +1,7 @@
-"""All nodes, what was issued and what was shipped. Each node has the set of the operations that it heard.
+"""All nodes, and the operations and messages issued. Each node has the set of operations that it heard.
 
-A set of operations is a number: its bit k says that operation k + 1 is in it. No script is so long that incarnations, terms,
-counters or numbers of deltas run out, so no refusal for that is here.
+A set of operations is a number: bit k stands for operation k + 1. No script is long enough to use up incarnations,
+terms, counters or numbers of deltas, so their refusals are missing here.
 """
 
 from __future__ import annotations
@@ -24,23 +24,23 @@ REFUSALS = (
 
 
 class Refused(Exception):
-    """An event is refused, and nothing changes."""
+    """An event is refused, without effect."""
 
     def __init__(self, why: str) -> None:
         super().__init__(why)
         self.why = why
 
     def line(self) -> bytes:
-        """The line that the program prints for it."""
+        """The program's line for it."""
         return f"refused {REFUSALS.index(self.why) + 1} {self.why}".encode()
 
 
 class NoSuch(Exception):
-    """A number names no message, or no operation: the word for it, and the number."""
+    """A number without a message or an operation: the word for it, and the number."""
 
 
 def refuse(why: str, holds: bool) -> None:
-    """Refuses where the cause holds."""
+    """Refuses if the cause holds."""
     if holds:
         raise Refused(why)
 
@@ -54,7 +54,7 @@ class Shipped(Header):
 
 @dataclass
 class Running:
-    """A running node: what it heard, the log of what was added, what it keeps of its peers, and its moments and notes."""
+    """A running node: the set heard, the delta log, the peer table, and its moments and notes."""
 
     inc: int
     booted: int
@@ -75,11 +75,11 @@ class Running:
 
     @property
     def base(self) -> int:
-        """From which entry on an interval may begin."""
+        """The first entry where an interval can begin."""
         return max(0, self.count - MOST_DELTAS, self.trimmed)
 
     def add(self, operations: int) -> bool:
-        """Adds a set of operations. Whether it has any that the node hadn't heard."""
+        """Adds a set of operations, and returns whether the node hadn't heard all of it."""
         if operations & ~self.heard == 0:
             return False
         self.heard |= operations
@@ -94,7 +94,7 @@ class Running:
         return union
 
     def noted_moment(self, app: int, claim: Claim) -> int | None:
-        """Since when each note has found the claim lost, if the last one has."""
+        """The moment since which each note has found its claim lost, if the last one has."""
         moment = None
         for now, lost in reversed(self.notes):
             if lost.get(app) != claim:
@@ -105,7 +105,7 @@ class Running:
 
 @dataclass
 class Node:
-    """A node: the number of its last incarnation, and what it is while it runs."""
+    """A node: the number of its last incarnation, and its state if it runs."""
 
     last: int = 0
     running: Running | None = None
@@ -137,7 +137,7 @@ class World:
         return self.meaning(self.running(node).heard)
 
     def running(self, node: int) -> Running:
-        """A node that has to run."""
+        """A node, which must run."""
         running = self.nodes[node].running
         if running is None:
             raise Refused("Off")
@@ -148,7 +148,7 @@ class World:
         return self.nodes[node].running is not None
 
     def message(self, number: int) -> Message:
-        """The message of a number, with its body spelled."""
+        """The message of a number, with its body in written form."""
         shipped = self.shipped(number)
         body = None if shipped.kind == NOTHING else SpelledState.of(self.meaning(shipped.body))
         return Message(shipped.kind, shipped.sender, shipped.to, shipped.only, shipped.up_to, shipped.ack, body)
@@ -160,7 +160,7 @@ class World:
         return self.messages[number - 1]
 
     def issue(self, node: int, act: Act) -> int:
-        """Issues an operation at a running node. Its number."""
+        """Issues an operation at a running node, and returns its number."""
         running = self.running(node)
         own = [dot.n for dot in self.state(node).known if dot[:2] == (node, running.inc)]
         self.operations.append(Operation(Dot(node, running.inc, max(own, default=0) + 1), act))
@@ -170,34 +170,34 @@ class World:
     # Boots and crashes
 
     def boot(self, node: int, now: int) -> int:
-        """A node comes up. The number of the operation that says so."""
+        """A node comes up. Returns the number of its operation."""
         refuse("AlreadyOn", self.is_on(node))
         self.nodes[node].last += 1
         self.nodes[node].running = Running(self.nodes[node].last, now, now)
         return self.issue(node, Up())
 
     def crash(self, node: int) -> None:
-        """A node goes down and loses all but the number of its incarnation."""
+        """A node goes down and loses everything except the number of its incarnation."""
         self.running(node)
         self.nodes[node].running = None
 
     # Commands
 
     def active(self, node: int) -> Running:
-        """A node that has to run, and not to have heard that it is down."""
+        """A node, which must run and not have heard that it is down."""
         running = self.running(node)
         refuse("DeclaredDown", self.state(node).live(node) != running.inc)
         return running
 
     def down(self, node: int, about: int) -> int:
-        """The word that another node is down."""
+        """A node reports another one as down."""
         self.active(node)
         refuse("UnknownNode", about >= len(self.nodes))
         refuse("OnSelf", about == node)
         return self.issue(node, Down(about, self.live_inc(node, about)))
 
     def live_inc(self, node: int, about: int) -> int:
-        """The incarnation at which a node has to be live, by what another one knows."""
+        """A node's live incarnation, known to another one, which must exist."""
         inc = self.state(node).live(about)
         if inc is None:
             raise Refused("NotLive")
@@ -212,14 +212,14 @@ class World:
         return Key(app, about, self.live_inc(node, about))
 
     def permit(self, node: int, app: int, about: int, value: bool) -> int:
-        """A permission, in the place of all that stand at the key."""
+        """A permission, which replaces all that stand at the key."""
         key = self.key(node, app, about)
         over = self.state(node).standing_permits(key)
         refuse("TooManyDots", len(over) > MOST_OVER)
         return self.issue(node, Permit(key, value, over))
 
     def start(self, node: int, app: int, about: int, is_stop: bool = False) -> int:
-        """A start wish in the place of all that stand at the key, or their end."""
+        """A start wish, which replaces all that stand at the key, or their end."""
         key = self.key(node, app, about)
         over = self.state(node).standing_starts(key)
         refuse("NotStarted", is_stop and not over)
@@ -231,7 +231,7 @@ class World:
         return self.start(node, app, about, is_stop=True)
 
     def drain(self, node: int, about: int, value: bool) -> int:
-        """The word that a node is drained or isn't, in the place of all that stand at its live incarnation."""
+        """A drain or its end, which replaces all that stand at the node's live incarnation."""
         self.active(node)
         refuse("UnknownNode", about >= len(self.nodes))
         origin = Origin(about, self.live_inc(node, about))
@@ -240,7 +240,7 @@ class World:
         return self.issue(node, Drain(origin, value, over))
 
     def takeover(self, node: int, app: int) -> int:
-        """The node takes an application over from where it runs."""
+        """The node takes an application over from its holder."""
         self.active(node)
         refuse("UnknownApp", app >= len(self.config.apps))
         state, listed = self.state(node), self.config.apps[app]
@@ -263,7 +263,7 @@ class World:
     # Ticks
 
     def tick(self, node: int, now: int) -> list[int] | str:
-        """A node looks after its applications. The numbers of its claims, or `held`, or `gave up`."""
+        """A node ticks. Returns the numbers of its claims, or `held`, or `gave up`."""
         running = self.active(node)
         refuse("MomentBack", now < running.now)
         running.now = now
@@ -278,7 +278,7 @@ class World:
         return [number for number in issued if number is not None]
 
     def opening(self, running: Running, node: int) -> str:
-        """What the start gate says."""
+        """The start gate's decision."""
         config, state = self.config, self.state(node)
         live = {other for other in range(len(self.nodes)) if state.live(other) is not None}
         if config.sync_timeout is None or config.mandatory | config.optional <= live:
@@ -294,7 +294,7 @@ class World:
         running.notes.append((running.now, {app: claim for app, claim in found.items() if claim is not None}))
 
     def claim(self, node: int, app: int) -> int | None:
-        """Claims an application that the node is to have. The operation's number, if it does."""
+        """Claims an application if the node should have it. Returns the operation's number if so."""
         running, state = self.running(node), self.state(node)
         found = placement.verdict(self.config, state, app)
         if placement.candidate(self.config, state, app) != node or not self.is_due(running, state, app, found):
@@ -306,7 +306,7 @@ class World:
         return self.issue(node, ClaimAct(app, self.next_term(state, app), how, source))
 
     def is_due(self, running: Running, state: Meaning, app: int, found: placement.Verdict) -> bool:
-        """Whether what is to be done is to be done now: a failover waits, unless to where the application was."""
+        """Whether a verdict is due: a failover waits, unless it is to the application's last node."""
         if found.what != placement.FAILOVER:
             return True
         claim = state.claims[app]
@@ -316,7 +316,7 @@ class World:
     # Messages
 
     def ship(self, node: int, to: int) -> int:
-        """Ships what the other node hasn't acknowledged. The message's number."""
+        """Ships everything the other node hasn't acknowledged. Returns the message's number."""
         running = self.running(node)
         refuse("UnknownNode", to >= len(self.nodes))
         refuse("OnSelf", to == node)
@@ -335,7 +335,7 @@ class World:
         return len(self.messages)
 
     def hear(self, node: int, number: int) -> bool:
-        """A message is delivered to a node. Whether it brings something new."""
+        """Delivers a message to a node. Returns whether it brings something new."""
         message = self.shipped(number)
         running = self.running(node)
         refuse("OnSelf", message.sender.node == node)
@@ -350,13 +350,13 @@ class World:
         return is_new
 
     def get(self, running: Running, message: Shipped) -> None:
-        """Notes how far a sender's log came, and that the sender is owed an answer."""
+        """Notes a sender's position in its log, and that a reply is due."""
         peer = message.sender.node
         running.owed.add(peer)
         running.got[peer] = max(running.got.get(peer, (0, 0)), (message.sender.inc, message.up_to))
 
     def trim(self, running: Running, node: int) -> None:
-        """Drops what all other nodes have acknowledged."""
+        """Drops the entries that all other nodes have acknowledged."""
         lives = self.meaning(running.heard).lives
         others = [other for other in range(len(self.nodes)) if other != node]
         if not others or any(other not in lives for other in others):
@@ -367,13 +367,14 @@ class World:
             running.trimmed = max(running.trimmed, min(numbers))
 
     def hand(self, node: int, number: int) -> bool:
-        """A single operation is handed to a node. Whether it is new."""
+        """Delivers a single operation to a node. Returns whether it is new."""
         if not 1 <= number <= len(self.operations):
             raise NoSuch(b"operation", number)
         return self.running(node).add(1 << number - 1)
 
     def share(self) -> int:
-        """Each running node ships to each other one, and all is delivered at once. How many messages were shipped."""
+        """Each running node ships to every other one, and all is delivered at once. Returns the number of messages
+        shipped."""
         on = [node for node in range(len(self.nodes)) if self.is_on(node)]
         shipped = 0
         for node in on:
@@ -383,7 +384,7 @@ class World:
         return shipped
 
     def ship_and_hear(self, node: int, to: int) -> bool:
-        """Ships to a node and delivers there, where neither is refused. Whether something was shipped."""
+        """Ships to a node and delivers there, unless refused. Returns whether something was shipped."""
         try:
             number = self.ship(node, to)
         except Refused:

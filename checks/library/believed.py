@@ -1,4 +1,4 @@
-"""The page of one contract: all definitions that it rests on, with the types of the code, and the contract at the end."""
+"""The page of one contract: all definitions that it rests on, the types of the code, and the contract at the end."""
 
 import itertools
 import textwrap
@@ -11,39 +11,39 @@ from checks.library.resting import Rest, Resting
 from checks.library.views import View
 
 WIDTH = 110
-# how many functions are named at the end
+# the most functions named at the end
 MOST = 20
 
 
 class Asked(NamedTuple):
-    """What is asked about: words with a heading, and the lines of the contract."""
+    """The subject of a page: words with a heading, and the lines of a contract."""
 
     heading: str
     words: Tuple[Word, ...]
     contract: Tuple[str, ...]
     # the names of its clauses
     clauses: Tuple[str, ...]
-    # the functions whose clauses rest on it, if it is a definition
+    # for a definition, the functions whose clauses rest on it
     promising: Tuple[str, ...]
-    # as what the contract sees values of the code
+    # the contract's views of the code's values
     views: Tuple[View, ...]
 
 
 def wrapped(text: str, before: str) -> List[str]:
-    """A text in lines, each behind these signs."""
+    """A text wrapped into lines with a prefix."""
     return textwrap.wrap(text, WIDTH, initial_indent=before, subsequent_indent=before, break_on_hyphens=False)
 
 
 def lines_in(texts: Sequence[Tuple[str, ...]]) -> int:
-    """How many lines these have that aren't empty and no comments."""
+    """The number of lines that are neither empty nor comments."""
     return sum(1 for text in texts for line in text if line.strip() and not line.strip().startswith(("///", "--")))
 
 
 class BelievedPage:
-    """What is printed for what is asked about."""
+    """The page of one subject."""
 
     def __init__(self, asked: Asked, resting: Resting) -> None:
-        """Finds what it rests on."""
+        """Finds the definitions that the subject rests on."""
         self.asked = asked
         self.resting = resting
         self.modules: Modules = resting.modules
@@ -53,7 +53,7 @@ class BelievedPage:
         found = [types.find(one) for one in self.rest.types]
         self.types = [one for one in found if one is not None]
         viewed = resting.under(asked.words + tuple(word for one in asked.views for word in one.words)).definitions
-        # what the views rest on besides
+        # further definitions that the views rest on
         self.more = [one for one in viewed if one not in set(self.rest.definitions)]
 
     def counts(self) -> str:
@@ -68,7 +68,7 @@ class BelievedPage:
         return f"{counted}; {views}" if self.asked.views else counted
 
     def lines(self) -> Iterator[str]:
-        """All that is printed."""
+        """The whole page."""
         yield from wrapped(f"What {self.asked.heading} rests on, lowest crate first.", "")
         yield ""
         for crate in self.modules.crates.order():
@@ -88,12 +88,12 @@ class BelievedPage:
                 yield from (*dedented(one), "")
 
     def _modules(self, definitions: Sequence[Definition]) -> Iterator[str]:
-        """Definitions in reading order, by modules."""
+        """Definitions by modules, in reading order."""
         for _, group in itertools.groupby(definitions, lambda one: (one.crate, one.module)):
             yield from self._module(list(group))
 
     def _views(self) -> Iterator[str]:
-        """As what the contract sees values of the code, with what this rests on besides."""
+        """The contract's views of values, with the definitions that only they need."""
         if not self.asked.views:
             return
         yield from wrapped("The contract sees values of the code by the views below. These rest on more definitions.", "")
@@ -105,7 +105,7 @@ class BelievedPage:
             yield from (*one.text, "")
 
     def _module(self, definitions: Sequence[Definition]) -> Iterator[str]:
-        """The definitions of a module, below what the module has."""
+        """The definitions of a module, after its header."""
         first = definitions[0]
         module = self.modules.of_file(first.crate, first.module, first.file)
         yield f"==== {first.crate}, {first.module.split('.', 1)[1]}"
@@ -117,7 +117,8 @@ class BelievedPage:
             under = one.under
 
     def _definition(self, one: Definition, under: Tuple[str, ...]) -> Iterator[str]:
-        """The lines of a definition. The blocks that it stands in come first, but for those that the one above it stood in."""
+        """The lines of a definition, after the blocks that it is in. Blocks that it shares with the previous definition
+        aren't repeated."""
         shared = len([1 for old, new in zip(under, one.under) if old == new])
         yield from one.under[shared:]
         before = " " * (len(one.text[0]) - len(one.text[0].lstrip())) + "-- "
@@ -128,7 +129,7 @@ class BelievedPage:
         yield from (*one.text, "")
 
     def _ending(self) -> Iterator[str]:
-        """The laws that are named, the words of the toolchain's libraries, and who rests on what was asked about."""
+        """The laws named, the words of the toolchain's libraries, and the functions that rest on the subject."""
         if self.rest.laws:
             names = ", ".join(one.name for one in self.rest.laws)
             yield from (*wrapped(f"These laws are named, which are proved: {names}.", ""), "")
@@ -146,5 +147,5 @@ class BelievedPage:
 
 
 def dedented(one: Declared) -> List[str]:
-    """A declaration from the left."""
+    """A declaration without indentation."""
     return textwrap.dedent("\n".join(one.text)).split("\n")

@@ -1,4 +1,4 @@
-"""What `./believe` prints."""
+"""The output of `./believe`."""
 
 import argparse
 import difflib
@@ -24,7 +24,7 @@ defined before it is used. Each crate begins with the types and constants of its
 the contract follows, with the views: a contract refers to a value of the code as its type's view defines. At the end come the
 words of the toolchain's libraries that are used, and the counts of all this.
 """
-# what is printed without a name
+# the name printed by default
 HEADLINE = "EachIsMeaning"
 
 
@@ -63,7 +63,7 @@ def parser() -> argparse.ArgumentParser:
 
 
 def of_function(one: Function, clause: str, resting: Resting) -> Asked:
-    """What is asked about a function."""
+    """The page's subject for a function."""
     heading = f"the contract of {'::'.join(one.shown())}, {one.file.relative_to(resting.modules.root)}:{one.line}"
     ghosts = tuple(f"    ghost {ghost.name} = {ghost.text}" for ghost in one.clauses if ghost.kind == "ghost")
     words = tuple(resting.cited_by_function(one, clause))
@@ -72,13 +72,13 @@ def of_function(one: Function, clause: str, resting: Resting) -> Asked:
 
 
 def of_definition(one: Definition, sources: Sources, resting: Resting) -> Asked:
-    """What is asked about a definition."""
+    """The page's subject for a definition."""
     heading = f"{one.name} of {one.crate}, {one.module.split('.', 1)[1]}"
     return Asked(heading, (one,), (), (), tuple(resting.promising(one, sources.public())), ())
 
 
 def asked_about(name: str, clause: str, sources: Sources, resting: Resting) -> List[Asked]:
-    """What a name may mean: functions, or else definitions."""
+    """The functions of a name, or else its definitions."""
     functions = sources.named(name)
     if functions:
         return [of_function(one, clause, resting) for one in functions]
@@ -90,7 +90,7 @@ def asked_about(name: str, clause: str, sources: Sources, resting: Resting) -> L
 
 
 def near_names(name: str, sources: Sources, modules: Modules) -> List[str]:
-    """Names that are written nearly so."""
+    """Names with a similar spelling."""
     functions = ["::".join(one.shown()[1:]) for one in sources.public()]
     definitions = [one.name for crate in modules.crates.order() for one in modules.definitions_of(crate)]
     return [f"there is {one}" for one in difflib.get_close_matches(name, functions + definitions, 3)]
@@ -117,14 +117,15 @@ def believe(arguments: argparse.Namespace) -> int:
 
 
 def listed(title: str, items: Sequence[str]) -> None:
-    """Prints a title with a number, and what it counts."""
+    """Prints a title with a count, and the items counted."""
     print(f"{len(items)} {title}{':' if items else ''}")
     if items:
         print("\n".join(wrapped("; ".join(items), "    ")))
 
 
 def check() -> int:
-    """Compares docs/PROMISES.md and docs/sources.txt with the contracts and the definitions. The status is 1 if a name is missing."""
+    """Compares docs/PROMISES.md and docs/sources.txt with the contracts and definitions. The status is 1 if a name is
+    missing."""
     modules, sources = Modules(), Sources()
     promises = Promises(modules.root, sources)
     faults = [*DefinitionSources(modules.root).faults(modules), *promises.faults()]
@@ -137,7 +138,7 @@ def check() -> int:
 
 
 def print_promises(crate: str) -> int:
-    """Prints the public functions of all crates or of one, with the comments of their contracts."""
+    """Prints the public functions of one crate or all, with the comments of their contracts."""
     modules, sources = Modules(), Sources()
     page = PromisePage(sources, Resting(modules))
     if crate and crate not in page.crates():
@@ -148,14 +149,14 @@ def print_promises(crate: str) -> int:
 
 
 def print_all() -> int:
-    """Prints the page of all definitions that contracts name."""
+    """Prints the page of all definitions named by contracts."""
     modules, sources = Modules(), Sources()
     print("\n".join(Page(modules, sources, Resting(modules)).lines()))
     return 0
 
 
 def ran(asked: argparse.Namespace) -> int:
-    """Runs what was asked for."""
+    """Runs the command asked for."""
     if asked.promises:
         return print_promises(asked.name)
     if asked.all:
@@ -164,7 +165,7 @@ def ran(asked: argparse.Namespace) -> int:
 
 
 def main(arguments: Sequence[str]) -> int:
-    """Runs the command. Who reads its output may stop early."""
+    """Runs the command. Its reader may close the output early."""
     try:
         status = ran(parser().parse_args(arguments))
         sys.stdout.flush()

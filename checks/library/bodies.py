@@ -1,4 +1,4 @@
-"""Finds the functions of a crate's code, and the edits that change nothing but the body of one of them."""
+"""Finds the functions of a crate's code, and the edits that change only the body of one of them."""
 
 import bisect
 import pathlib
@@ -9,21 +9,21 @@ from checks.library.contracts import Function, SourceFile
 from checks.library.modules import depth_of
 
 CYCLE = re.compile(r"#\[cycle\b")
-# What a line of a body can't begin with: it would say something to others than this function.
+# A line of a body can't begin with these, because they would concern more than this function.
 ITEM = re.compile(r"\s*(pub|use|ghost|requires|ensures|const|static|struct|enum|type|trait|impl|mod|fn|unsafe|macro_rules)\b|\s*#")
 # The trait that an impl is of.
 OF_TRAIT = re.compile(r"^impl\b.*?(?P<trait>\w+)(?:<[^{}]*>)? for ")
 
 
 class Change(NamedTuple):
-    """A text of a file that stands there once, and the one for it."""
+    """A text that a file contains once, and its replacement."""
 
     old: str
     new: str
 
 
 class Edit(NamedTuple):
-    """An edit: its name, its file in the crate, and what it changes there in turn."""
+    """An edit: its name, its file in the crate, and its changes in order."""
 
     name: str
     file: str
@@ -35,22 +35,22 @@ class Body(NamedTuple):
 
     file: str
     modules: Tuple[str, ...]
-    # its type or its trait, if any, and in an impl of a trait that trait
+    # its type or trait, if any; in an impl of a trait, that trait
     of: str
     trait: str
     name: str
-    # the numbers of its first line, with the attributes above it, of the first line within its braces, and of its end
+    # the line numbers of its beginning with attributes, of the first line within its braces, and of its end
     line: int
     first: int
     last: int
 
     def holds(self, line: int) -> bool:
-        """Whether a line is one of the function's."""
+        """Whether a line is part of the function."""
         return self.line <= line <= self.last
 
 
 def changes_in(text: str) -> Iterator[Tuple[str, Change]]:
-    """The changes that the text of an edit has, in turn, each with the file that it is of."""
+    """The changes of an edit's text in order, each with its file."""
     name, old = "", ""
     for line in text.split("\n"):
         if line.startswith("file: "):
@@ -63,7 +63,7 @@ def changes_in(text: str) -> Iterator[Tuple[str, Change]]:
 
 
 def edit_in(name: str, text: str) -> Optional[Edit]:
-    """The edit of this name that a text has, if it changes one file of code."""
+    """The edit of this name in a text, if it changes a single file of code."""
     found = list(changes_in(text))
     names = sorted({name for name, _ in found})
     is_code = len(names) == 1 and names[0].startswith("src/") and names[0].endswith(".rt")
@@ -71,7 +71,7 @@ def edit_in(name: str, text: str) -> Optional[Edit]:
 
 
 def applied(edit: Edit, text: str) -> Optional[str]:
-    """The text of a file with an edit, or nothing where it can't be applied."""
+    """A file's text after an edit, or nothing if it doesn't apply."""
     for change in edit.changes:
         if not change.old or text.count(change.old) != 1:
             return None
@@ -80,14 +80,14 @@ def applied(edit: Edit, text: str) -> Optional[str]:
 
 
 def changed_lines(before: str, after: str) -> Iterator[Tuple[int, str]]:
-    """The lines that differ, with their numbers: what they were, and what they are."""
+    """The differing lines with their numbers, before and after."""
     for number, (old, new) in enumerate(zip(before.split("\n"), after.split("\n")), 1):
         if old != new:
             yield from ((number, old), (number, new))
 
 
 class Code:
-    """The code of a crate: its files, and the functions in them."""
+    """The code of a crate: its files, and their functions."""
 
     def __init__(self, folder: pathlib.Path) -> None:
         """Reads all files of code of a crate."""
@@ -99,7 +99,7 @@ class Code:
             self.bodies[name] = list(bodies_in(name, file))
 
     def body_of(self, edit: Edit) -> Optional[Body]:
-        """The function whose body is all that an edit changes, if there is one."""
+        """The function that contains all changes of an edit in its body, if there is one."""
         before = self.texts.get(edit.file, "")
         after = applied(edit, before)
         if after is None or after == before or after.count("\n") != before.count("\n"):
@@ -111,14 +111,14 @@ class Code:
         return found.pop() if len(found) == 1 else None
 
     def body_at(self, file: str, line: int) -> Optional[Body]:
-        """The function that has this line between its braces."""
+        """The function with this line between its braces."""
         bodies = self.bodies[file]
         place = bisect.bisect([body.first for body in bodies], line) - 1
         return bodies[place] if place >= 0 and line < bodies[place].last else None
 
 
 def bodies_in(name: str, file: pathlib.Path) -> Iterator[Body]:
-    """The functions of a file that have a body and a proof of their own. Those of a cycle of calls have one proof."""
+    """A file's functions with a body and their own proof. Functions of a cycle of calls share one proof."""
     modules = tuple(one for one in pathlib.PurePath(name).with_suffix("").parts[1:] if one not in ("lib", "main"))
     source = SourceFile("", modules, file)
     for function in source.functions():
@@ -130,7 +130,7 @@ def bodies_in(name: str, file: pathlib.Path) -> Iterator[Body]:
 
 
 def lines_of(function: Function, lines: Sequence[str]) -> Optional[Tuple[int, int]]:
-    """The numbers of the first line between a function's braces and of the one that closes them, if it has several lines."""
+    """The numbers of the first line between a function's braces and of the closing one, if it has several lines."""
     depth = depth_of(lines[function.line - 1])
     opens = function.line + len(function.text) - 1
     if not function.text[-1].endswith(" {"):
@@ -145,7 +145,7 @@ def lines_of(function: Function, lines: Sequence[str]) -> Optional[Tuple[int, in
 
 
 def trait_above(lines: Sequence[str], place: int) -> str:
-    """The trait whose impl a function stands in, if it stands in one."""
+    """The trait whose impl contains a function, if there is one."""
     depth = depth_of(lines[place])
     above = (line for line in reversed(lines[:place]) if line.strip() and depth_of(line) < depth)
     match = OF_TRAIT.match(next(above, "").strip())
@@ -153,7 +153,7 @@ def trait_above(lines: Sequence[str], place: int) -> str:
 
 
 def line_above(lines: Sequence[str], place: int) -> int:
-    """The place of the first line of what stands right above a function: comments and attributes."""
+    """The position of the first of the comments and attributes directly above a function."""
     while place > 0 and lines[place - 1].strip() and not lines[place - 1].endswith(("{", "}", ";")):
         place -= 1
     return place

@@ -1,4 +1,4 @@
-"""What `checks/check-documents` runs and prints."""
+"""The checks that `checks/check-documents` runs and prints."""
 
 import argparse
 import sys
@@ -22,11 +22,11 @@ skipped. The status is 0 if none failed.
 
 
 class Check(NamedTuple):
-    """One check: what holds if it passes, and what finds its faults."""
+    """A check: what a pass means, and the function that finds faults."""
 
     holds: str
     faults: Callable[[], Iterator[str]]
-    # why it is skipped, or nothing
+    # why it is skipped, or empty
     lacks: str = ""
 
 
@@ -45,7 +45,7 @@ def document_list() -> List[Check]:
 
 
 def crate_list() -> List[Check]:
-    """The checks of crates.txt, and of the documents that show it."""
+    """The checks of crates.txt and of documents that repeat it."""
     crates = read_crates()
     return [
         Check("crates.txt has each crate", lambda: crate_checks.folder_faults(HERE, crates)),
@@ -57,7 +57,7 @@ def crate_list() -> List[Check]:
 
 
 def script_list(types: bool) -> List[Check]:
-    """The checks of edits and scripts, by the tools that are here."""
+    """The checks of edits and scripts with the tools available."""
     files = document_checks.files_of(HERE)
     no_types = script_checks.why_no_types() if types else "--no-types was given"
     no_shellcheck = script_checks.why_not("shellcheck")
@@ -72,7 +72,7 @@ def script_list(types: bool) -> List[Check]:
 
 
 def passes(check: Check) -> bool:
-    """Runs one check and prints what it found."""
+    """Runs one check and prints its faults."""
     faults = list(check.faults())
     print(f"{'FAILED' if faults else 'passed'}  {check.holds}")
     for fault in faults:

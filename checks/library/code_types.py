@@ -1,4 +1,4 @@
-"""Finds the declarations of types and constants of the code that definitions speak of."""
+"""Finds the declarations of the code's types and constants that definitions use."""
 
 import pathlib
 import re
@@ -20,12 +20,12 @@ class Declared(NamedTuple):
 
 
 def is_above(line: str) -> bool:
-    """Whether a line belongs to the declaration below it, as a comment does."""
+    """Whether a line belongs to the declaration below it, as comments do."""
     return line.strip().startswith("///")
 
 
 def text_at(lines: List[str], place: int) -> Tuple[str, ...]:
-    """The declaration that begins at a line, with its comment, and without what is derived."""
+    """The declaration that begins at a line, with its comment, without `derive`."""
     first = place
     while first > 0 and (is_above(lines[first - 1]) or lines[first - 1].strip().startswith("#[")):
         first -= 1
@@ -49,12 +49,12 @@ class CodeTypes:
     """The declarations of all crates."""
 
     def __init__(self, root: pathlib.Path) -> None:
-        """Nothing is read before it is asked for."""
+        """Reads nothing until asked."""
         self.root = root
         self._by_crate: Dict[str, Dict[str, Declared]] = {}
 
     def find(self, one: CodeType) -> Optional[Declared]:
-        """The declaration of a type or a constant, if it is found."""
+        """The declaration of a type or constant, if found."""
         if one.crate not in self._by_crate:
             files = sorted((self.root / "crates" / one.crate / "src").glob("**/*.rt"))
             found = [each for file in files for each in declarations_in(one.crate, file)]

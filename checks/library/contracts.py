@@ -16,9 +16,9 @@ SUBMODULE = re.compile(r"^(?P<public>pub )?mod (?P<name>\w+);", re.MULTILINE)
 
 
 class Clause(NamedTuple):
-    """One clause of a contract."""
+    """A clause of a contract."""
 
-    # `requires`, `ensures`, or `ghost` for a member of a trait or of its impl
+    # `requires`, `ensures`, or `ghost` for a member of a trait or its impl
     kind: str
     name: str
     text: str
@@ -28,9 +28,9 @@ class Function(NamedTuple):
     """A function with its contract."""
 
     crate: str
-    # the modules that its file is in, lowest last
+    # the modules of its file, lowest last
     modules: Tuple[str, ...]
-    # the type or the trait that it is of, if any
+    # its type or trait, if any
     of: str
     name: str
     file: pathlib.Path
@@ -39,26 +39,26 @@ class Function(NamedTuple):
     above: Tuple[str, ...]
     text: Tuple[str, ...]
     clauses: Tuple[Clause, ...]
-    # what the file's definitions are imported from
+    # the file's imports of definitions
     imports: Tuple[Import, ...]
     public: bool
 
     def shown(self) -> Tuple[str, ...]:
-        """Its name as users write it."""
+        """Its name in users' code."""
         return tuple(one for one in (self.crate, self.of, self.name) if one)
 
     def whole(self) -> Tuple[str, ...]:
-        """Its name with the modules that it stands in."""
+        """Its name with its modules."""
         return tuple(one for one in (self.crate, *self.modules, self.of, self.name) if one)
 
 
 def without_comments(line: str) -> str:
-    """A line of code without what stands behind `//`."""
+    """A line of code up to its comment."""
     return re.sub(r"//.*$", "", line)
 
 
 def clauses_of(lines: List[str]) -> Iterator[Clause]:
-    """The clauses that stand between a function's head and its body."""
+    """The clauses between a function's head and its body."""
     kind, name, text = "", "", [""]
     for line in lines:
         match = CLAUSE.match(line)
@@ -73,7 +73,7 @@ def clauses_of(lines: List[str]) -> Iterator[Clause]:
 
 
 def head_of(lines: List[str], place: int) -> List[str]:
-    """The lines of a function from its name up to its body."""
+    """The lines of a function from its name to its body."""
     depth = depth_of(lines[place])
     clauses = False
     for number in range(place, len(lines)):
@@ -95,7 +95,7 @@ def comment_above(lines: List[str], place: int) -> List[str]:
 
 
 def name_of_block(rest: str) -> str:
-    """The type or the trait that a block is of: for `impl Trait for Type` the type."""
+    """The type or trait of a block; for `impl Trait for Type` the type."""
     rest = re.sub(r"\bwhere\b.*$", "", rest.rstrip("{ "))
     while re.search(r"<[^<>]*>", rest):
         rest = re.sub(r"<[^<>]*>", "", rest)
@@ -105,18 +105,18 @@ def name_of_block(rest: str) -> str:
 
 
 class Block(NamedTuple):
-    """A block that functions stand in."""
+    """A block with functions."""
 
     depth: int
     of: str
-    # whether its functions are those of a trait
+    # whether it is a trait or an impl of one
     is_of_trait: bool
-    # the ghost members of a trait or of its impl, which the contracts of its functions speak of
+    # the ghost members of a trait or its impl, which the contracts of its functions cite
     ghosts: Tuple[Clause, ...]
 
 
 def ghosts_in(lines: List[str], place: int) -> Iterator[Clause]:
-    """The ghost members of the block that begins in a line, but for its laws."""
+    """The ghost members, except laws, of the block that begins at a line."""
     depth = depth_of(lines[place])
     text: List[str] = []
     name = ""
@@ -134,7 +134,7 @@ def ghosts_in(lines: List[str], place: int) -> Iterator[Clause]:
 
 
 class SourceFile:
-    """One file of code: its functions and its imports of definitions."""
+    """A file of code: its functions and its imports of definitions."""
 
     def __init__(self, crate: str, modules: Tuple[str, ...], file: pathlib.Path) -> None:
         """Reads the file."""
@@ -144,7 +144,7 @@ class SourceFile:
         self.imports = tuple(one for one in found if one is not None)
 
     def functions(self) -> Iterator[Function]:
-        """Its functions, with the blocks that they stand in."""
+        """Its functions, with their blocks."""
         blocks: List[Block] = []
         for place, line in enumerate(self.lines):
             while blocks and line.strip() and depth_of(line) <= blocks[-1].depth:
@@ -156,13 +156,13 @@ class SourceFile:
                 yield self._function(place, function, blocks)
 
     def _block(self, place: int, match: "re.Match[str]") -> Block:
-        """The block that begins in a line."""
+        """The block that begins at a line."""
         is_of_trait = match["kind"] == "trait" or " for " in match["rest"]
         ghosts = tuple(ghosts_in(self.lines, place)) if is_of_trait else ()
         return Block(depth_of(self.lines[place]), name_of_block(match["rest"]), is_of_trait, ghosts)
 
     def _function(self, place: int, match: "re.Match[str]", blocks: List[Block]) -> Function:
-        """The function whose name stands in a line."""
+        """The function whose name is in a line."""
         block = blocks[-1] if blocks else Block(-1, "", False, ())
         head = head_of(self.lines, place)
         return Function(
@@ -184,12 +184,12 @@ class Sources:
     """The functions of all crates."""
 
     def __init__(self, root: pathlib.Path = HERE) -> None:
-        """Reads the sources of all crates but those of tests."""
+        """Reads the sources of all crates except tests."""
         self.root = root
         self.crates = read_crates(root)
         tests = self.crates.layers.get("Tests", ())
         self.functions: List[Function] = []
-        # the names that a crate hands on from another one, with that one
+        # each crate's re-exported names, with the crates that they come from
         self.handed: Dict[str, Dict[str, str]] = {}
         for crate in self.crates.order():
             if crate not in tests:
@@ -213,7 +213,7 @@ class Sources:
             self.functions.append(one._replace(public=one.public and (not inside or (one.of or one.name) in shown)))
 
     def _handed_on(self, crate: str, text: str) -> Iterator[str]:
-        """The names that a text hands on. Those of other crates are kept with their crate."""
+        """The names re-exported by a text. Those of other crates are recorded with their crate."""
         for match in HANDED.finditer(text):
             first = match["path"].split("::")[0]
             names = match["names"] if match["names"] is not None else match["path"].split("::")[-1]
@@ -223,11 +223,11 @@ class Sources:
                 yield name
 
     def public(self) -> List[Function]:
-        """The functions that other crates can call, where they have clauses."""
+        """The functions with clauses that other crates can call."""
         return [one for one in self.functions if one.public and one.clauses]
 
     def named(self, name: str) -> List[Function]:
-        """The public functions that a name may mean. Those that need no more names to be told apart come alone."""
+        """The public functions that a name can mean. If some match without further qualification, only those."""
         asked = tuple(name.split("::"))
         while len(asked) > 1 and asked[1] in self.handed.get(asked[0], {}):
             asked = (self.handed[asked[0]][asked[1]],) + asked[1:]
@@ -237,7 +237,7 @@ class Sources:
 
 
 def is_within(asked: Tuple[str, ...], whole: Tuple[str, ...]) -> bool:
-    """Whether these names stand in a whole name in this order, the last one at its end."""
+    """Whether these names occur in a whole name in this order, the last one at its end."""
     if not asked or asked[-1] != whole[-1]:
         return False
     rest: Optional[Iterator[str]] = iter(whole[:-1])

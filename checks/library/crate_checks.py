@@ -1,4 +1,4 @@
-"""Checks that crates.txt lists what is named, and that docs/ARCHITECTURE.md shows the crates as crates.txt has them."""
+"""Checks that crates.txt lists the crates that are named, and that docs/ARCHITECTURE.md agrees with crates.txt."""
 
 import pathlib
 import re
@@ -12,7 +12,7 @@ DEFINITION_PATH = re.compile(r"\bRattle\.(\w+)\b")
 
 
 def layer_faults(crates: Crates) -> Iterator[str]:
-    """Crates that list one of a layer above, or one that stands later in the file."""
+    """Crates that list one of a higher layer, or one further down in the file."""
     order = crates.order()
     for place, crate in enumerate(order):
         for below in crates.listed[crate]:
@@ -23,7 +23,7 @@ def layer_faults(crates: Crates) -> Iterator[str]:
 
 
 def named_in(folder: pathlib.Path, known: FrozenSet[str]) -> FrozenSet[str]:
-    """The crates and libraries that the files of a crate name."""
+    """The crates and libraries named by a crate's files."""
     named = set()
     for file in folder.rglob("*"):
         if "out" in file.relative_to(folder).parts or file.suffix not in (".rt", ".antt"):
@@ -39,7 +39,7 @@ def named_in(folder: pathlib.Path, known: FrozenSet[str]) -> FrozenSet[str]:
 
 
 def listing_faults(root: pathlib.Path, crates: Crates) -> Iterator[str]:
-    """Crates that list what they don't name, or name what they don't list."""
+    """Crates that list a crate without naming it, or name one without listing it."""
     known = frozenset(crates.listed) | frozenset(one for names in crates.listed.values() for one in names)
     for crate, listed in crates.listed.items():
         named = named_in(root / "crates" / crate, known) - {crate}
@@ -59,7 +59,7 @@ def folder_faults(root: pathlib.Path, crates: Crates) -> Iterator[str]:
 
 
 def lists_of(root: pathlib.Path) -> Dict[str, List[str]]:
-    """The crates that docs/ARCHITECTURE.md lists, by layers."""
+    """The crates listed in docs/ARCHITECTURE.md, by layers."""
     found: Dict[str, List[str]] = {}
     text = (root / "docs" / "ARCHITECTURE.md").read_text(encoding="utf-8")
     section = text[text.index("## Crates, lowest first") :].split("\n## ")[0]
@@ -71,7 +71,7 @@ def lists_of(root: pathlib.Path) -> Dict[str, List[str]]:
 
 
 def list_faults(root: pathlib.Path, crates: Crates) -> Iterator[str]:
-    """Where these lists differ from crates.txt."""
+    """Differences between these lists and crates.txt."""
     lists = lists_of(root)
     if list(lists) != list(crates.layers):
         yield f"docs/ARCHITECTURE.md: the layers of the lists are {', '.join(lists)}"
@@ -84,7 +84,7 @@ def list_faults(root: pathlib.Path, crates: Crates) -> Iterator[str]:
 
 
 def drawing_faults(root: pathlib.Path, crates: Crates) -> Iterator[str]:
-    """Where the drawing of the layers differs from crates.txt."""
+    """Differences between the drawing of the layers and crates.txt."""
     text = (root / "docs" / "ARCHITECTURE.md").read_text(encoding="utf-8")
     drawn: Dict[str, List[str]] = {}
     for line in text.split("```")[1].split("\n"):

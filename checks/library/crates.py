@@ -1,4 +1,4 @@
-"""Reads crates.txt: the layers, and what each crate lists."""
+"""Reads crates.txt: the layers, and the crates that each crate lists."""
 
 import pathlib
 from typing import Dict, FrozenSet, Iterator, List, NamedTuple, Tuple
@@ -7,11 +7,11 @@ HERE = pathlib.Path(__file__).resolve().parent.parent.parent
 
 
 class Crates(NamedTuple):
-    """What crates.txt says."""
+    """The contents of crates.txt."""
 
     # the crates of each layer, lowest first, by the layer's first word
     layers: Dict[str, Tuple[str, ...]]
-    # what each crate lists: crates of the repository, and libraries of the toolchain
+    # the crates of the repository and libraries of the toolchain that each crate lists
     listed: Dict[str, Tuple[str, ...]]
 
     def order(self) -> List[str]:
@@ -19,11 +19,11 @@ class Crates(NamedTuple):
         return [crate for crates in self.layers.values() for crate in crates]
 
     def layer_of(self, crate: str) -> str:
-        """The layer that a crate stands in."""
+        """The layer of a crate."""
         return next(layer for layer, crates in self.layers.items() if crate in crates)
 
     def below(self, crate: str) -> FrozenSet[str]:
-        """All crates that a crate uses, also those that it uses by others."""
+        """All crates that a crate uses, directly or not."""
         found = set()
         left = list(self.listed.get(crate, ()))
         while left:
@@ -35,12 +35,12 @@ class Crates(NamedTuple):
 
 
 def layer_named(line: str) -> str:
-    """The layer that a comment line names: its first word, before a sign."""
+    """The layer named by a comment line: its first word, before any sign."""
     return line[1:].replace(",", ":").split(":")[0].strip()
 
 
 def lines_of(root: pathlib.Path) -> Iterator[str]:
-    """The lines of crates.txt that aren't empty, without the sentence at its top."""
+    """The nonempty lines of crates.txt, without the sentence at its top."""
     for place, line in enumerate((root / "crates.txt").read_text(encoding="utf-8").split("\n")):
         if line.strip() and place > 0:
             yield line.strip()

@@ -1,4 +1,4 @@
-"""Finds the definitions and lemmas that nothing reaches: no contract, no proof of a function, and no document."""
+"""Finds definitions and lemmas that no contract, no proof of a function and no document reaches."""
 
 import argparse
 import pathlib
@@ -20,16 +20,16 @@ reached names it. Only names are compared and nothing is proved, so after removi
 
 Each name has a line with its place. The last line counts them and their lines. The status is 0 if there are none.
 """
-# the files of a function's proof; the other ones of proofs/ have lemmas
+# the files of a function's proof; other files of proofs/ contain lemmas
 OF_A_FUNCTION = ("Answers.antt", "Invariants.antt")
 FOLDERS = ("specs", "proofs")
-# a statement of what limits are, which no other declaration needs to name
+# a statement of limits, which no other declaration needs to name
 PINS = "the_limits"
 # a path in an attribute, as `using(crate::proofs::Loops::apps)`
 ATTRIBUTE = re.compile(r"\bcrate::(specs|proofs)((?:::[^\s(),:]+)+)")
 RULESET = re.compile(r"^(?:pub )?ruleset (?P<name>\S+)")
 UNFOLDING = "unfolding "
-# a name in backticks, which may have signs
+# a name in backticks, possibly with signs
 WORD = re.compile(r"[^\s:,;(){}]+")
 
 Path = Tuple[str, ...]
@@ -52,7 +52,7 @@ class AllModules(Modules):
                 yield module
 
     def look(self, path: Path) -> Union[Module, Path, None]:
-        """Where a path leads, also into proofs/."""
+        """The module of a path, also in proofs/."""
         if len(path) < 3 or path[1] != "proofs" or path[0] not in self.crates.listed or path[2] in GENERATED:
             return super().look(path)
         file = (self.root / "crates" / path[0]).joinpath(*path[1:]).with_suffix(".antt")
@@ -60,21 +60,21 @@ class AllModules(Modules):
 
 
 class Reached:
-    """What is reached, by walking from the roots over what each declaration names."""
+    """The declarations reached from the roots by following the names in each declaration."""
 
     def __init__(self, root: pathlib.Path = HERE) -> None:
         """Reads all declarations."""
         self.root = root
         self.modules = AllModules(root)
         self.by_crate = {crate: self.modules.all_of(crate) for crate in self.modules.crates.order()}
-        # each declaration with its module and its text
+        # each declaration with its module and text
         self.words: Dict[Definition, Tuple[Module, str]] = {}
         for modules in self.by_crate.values():
             for module in modules:
                 self.words.update((one, (module, text)) for one, text in texts_of(module))
 
     def dead(self) -> List[Definition]:
-        """The declarations that nothing reaches, in the order of crates, files and lines."""
+        """The declarations not reached, in the order of crates, files and lines."""
         found: Set[Definition] = set()
         left = list(self.roots())
         while left:
@@ -86,7 +86,7 @@ class Reached:
         return [one for one in self.words if one not in found]
 
     def roots(self) -> Iterator[Definition]:
-        """What the code, the proofs of functions and the documents name."""
+        """The names in the code, the proofs of functions and the documents."""
         for crate in self.modules.crates.order():
             folder = self.root / "crates" / crate
             for file in sorted(folder.glob("src/**/*.rt")):
@@ -103,14 +103,14 @@ class Reached:
         yield from (one for one in self.words if name_of(one) in named)
 
     def documented(self) -> Iterator[str]:
-        """The names that documents have in backticks, and those of the list of sources."""
+        """The names in backticks in documents, and those of the list of sources."""
         for line in Documents(self.root).lines:
             for span in SPAN.findall(line.text):
                 yield from (*NAME.findall(span), *WORD.findall(span))
         yield from (tag.name for tag in DefinitionSources(self.root).tags)
 
     def cited(self, text: str, imports: Sequence[Import], own: Optional[Module] = None) -> Iterator[Definition]:
-        """What a text names. A name that it binds too counts all the same."""
+        """The names in a text, including those that it binds itself."""
         scope = Scope(self.modules, imports, own)
         tokens = tokens_of(text)
         signs = dict(scope.operators(tokens))
@@ -124,7 +124,7 @@ class Reached:
                     yield from self.found((*scope.aliases[head], *rest[:place]), name)
 
     def found(self, path: Path, name: str) -> Iterator[Definition]:
-        """The declaration of this name in the module that a path leads to, if it is there."""
+        """The declaration of this name in the module of a path, if there is one."""
         one = self.modules.find(path, name)
         if isinstance(one, Definition):
             yield one
@@ -145,7 +145,7 @@ def name_of(one: Definition) -> str:
 
 
 def texts_of(module: Module) -> Iterator[Tuple[Definition, str]]:
-    """The declarations of a module with their texts. A line `unfolding` belongs to the declaration below it."""
+    """A module's declarations with their texts. A line `unfolding` belongs to the declaration below it."""
     above: List[str] = []
     for one in module.definitions.values():
         own = list(one.text)
@@ -157,17 +157,17 @@ def texts_of(module: Module) -> Iterator[Tuple[Definition, str]]:
 
 
 def place_of(one: Definition) -> str:
-    """Where a declaration stands, and its name."""
+    """The place and name of a declaration."""
     return f"{one.file.relative_to(HERE)}:{one.line}: {name_of(one)}"
 
 
 def dead_faults() -> Iterator[str]:
-    """Each declaration of the repository that nothing reaches."""
+    """Each declaration of the repository that isn't reached."""
     return (place_of(one) for one in Reached().dead())
 
 
 def lines_of(one: Definition) -> int:
-    """How many lines a declaration has that aren't empty."""
+    """The number of nonempty lines of a declaration."""
     return sum(1 for line in one.text if line.strip() and not line.strip().startswith(UNFOLDING))
 
 

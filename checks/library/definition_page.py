@@ -1,4 +1,4 @@
-"""Makes the page of all definitions that contracts name, of the comments above the definitions."""
+"""Makes the page of all definitions that contracts name, from the comments above the definitions."""
 
 import re
 import textwrap
@@ -10,20 +10,20 @@ from checks.library.definition_texts import INTRODUCTION, NAMES, OF_CRATES
 from checks.library.modules import Definition, Module, Modules
 from checks.library.resting import Resting
 
-# the definition whose rests are marked
+# the page marks the definitions that this one rests on
 HEADLINE = ("dac_model_world", "EachIsMeaning")
-# a comment that begins so, and says hardly more, is no row of its own
+# a comment that begins so and adds little gets no row
 SAME = re.compile(r"^the same, ")
 FEW_WORDS = 6
-# a comment that begins so goes on from the one above it
+# a comment that begins so continues the one above it
 GOES_ON = re.compile(r"^(so (?!many)|the same\b|they\b|what they\b)", re.IGNORECASE)
-# the longest definition that stands in the place of a comment
+# the longest definition shown instead of a comment
 FEW_SIGNS = 130
 WIDTH = 130
 
 
 class Row(NamedTuple):
-    """One row: definitions with one comment."""
+    """A row: definitions that share a comment."""
 
     module: str
     definitions: Tuple[Definition, ...]
@@ -32,15 +32,15 @@ class Row(NamedTuple):
 
 
 class Chosen(NamedTuple):
-    """The definitions that have a row, and those of them that the headline rests on."""
+    """The definitions with a row, and those of them that the headline rests on."""
 
     definitions: Tuple[Definition, ...]
     marked: Set[Definition]
 
 
 def chosen_of(modules: Modules, sources: Sources, resting: Resting) -> Chosen:
-    """Each definition that a clause of a public function names, and each that the headline rests on, in reading order. One whose
-    comment goes on from that of the one above it brings that one along."""
+    """Each definition that a public function's clause names or that the headline rests on, in reading order. One whose
+    comment continues the one above it also brings that one."""
     words = (word for one in sources.public() for word in resting.cited_by_function(one))
     named = {word for word in words if isinstance(word, Definition) and not word.is_law()}
     headline = [one for one in modules.definitions_of(HEADLINE[0]) if one.name == HEADLINE[1]]
@@ -56,7 +56,7 @@ def chosen_of(modules: Modules, sources: Sources, resting: Resting) -> Chosen:
 
 
 def one_above(one: Definition, modules: Modules) -> Optional[Definition]:
-    """The definition above this one, if this one's comment goes on from there."""
+    """The definition above, if this one's comment continues its comment."""
     module = modules.of_file(one.crate, one.module, one.file)
     if module is None or says_little(one) or not GOES_ON.match(" ".join(one.comment)):
         return None
@@ -65,25 +65,26 @@ def one_above(one: Definition, modules: Modules) -> Optional[Definition]:
 
 
 def says_little(one: Definition) -> bool:
-    """Whether the comment above a definition only says that it is the same in another form."""
+    """Whether a definition's comment only calls it another form of the same."""
     comment = " ".join(one.comment)
     return SAME.match(comment) is not None and len(comment.split()) <= FEW_WORDS
 
 
 def equations_of(one: Definition) -> str:
-    """What a definition without a comment says, if that is short."""
+    """The text of a definition without a comment, if it is short."""
     text = " ".join(" ".join(one.text[1:]).split())
     return "" if one.comment or len(text) > FEW_SIGNS else text
 
 
 def goes_with(one: Definition, group: List[Definition]) -> bool:
-    """Whether a definition has a row with those before it: its comment says little, or neither they nor it say anything here."""
+    """Whether a definition shares the row of those before it: its comment adds little, or neither they nor it have a
+    text here."""
     is_silent = not one.comment and not equations_of(one)
     return says_little(one) or is_silent and bool(group) and not group[-1].comment and not equations_of(group[-1])
 
 
 def groups_of(module: Module, chosen: Set[Definition]) -> Iterator[List[Definition]]:
-    """The chosen definitions of a module in its order, by rows."""
+    """The chosen definitions of a module in order, by rows."""
     group: List[Definition] = []
     for one in module.definitions.values():
         if not goes_with(one, group):
@@ -96,8 +97,8 @@ def groups_of(module: Module, chosen: Set[Definition]) -> Iterator[List[Definiti
 
 
 def said_of(one: Definition, module: Module) -> str:
-    """What a row says of its first definition: the comment above it. If there is none, then the definition itself if it is short
-    and not the module's first one, or else what is said of the module."""
+    """A row's text: the comment above its first definition, or without one the definition, if it is short and not the
+    module's first, or the module's comment."""
     if one.comment:
         return " ".join(one.comment)
     equations = equations_of(one)
@@ -114,12 +115,12 @@ def rows_of(module: Module, chosen: Set[Definition], sources: DefinitionSources)
 
 
 def name_of(one: Definition, marked: Set[Definition]) -> str:
-    """A name as the list has it: bold if the headline rests on it."""
+    """A name in the list: bold if the headline rests on it."""
     return f"**`{one.name}`**" if one in marked else f"`{one.name}`"
 
 
 def list_of(rows: List[Row], marked: Set[Definition]) -> Iterator[str]:
-    """The lists of a crate, one for each module."""
+    """The lists of a crate, one per module."""
     above = ""
     for row in rows:
         if row.module != above:
@@ -134,27 +135,27 @@ class Page:
     """The page of definitions, by layers, crates and modules."""
 
     def __init__(self, modules: Modules, sources: Sources, resting: Resting) -> None:
-        """Reads what the lists are made of."""
+        """Reads the sources of the lists."""
         self.modules = modules
         self.tags = DefinitionSources(modules.root)
         self.chosen = chosen_of(modules, sources, resting)
 
     def lines(self) -> Iterator[str]:
-        """All that is printed."""
+        """The whole page."""
         yield from (*INTRODUCTION.strip().replace("COUNTS", self.counts()).split("\n"), "", *NAMES.strip().split("\n"))
         for layer, crates in self.modules.crates.layers.items():
             parts = [line for crate in crates for line in self._of_crate(crate)]
             yield from ("", f"## {layer}", *parts) if parts else ()
 
     def counts(self) -> str:
-        """The sentence that counts."""
+        """The sentence with the counts."""
         crates = self.modules.crates.order()
         every = sum(len(self.modules.definitions_of(crate)) for crate in crates)
         few = f"{len(self.chosen.definitions):,} of the {every:,} definitions"
         return f"The lists have {few}. In bold are the {len(self.chosen.marked)} that the headline rests on."
 
     def _of_crate(self, crate: str) -> List[str]:
-        """The part of a crate, if it has rows or a text of its own: its modules in reading order."""
+        """A crate's section, if it has rows or its own text, with modules in reading order."""
         chosen = set(self.chosen.definitions)
         paths = dict.fromkeys(one.module for one in self.chosen.definitions if one.crate == crate)
         by_path = {module.path: module for module in self.modules.all_of(crate)}

@@ -1,4 +1,4 @@
-"""Reads docs/sources.txt: from where definitions are, if they aren't this project's own."""
+"""Reads docs/sources.txt: the sources of definitions that aren't this project's own."""
 
 import pathlib
 from typing import Dict, Iterator, List, NamedTuple, Tuple
@@ -16,7 +16,7 @@ class Tag(NamedTuple):
 
 
 def tags_of(text: str) -> Iterator[Tag]:
-    """The tags of a text. A source stands at a line's beginning. Below it, indented, stand a crate and its definitions."""
+    """The tags of a text. A source begins a line; its crates and definitions are indented below it."""
     source = ""
     for number, line in enumerate(text.split("\n"), 1):
         if not line.strip() or line.startswith("#"):
@@ -39,11 +39,11 @@ class DefinitionSources:
         self._by_name: Dict[Tuple[str, str], str] = {(one.crate, one.name): one.source for one in self.tags}
 
     def of(self, one: Definition) -> str:
-        """From where a definition is. The text is empty if it is this project's own."""
+        """The source of a definition, or an empty text if it is this project's own."""
         return self._by_name.get((one.crate, one.name), "")
 
     def faults(self, modules: Modules) -> Iterator[str]:
-        """The tags of definitions that aren't there."""
+        """The tags of missing definitions."""
         there = {(one.crate, one.name) for crate in modules.crates.order() for one in modules.definitions_of(crate)}
         for tag in self.tags:
             if (tag.crate, tag.name) not in there:

@@ -1,8 +1,8 @@
-"""What is written by hand on the page of definitions, which `./believe --all` prints."""
+"""The texts on the page of definitions (`./believe --all`) that are written by hand."""
 
 from typing import Dict
 
-# what stands at the top, with the sentence that counts in the place of the word COUNTS
+# the top of the page; COUNTS stands for the sentence with the counts
 INTRODUCTION = """
 # Definitions
 
@@ -19,7 +19,7 @@ The others are OTP's manuals, at www.erlang.org/doc: kernel(6) is the page of th
 the module `application`. What has no source, here or in a comment of its module, is this project's own choice.
 """
 
-# the words that definitions use, before the first layer
+# the words used by definitions, before the first layer
 NAMES = """
 ## Names
 
@@ -37,7 +37,7 @@ The limits, which contracts cite by their names, are this project's own: at most
 operations, and incarnations, counters and terms up to 2^62.
 """
 
-# what stands above the lists of a crate
+# the texts above the lists of a crate
 OF_CRATES: Dict[str, str] = {
     "dac_lattice": """
 Each type proves the laws of a lattice for every one of its values, also those that no operation made.

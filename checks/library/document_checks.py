@@ -1,4 +1,4 @@
-"""Checks that what documents cite is there: names, paths and calls."""
+"""Checks that the names, paths and calls cited in documents exist."""
 
 import pathlib
 import re
@@ -10,7 +10,7 @@ from checks.library.spans import SPAN
 
 NAME = re.compile(r"(?<![\\\w])[A-Za-z_][A-Za-z0-9_]{3,}")
 PATH = re.compile(r"(?<![\w/:.-])(?:\.\/)?((?:[\w.-]+/)+[\w.-]*|[\w-]+\.(?:md|py|rt|antt|txt))(?![\w/])")
-# names that documents speak of and that no file of the repository has, each with what it is
+# names that documents use and no file of the repository contains, each with its meaning
 OUTSIDE: Dict[str, str] = {
     "HashMap": "a type of Rust that isn't used",
     "smallvec": "a library of Rust that isn't used",
@@ -23,33 +23,33 @@ OUTSIDE: Dict[str, str] = {
     "nodedown": "a message of Erlang",
     "dac8208d650f15bf": "the sum of the toolchain's logic",
 }
-# parts of paths that stand for others
+# parts of paths that are placeholders
 STANDS_FOR = frozenset(("NAME", "CRATE", "PATH", "FILE", "FOLDER"))
-# words in capitals that stand for something else
+# words in capitals that are placeholders
 PLACEHOLDER = re.compile(r"(?<![\w])[A-Z]{2,}(?![\w])")
 
 
 class Line(NamedTuple):
-    """A line of a document, outside of what is shown as code."""
+    """A line of a document, outside code blocks."""
 
     file: pathlib.Path
     number: int
     text: str
 
     def place(self, root: pathlib.Path) -> str:
-        """Where it stands."""
+        """Its place."""
         return f"{self.file.relative_to(root)}:{self.number}"
 
 
 def files_of(root: pathlib.Path) -> List[pathlib.Path]:
-    """The files that git keeps, and new ones that it doesn't ignore."""
+    """The files tracked by git, and new ones that it doesn't ignore."""
     words = ["git", "-C", str(root), "ls-files", "--cached", "--others", "--exclude-standard"]
     listed = subprocess.run(words, stdout=subprocess.PIPE, check=True).stdout.decode("utf-8").split("\n")
     return [root / one for one in listed if one and (root / one).is_file()]
 
 
 class Documents:
-    """All documents, and all files beside them."""
+    """All documents, and all other files."""
 
     def __init__(self, root: pathlib.Path) -> None:
         """Reads the documents."""
@@ -58,7 +58,7 @@ class Documents:
         self.lines = [line for file in self.files if file.suffix == ".md" for line in lines_of(file)]
 
     def words(self) -> FrozenSet[str]:
-        """All words of the files that are no documents, and the parts of all paths."""
+        """All words of other files, and the parts of all paths."""
         words: Set[str] = set()
         for file in self.files:
             words.update(re.findall(r"\w+", str(file.relative_to(self.root))))
@@ -68,7 +68,7 @@ class Documents:
 
 
 def lines_of(file: pathlib.Path) -> Iterator[Line]:
-    """The lines of a document that aren't shown as code."""
+    """The lines of a document outside code blocks."""
     is_code = False
     for number, text in enumerate(file.read_text(encoding="utf-8").split("\n"), 1):
         if text.startswith("```"):
@@ -78,7 +78,7 @@ def lines_of(file: pathlib.Path) -> Iterator[Line]:
 
 
 def name_faults(documents: Documents) -> Iterator[str]:
-    """Names in backticks that no file has."""
+    """Names in backticks that occur in no file."""
     words = documents.words()
     for line in documents.lines:
         for span in SPAN.findall(line.text):
@@ -90,7 +90,7 @@ def name_faults(documents: Documents) -> Iterator[str]:
 
 
 def is_there(documents: Documents, line: Line, path: str) -> bool:
-    """Whether a path leads to something: from the top, from the document's folder, from a crate, or from a crate's specs/."""
+    """Whether a path exists from the top, from the document's folder, from a crate, or from a crate's specs/."""
     root = documents.root
     if "out" in path.split("/") or STANDS_FOR.intersection(re.split(r"[/.]", path)):
         return True
@@ -103,7 +103,7 @@ def is_there(documents: Documents, line: Line, path: str) -> bool:
 
 
 def path_faults(documents: Documents) -> Iterator[str]:
-    """Paths that lead nowhere."""
+    """Paths that don't exist."""
     tops = {one.name for one in documents.root.iterdir()} | {"src", "specs", "proofs", "must-fail"}
     for line in documents.lines:
         text = re.sub(r"https?://\S+|www\.\S+", " ", line.text)
@@ -115,7 +115,7 @@ def path_faults(documents: Documents) -> Iterator[str]:
 
 
 def calling_faults(root: pathlib.Path, sources: Sources) -> Iterator[str]:
-    """Public calls of a crate that its page CALLING.md doesn't name, and calls that it names and that aren't there."""
+    """A crate's public calls that its CALLING.md doesn't name, and calls named there that don't exist."""
     for page in sorted(root.glob("crates/*/CALLING.md")):
         named = set(SPAN.findall(page.read_text(encoding="utf-8")))
         own = [one for one in sources.functions if one.crate == page.parent.name and one.public and one.name not in ("drop", "from")]

@@ -1,4 +1,4 @@
-"""Checks that each must-fail edit and each mutant applies to exactly one place."""
+"""Checks that each must-fail edit and each mutant applies in exactly one place."""
 
 import pathlib
 from typing import Dict, Iterator
@@ -7,7 +7,7 @@ from checks.library.mutant_files import FILE, faults_of_form, sections_of
 
 
 def faults_of_edit(edit: str, crate: pathlib.Path) -> Iterator[str]:
-    """What is wrong with the text of an edit. Its changes apply in turn, each over what the earlier ones made."""
+    """The faults of an edit's text. Each of its changes applies after the previous ones."""
     texts: Dict[str, str] = {}
     name, old = "", ""
     for line in edit.split("\n"):
@@ -29,7 +29,7 @@ def faults_of_edit(edit: str, crate: pathlib.Path) -> Iterator[str]:
 
 
 def mutant_faults(crate: pathlib.Path) -> Iterator[str]:
-    """What is wrong with the mutants of a crate, by their lines."""
+    """The faults of a crate's mutants, by their lines."""
     sections = sections_of(crate)
     yield from faults_of_form(sections)
     for one in sections:

@@ -1,4 +1,4 @@
-"""Judges an edit of a crate by what a check with it says, as the toolchain judges a must-fail edit."""
+"""Judges an edit of a crate from the output of a check with it, as the toolchain judges a must-fail edit."""
 
 import pathlib
 import re
@@ -15,12 +15,12 @@ NO_VERDICT = BAD + "it did not reach the prover; the first lines of what it said
 BY_NAME = " (only because a proof file names what the edit took away, so this says little of the contract)"
 BY_LIMIT = " (only by a limit of the prover, which gave no verdict)"
 FOLDERS = ("src/", "specs/", "proofs/")
-# What a check says at a place of a file: of an error also what is wrong there, and the goal, if it is one's.
+# A message at a place of a file; for an error also its reason, and its goal, if there is one.
 PLACE = re.compile(r"(note: )?\S+:\d+:\d+:")
 FAULT = re.compile(r"(?:\./)?(?P<file>\S+?):\d+:\d+: error: (?:(?P<goal>`[^`]*`): )?(?P<said>.*)")
 QUOTED = re.compile(r"`[^`]*`")
-# What is said of a text that can't be read, of a proof that names what is gone or cites such a proof, of a limit, and of a library
-# that can't be used.
+# Messages about an unreadable text, a proof that names something removed or cites such a proof, a limit, and an
+# unusable library.
 NO_TEXT = re.compile(r"is not in scope|has no field|is no name|operand is missing|expected the end|cannot continue")
 NAMED = re.compile(r"(\./)?proofs/.*(has no field|is not in scope|has no `|was not admitted)")
 LIMIT = re.compile(r"(\./)?proofs/.*(ran out of (stack|the (steps|memory) )|outgrew the memory|stopped at the step limit)")
@@ -33,7 +33,8 @@ class BadEdit(Exception):
 
 
 def verdict_on(edit: str, checks: JointChecks, is_from_nothing: bool) -> str:
-    """The verdict on the text of an edit of a crate. What isn't refused over what earlier checks have kept is tried from nothing too."""
+    """The verdict on an edit of a crate. One that isn't refused with the results of earlier checks is also tried from
+    nothing."""
     try:
         texts = texts_with(edit, checks.folder)
     except (BadEdit, OSError, UnicodeDecodeError) as fault:
@@ -43,7 +44,7 @@ def verdict_on(edit: str, checks: JointChecks, is_from_nothing: bool) -> str:
 
 
 def texts_with(edit: str, folder: pathlib.Path) -> Dict[str, str]:
-    """The texts of the files of a crate that the text of an edit changes, with its changes in turn."""
+    """The texts of the crate's files that an edit changes, after its changes."""
     texts: Dict[str, str] = {}
     for name, change in changes_in(edit):
         if not name.startswith(FOLDERS) or ".." in name:
@@ -59,7 +60,7 @@ def texts_with(edit: str, folder: pathlib.Path) -> Dict[str, str]:
 
 
 def judged(texts: Mapping[str, str], status: int, lines: Sequence[str]) -> str:
-    """The verdict on an edit that makes these texts, by how a check with them ended and what it said."""
+    """The verdict on an edit with these texts, from the status and output of its check."""
     unread = next((line for line in lines if is_unread(line, texts)), "")
     if unread:
         return UNREAD + unread[:MOST_OF_A_FAULT]
@@ -71,7 +72,7 @@ def judged(texts: Mapping[str, str], status: int, lines: Sequence[str]) -> str:
 
 
 def refused_by(lines: Sequence[str]) -> str:
-    """The verdict on an edit that is refused, with the first line that says by what."""
+    """The verdict on a refused edit, with the first line that gives the reason."""
     told = [line for line in lines if PLACE.match(line)]
     told = [line for line in told if ": error" in line or line.startswith("note: ")] or told
     limits = [line for line in told if LIMIT.match(line)]
@@ -82,7 +83,7 @@ def refused_by(lines: Sequence[str]) -> str:
 
 
 def is_unread(line: str, texts: Mapping[str, str]) -> bool:
-    """Whether a line says that a file of code or of definitions, or one that an edit changes, can't be read."""
+    """Whether a line reports that a file of code or of definitions, or an edited file, can't be read."""
     match = FAULT.match(line)
     if match is None or match["file"] not in texts and not match["file"].startswith(("src/", "specs/")):
         return False

@@ -1,4 +1,4 @@
-"""Reads the modules of definitions: what each one declares and imports, and where a path of an import leads."""
+"""Reads the modules of definitions: each one's declarations and imports, and the module of an import's path."""
 
 import itertools
 import pathlib
@@ -15,7 +15,7 @@ SUBMODULE = re.compile(r"^(?:pub )?mod (?P<name>[^\s;]+)\s*$")
 KEYWORDS = re.compile(r"^(?:(?:abbrev|unfoldable|pub|record|data) )+(?P<name>[^\s{}()=:]\S*)(?=\s|$)")
 PLAIN = re.compile(r"^(?:pub )?(?P<name>[^\s(){}]+) : ")
 CONSTRUCTOR = re.compile(r"^\s+(?P<name>[^\s(){}:]+) : ")
-# modules that are made from the sources of the code
+# modules generated from the sources of the code
 GENERATED = ("declared", "contracts", "sources", "impls", "model", "models")
 
 
@@ -23,15 +23,15 @@ class Import(NamedTuple):
     """One import."""
 
     path: Tuple[str, ...]
-    # each name by the one that it has here; None where the whole module is imported
+    # each name by its local name; None if the whole module is imported
     names: Optional[Dict[str, str]]
-    # what a whole module is called here
+    # the local name of a whole module
     alias: str
     public: bool
 
 
 class Definition(NamedTuple):
-    """One word of specs/, with what stands above it."""
+    """A word of specs/, with the text above it."""
 
     crate: str
     # the path of its module, as `specs.Meaning`
@@ -40,17 +40,17 @@ class Definition(NamedTuple):
     line: int
     name: str
     comment: Tuple[str, ...]
-    # the lines `module _ (..) where` that it stands under, as they are indented
+    # the indented lines `module _ (..) where` that contain it
     under: Tuple[str, ...]
     text: Tuple[str, ...]
 
     def is_law(self) -> bool:
-        """Whether it stands among the laws, which are proved and need no belief."""
+        """Whether it is a law, which is proved and needn't be believed."""
         return "laws" in self.module.split(".")
 
 
 class CodeType(NamedTuple):
-    """A type or a constant of the code that a definition speaks of."""
+    """A type or constant of the code that a definition uses."""
 
     crate: str
     name: str
@@ -60,7 +60,7 @@ Word = Union[Definition, CodeType]
 
 
 def import_of(line: str) -> Optional[Import]:
-    """The import that a line makes."""
+    """The import in a line."""
     match = IMPORT.match(line)
     if match is None:
         return None
@@ -76,12 +76,12 @@ def import_of(line: str) -> Optional[Import]:
 
 
 def depth_of(line: str) -> int:
-    """How far a line is indented."""
+    """The indentation of a line."""
     return len(line) - len(line.lstrip())
 
 
 def declared_in(line: str) -> Optional[str]:
-    """The name that a line declares, where it begins a declaration."""
+    """The name that a line declares, if it begins a declaration."""
     match = KEYWORDS.match(line) or PLAIN.match(line)
     return match["name"] if match else None
 
@@ -98,7 +98,7 @@ def constructors_of(text: Tuple[str, ...]) -> Iterator[str]:
 
 
 class Module:
-    """A module: its file, what it declares, and what it imports."""
+    """A module: its file, declarations and imports."""
 
     def __init__(self, crate: str, path: str, file: pathlib.Path) -> None:
         """Reads the file."""
@@ -109,9 +109,9 @@ class Module:
         self.imports: List[Import] = []
         self.definitions: Dict[str, Definition] = {}
         self.constructors: Dict[str, Definition] = {}
-        # the comment at the file's top, which says what the module has
+        # the comment at the file's top, which describes the module
         self.header: Tuple[str, ...] = ()
-        # what is read now: the comment above, the blocks around with their depths, and the declaration's first line
+        # the current state: the comment above, the enclosing blocks with their depths, and the declaration's first line
         self._comment: List[str] = []
         self._blocks: List[Tuple[int, str]] = []
         self._text: List[str] = []
@@ -125,7 +125,7 @@ class Module:
         self._end()
 
     def _read(self, number: int, line: str) -> None:
-        """Takes one line."""
+        """Reads one line."""
         bare = line.strip()
         if not bare:
             self._text_or_comment_ends()
@@ -143,7 +143,7 @@ class Module:
             self._take(number, line, bare)
 
     def _take(self, number: int, line: str, bare: str) -> None:
-        """Takes a line that begins something, or goes on with the equations of a declaration."""
+        """Reads a line that begins something, or continues a declaration's equations."""
         found, mod, name = import_of(bare), SUBMODULE.match(bare), declared_in(bare)
         if found or mod or bare.startswith("module "):
             self._end()
@@ -164,17 +164,17 @@ class Module:
             self._text.append(line)
 
     def _text_or_comment_ends(self) -> None:
-        """Takes an empty line."""
+        """Reads an empty line."""
         self._comment = []
         if self._text:
             self._text.append("")
 
     def _depth(self) -> int:
-        """How far the declaration that is read now is indented."""
+        """The indentation of the current declaration."""
         return depth_of(self._text[0])
 
     def _end(self) -> None:
-        """Ends the declaration that is read now."""
+        """Ends the current declaration."""
         if not self._name:
             return
         while self._text and not self._text[-1].strip():
@@ -191,15 +191,15 @@ class Modules:
     """The modules of all crates."""
 
     def __init__(self, root: pathlib.Path = HERE) -> None:
-        """Nothing is read before it is asked for."""
+        """Reads nothing until asked."""
         self.root = root
         self.crates = read_crates(root)
         self._read: Dict[pathlib.Path, Module] = {}
-        # by crate the places of its modules
+        # each crate's modules with their positions
         self._order: Dict[str, Dict[str, int]] = {}
 
     def rank(self, one: Definition) -> Tuple[int, int, int]:
-        """Its place in reading order: by crates, lowest first, by modules, each behind those that it imports, and by lines."""
+        """Its position in reading order: by crate, lowest first; by module, each after its imports; by line."""
         if one.crate not in self._order:
             paths: Dict[str, None] = {}
             for module in self.all_of(one.crate):
@@ -208,7 +208,7 @@ class Modules:
         return self.crates.order().index(one.crate), self._order[one.crate][one.module], one.line
 
     def _put(self, module: Module, paths: Dict[str, None], above: List[str]) -> None:
-        """Puts a module behind those of its crate that it imports."""
+        """Puts a module after those of its crate that it imports."""
         if module.path in paths or module.path in above:
             return
         for one in module.imports:
@@ -218,7 +218,7 @@ class Modules:
         paths[module.path] = None
 
     def of_file(self, crate: str, path: str, file: pathlib.Path) -> Optional[Module]:
-        """The module of a file, if it is there."""
+        """The module of a file, if it exists."""
         if file not in self._read:
             if not file.is_file():
                 return None
@@ -237,11 +237,11 @@ class Modules:
         return found
 
     def definitions_of(self, crate: str) -> List[Definition]:
-        """The definitions of a crate, without its laws."""
+        """The definitions of a crate, without laws."""
         return [one for module in self.all_of(crate) for one in module.definitions.values() if not one.is_law()]
 
     def _step(self, here: Module, word: str) -> Optional[Module]:
-        """The module that a module names so."""
+        """The module that this name means in a module."""
         if word not in here.submodules:
             return None
         at_top = here.file.name == "Lib.antt" and here.path == "specs.Lib"
@@ -250,7 +250,7 @@ class Modules:
         return self.of_file(here.crate, f"{path}.{word}", folder / f"{word}.antt")
 
     def look(self, path: Tuple[str, ...]) -> Union[Module, Tuple[str, ...], None]:
-        """Where a path leads: to a module, to a path of what is made from the code, or to nothing here."""
+        """The target of a path: a module, a path of generated modules, or nothing here."""
         if len(path) < 2 or path[0] not in self.crates.listed or path[1] != "specs":
             return None
         if len(path) > 2 and path[2] in GENERATED:
@@ -266,14 +266,14 @@ class Modules:
         return here
 
     def _handed(self, here: Module, word: str, rest: Tuple[str, ...]) -> Union[Module, Tuple[str, ...], None]:
-        """Where a path goes on from a module that hands this word on from a crate below."""
+        """The target of a path through a module that re-exports this word from a crate below."""
         for one in here.imports:
             if one.public and one.names is None and one.alias == word:
                 return self.look(one.path + rest)
         return None
 
     def find(self, path: Tuple[str, ...], name: str) -> Optional[Word]:
-        """What a name of a path is."""
+        """The target of a name of a path."""
         there = self.look(path)
         if there is None:
             return None
@@ -289,7 +289,7 @@ class Modules:
 
 
 def code_type(path: Tuple[str, ...], name: str) -> CodeType:
-    """The type of the code that a name of a generated module belongs to."""
+    """The type of the code that owns a name of a generated module."""
     if "TheVariants" in path:
         return CodeType(path[0], path[path.index("TheVariants") - 1])
     return CodeType(path[0], name)

@@ -1,7 +1,7 @@
-"""Reads the mutants of a crate, which stand in its file mutants.edits.
+"""Reads a crate's mutants from its file mutants.edits.
 
-Each has a section: a line `mutant: NAME`, and below it the lines of a must-fail edit, `file:` and then pairs of `old:` and `new:`.
-Empty lines separate the sections, and lines that begin with `#` are comments.
+Each has a section: a line `mutant: NAME`, and then the lines of a must-fail edit, `file:` and pairs of `old:` and
+`new:`. Empty lines separate sections, and lines that begin with `#` are comments.
 """
 
 import pathlib
@@ -17,8 +17,8 @@ NOTHING = "new:"
 
 
 class Section(NamedTuple):
-    """A mutant as the file has it: the number of its first line, its name, and its lines as a must-fail edit has them. What stands
-    above the first mutant is a section without a name."""
+    """A mutant in the file: the number of its first line, its name, and its lines as a must-fail edit. Lines above the
+    first mutant make a section without a name."""
 
     line: int
     name: str
@@ -30,7 +30,7 @@ class Section(NamedTuple):
 
 
 def sections_in(text: str) -> Iterator[Section]:
-    """The sections of a file, in turn."""
+    """The sections of a file, in order."""
     section = Section(1, "", [])
     for number, line in enumerate(text.split("\n"), 1):
         if line.startswith(BEGINS):
@@ -42,18 +42,18 @@ def sections_in(text: str) -> Iterator[Section]:
 
 
 def sections_of(folder: pathlib.Path) -> List[Section]:
-    """The sections of the file of a crate, which has its mutants in this folder. A crate without the file has none."""
+    """The sections of the crate in this folder; none if it has no such file."""
     file = folder / FILE
     return list(sections_in(file.read_text(encoding="utf-8"))) if file.is_file() else []
 
 
 def mutants_in(folder: pathlib.Path) -> Dict[str, str]:
-    """The mutants of the crate in a folder, by their names and in the order of these: each one's text as a must-fail edit."""
+    """The crate's mutants in name order, each with its text as a must-fail edit."""
     return {one.name: one.text() for one in sorted(sections_of(folder), key=lambda one: one.name) if one.name}
 
 
 def faults_of_form(sections: List[Section]) -> Iterator[str]:
-    """What is wrong with the sections of a file, whatever their texts change."""
+    """The faults in a file's sections, whatever their texts change."""
     names = [one.name for one in sections if one.name]
     for one in sections:
         if one.name and not NAME.fullmatch(one.name):

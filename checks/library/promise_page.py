@@ -1,4 +1,5 @@
-"""The page of all promises: each public function with its comment, and each of its clauses with the comment above that."""
+"""The page of all promises: each public function with its comment, and each of its clauses with the comment above
+it."""
 
 import textwrap
 from typing import Iterator, List, NamedTuple, Sequence, Tuple
@@ -8,7 +9,7 @@ from checks.library.modules import Word
 from checks.library.resting import Resting
 
 WIDTH = 110
-# functions of traits whose contracts promise nothing of their own
+# functions of traits whose contracts promise nothing themselves
 LEFT_OUT = frozenset(("drop", "from"))
 
 
@@ -20,7 +21,7 @@ class Commented(NamedTuple):
 
 
 def commented(text: Sequence[str]) -> Iterator[Commented]:
-    """The named clauses that a function ensures, each with the lines of comment that precede it."""
+    """A function's named `ensures` clauses, each with the comment lines above it."""
     comment: List[str] = []
     for line in text:
         bare = line.strip()
@@ -40,19 +41,19 @@ def plain(lines: Tuple[str, ...]) -> str:
 
 
 def wrapped(text: str, first: str, other: str) -> List[str]:
-    """A text in lines."""
+    """A text wrapped into lines."""
     return textwrap.wrap(text, WIDTH, initial_indent=first, subsequent_indent=other, break_on_hyphens=False, break_long_words=False)
 
 
 class PromisePage:
-    """What `./believe --promises` prints."""
+    """The output of `./believe --promises`."""
 
     def __init__(self, sources: Sources, resting: Resting) -> None:
-        """Over these sources."""
+        """Reads these sources."""
         self.sources, self.resting = sources, resting
 
     def crates(self) -> List[str]:
-        """The crates that have public functions with contracts, lowest first."""
+        """The crates with contracts of public functions, lowest first."""
         return list(dict.fromkeys(one.crate for one in self.sources.public()))
 
     def lines(self, crate: str = "") -> Iterator[str]:

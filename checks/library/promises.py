@@ -1,4 +1,4 @@
-"""Reads docs/PROMISES.md: which functions and clauses carry each promise."""
+"""Reads docs/PROMISES.md: the functions and clauses for each promise."""
 
 import pathlib
 import re
@@ -8,14 +8,14 @@ from checks.library.contracts import Function, Sources, is_within
 from checks.library.spans import SPAN
 
 SECTION = "## Crate by crate"
-# what stands between a promise and the functions that carry it
+# separates a promise from its functions
 CARRIED = " By "
-# words in backticks that name no function, type or module
+# words in backticks that aren't names of functions, types or modules
 NO_NAMES = frozenset(("requires", "ensures"))
 
 
 class Cited(NamedTuple):
-    """A function, a type or a module of laws, with the clauses that are named of it. None stands for all."""
+    """A function, a type or a module of laws, with its clauses that are named. None means all."""
 
     name: str
     clauses: Tuple[str, ...]
@@ -31,7 +31,7 @@ class Promise(NamedTuple):
 
 
 def promised(part: str) -> Iterator[Cited]:
-    """What a part of a text names, each with the clauses that follow it in parentheses."""
+    """The names in a part of a text, each with the clauses that follow it in parentheses."""
     clauses: Tuple[str, ...] = ()
     for match in reversed(list(re.finditer(r"\(`[^)]*\)|`[^`]+`", part))):
         name = match[0].strip("`")
@@ -42,7 +42,7 @@ def promised(part: str) -> Iterator[Cited]:
 
 
 def cited_in(text: str, above: Sequence[Cited]) -> Iterator[Cited]:
-    """What a text names. The same is what the item above has."""
+    """The names in a text. `the same` means those of the item above."""
     for part in text.split(";"):
         if part.strip().startswith("the same"):
             clauses = tuple(SPAN.findall(part))
@@ -52,7 +52,7 @@ def cited_in(text: str, above: Sequence[Cited]) -> Iterator[Cited]:
 
 
 class Item(NamedTuple):
-    """An item of a list, with the lines that it goes on in joined."""
+    """An item of a list, joined with its continuation lines."""
 
     line: int
     crate: str
@@ -60,7 +60,7 @@ class Item(NamedTuple):
 
 
 def items_of(text: str) -> Iterator[Item]:
-    """The items of the section that goes crate by crate. A line that is a crate's name alone stands above those of the crate."""
+    """The items of the section by crates. A line with only a crate's name precedes the items of the crate."""
     inside, crate = False, ""
     item = Item(0, "", "")
     for number, line in enumerate([*text.split("\n"), ""], 1):
@@ -80,7 +80,7 @@ def items_of(text: str) -> Iterator[Item]:
 
 
 def promises_of(text: str) -> Iterator[Promise]:
-    """The promises of the section that goes crate by crate."""
+    """The promises of the section by crates."""
     above: Tuple[Cited, ...] = ()
     for one in items_of(text):
         says, _, carriers = one.text.rpartition(CARRIED)
@@ -89,7 +89,7 @@ def promises_of(text: str) -> Iterator[Promise]:
 
 
 def functions_of(one: Cited, crate: str, sources: Sources) -> List[Function]:
-    """The functions that a name stands for: its own, those of a type or those of a module. One of the item's crate goes first."""
+    """The functions that a name means: itself, those of a type or those of a module. The item's crate is preferred."""
     asked = tuple(one.name.split("::"))
     found = [each for each in sources.functions if is_within(asked, each.whole())]
     if not found:
@@ -100,7 +100,7 @@ def functions_of(one: Cited, crate: str, sources: Sources) -> List[Function]:
 
 
 def place_of(one: Function) -> Tuple[str, int]:
-    """Where a function stands: its name in a set."""
+    """The key of a function in a set."""
     return str(one.file), one.line
 
 
@@ -114,7 +114,7 @@ class Promises:
         self.rows = list(promises_of(self.text))
 
     def faults(self) -> Iterator[str]:
-        """Promises that name nothing, and functions and clauses that aren't there."""
+        """Promises without names, and missing functions and clauses."""
         if not self.rows:
             yield f"docs/PROMISES.md: no promise below {SECTION}"
         for row in self.rows:
@@ -125,7 +125,7 @@ class Promises:
                     yield f"docs/PROMISES.md:{row.line}: {fault}"
 
     def _faults_of(self, one: Cited, crate: str) -> Iterator[str]:
-        """What is wrong with a name and its clauses."""
+        """The faults of a name and its clauses."""
         found = functions_of(one, crate, self.sources)
         is_function = not one.name.split("::")[-1][0].isupper() and not one.name.startswith("dac_")
         if not found and is_function:
@@ -137,13 +137,13 @@ class Promises:
                 yield f"{one.name} has no clause {clause}"
 
     def without_row(self) -> Iterator[str]:
-        """The public functions that no promise names, neither by their name nor by their type or module."""
+        """The public functions that no promise covers, by their name, type or module."""
         named = {place_of(each) for row in self.rows for one in row.cited for each in functions_of(one, row.crate, self.sources)}
         lacking = ("::".join(each.shown()) for each in self.sources.public() if place_of(each) not in named)
         yield from dict.fromkeys(lacking)
 
     def unnamed_clauses(self) -> Iterator[str]:
-        """The clauses that no promise names, of functions of which promises name others."""
+        """The clauses that no promise names, although promises name other clauses of their function."""
         named: Dict[Tuple[str, int], Set[str]] = {}
         functions: Dict[Tuple[str, int], Function] = {}
         for row in self.rows:

@@ -1,4 +1,4 @@
-"""Finds what a contract rests on: the closure of the words of its clauses over the definitions."""
+"""Finds the definitions that a contract rests on: the closure of its clauses' words."""
 
 import re
 from typing import Dict, Iterator, List, NamedTuple, Optional, Sequence, Set, Tuple
@@ -14,23 +14,23 @@ FIELD = re.compile(r"^\s*pub (?!data |record |mod |use )[^\s:(){}]+ : ", re.MULT
 
 
 class Rest(NamedTuple):
-    """What a contract rests on."""
+    """The definitions and laws that a contract rests on."""
 
-    # in reading order: what is cited stands before what cites it
+    # in reading order: each after those that it cites
     definitions: Tuple[Definition, ...]
-    # laws that a definition or a clause names
+    # laws named by a definition or a clause
     laws: Tuple[Definition, ...]
     types: Tuple[CodeType, ...]
 
 
 def bound_in(text: str) -> Set[str]:
-    """The names that a text binds: behind `λ`, and before the colon of a binder."""
+    """The names that a text binds: after `λ`, and before the colon of a binder."""
     bound = {one for match in LAMBDA.finditer(text) for one in match[1].split()}
     return bound | {one for match in BINDER.finditer(text) for one in match[1].split()}
 
 
 def patterns_in(name: str, text: str) -> Set[str]:
-    """The names that a definition's equations bind at their left."""
+    """The names bound on the left of a definition's equations."""
     bound: Set[str] = set()
     for line in text.split("\n"):
         left, sign, _ = line.strip().partition(" = ")
@@ -41,7 +41,7 @@ def patterns_in(name: str, text: str) -> Set[str]:
 
 
 def tokens_of(text: str) -> List[str]:
-    """The words of a text in their order, without comments and without the names of fields. A word keeps its path."""
+    """The words of a text in order, without comments and names of fields. A word keeps its path."""
     text = re.sub(r"(^|\s)--[^\n]*", " ", text)
     text = FIELD.sub(" ", text)
     text = FIELD_VALUE.sub(r"\1\3", text)
@@ -49,17 +49,17 @@ def tokens_of(text: str) -> List[str]:
 
 
 def heads_of(tokens: Sequence[str]) -> Iterator[Tuple[str, Optional[str]]]:
-    """Each word with the one behind its dot, as in `map.get`. A `¬` or an operator before a word isn't part of it."""
+    """Each word with the one after its dot, as in `map.get`. A `¬` or an operator before a word isn't part of it."""
     for token in tokens:
         head, _, rest = token.lstrip("¬").partition(".")
         yield head, rest.split(".")[0] or None
 
 
 class Scope:
-    """What the words of one module, or of one file of code, mean."""
+    """The meanings of words in a module, or in a file of code."""
 
     def __init__(self, modules: Modules, imports: Sequence[Import], own: Optional[Module]) -> None:
-        """The imports, and for a module of definitions the module itself."""
+        """Takes the imports, and the module itself if it is one of definitions."""
         self.modules = modules
         self.own = own
         self.names: Dict[str, Tuple[Tuple[str, ...], str]] = {}
@@ -72,7 +72,7 @@ class Scope:
                 self.names[here] = (one.path, there)
 
     def meaning(self, word: str, behind: Optional[str]) -> Optional[Word]:
-        """What a word means here."""
+        """The meaning of a word here."""
         if self.own is not None:
             found = self.own.definitions.get(word) or self.own.constructors.get(word)
             if found is not None:
@@ -84,7 +84,7 @@ class Scope:
         return None
 
     def operators(self, tokens: Sequence[str]) -> Iterator[Tuple[str, str]]:
-        """The operators in use, each by its sign and by its name with places."""
+        """The operators in use, by sign and by name with places."""
         names = list(self.names) + (list(self.own.definitions) if self.own is not None else [])
         for name in names:
             signs = [one for one in name.split("◌") if one]
@@ -92,7 +92,7 @@ class Scope:
                 yield signs[0], name
 
     def library_words(self, text: str, bound: Set[str]) -> Iterator[Tuple[str, str]]:
-        """The words of the toolchain's libraries that a text uses, each with its module."""
+        """The words of the toolchain's libraries in a text, with their modules."""
         tokens = tokens_of(text)
         signs = dict(self.operators(tokens))
         for word, behind in heads_of(tokens):
@@ -102,7 +102,7 @@ class Scope:
                 yield ".".join(one for one in path if one != "specs"), there
 
     def cited_in(self, text: str, bound: Set[str]) -> Iterator[Word]:
-        """What a text cites, in the order of the text."""
+        """The definitions that a text cites, in its order."""
         tokens = tokens_of(text)
         signs = dict(self.operators(tokens))
         for word, behind in heads_of(tokens):
@@ -114,15 +114,15 @@ class Scope:
 
 
 class Resting:
-    """Walks from clauses and definitions to what they rest on."""
+    """Follows the citations of clauses and definitions."""
 
     def __init__(self, modules: Modules) -> None:
-        """Over these modules."""
+        """Uses these modules."""
         self.modules = modules
         self._cited: Dict[Definition, Tuple[Word, ...]] = {}
 
     def cited_by(self, one: Definition) -> Tuple[Word, ...]:
-        """What a definition cites."""
+        """The definitions that a definition cites."""
         if one not in self._cited:
             module = self.modules.of_file(one.crate, one.module, one.file)
             assert module is not None
@@ -134,14 +134,14 @@ class Resting:
         return self._cited[one]
 
     def library_of(self, one: Definition) -> Iterator[Tuple[str, str]]:
-        """The words of the toolchain's libraries that a definition uses, each with its module."""
+        """The words of the toolchain's libraries in a definition, with their modules."""
         module = self.modules.of_file(one.crate, one.module, one.file)
         assert module is not None
         text = "\n".join(one.under + one.text)
         yield from Scope(self.modules, module.imports, module).library_words(text, bound_in(text) | patterns_in(one.name, text))
 
     def cited_by_function(self, function: Function, clause: str = "") -> List[Word]:
-        """What the clauses of a function cite, or the one of this name."""
+        """The definitions cited by a function's clauses, or by the clause of this name."""
         found: Dict[Word, None] = {}
         scope = Scope(self.modules, function.imports, None)
         for one in function.clauses:
@@ -150,7 +150,7 @@ class Resting:
         return list(found)
 
     def above(self, one: Definition) -> Set[Word]:
-        """All definitions that rest on this one, and it itself."""
+        """All definitions that rest on this one, including itself."""
         citing: Dict[Word, List[Definition]] = {}
         for crate in self.modules.crates.order():
             for other in self.modules.definitions_of(crate):
@@ -166,7 +166,7 @@ class Resting:
         return found
 
     def promising(self, one: Definition, functions: Sequence[Function]) -> Iterator[str]:
-        """Which of these functions have clauses that rest on a definition, each with the names of these clauses."""
+        """The functions with clauses that rest on a definition, each with the names of these clauses."""
         above = self.above(one)
         for each in functions:
             names = dict.fromkeys(
@@ -177,7 +177,7 @@ class Resting:
                 yield "::".join(each.shown()) + (f" ({listed})" if listed else "")
 
     def under(self, words: Sequence[Word]) -> Rest:
-        """All that these words rest on, and they themselves. What is cited stands before what cites it."""
+        """All definitions that these rest on, including themselves, each after those that it cites."""
         done: Dict[Word, None] = {}
         begun: Set[Word] = set()
         stack: List[Tuple[Word, bool]] = [(word, False) for word in reversed(words)]

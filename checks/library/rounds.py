@@ -1,8 +1,9 @@
-"""Puts mutants that change one function's body each together in rounds, and reads what a check of a round says of each.
+"""Groups mutants into rounds, each of which changes the bodies of different functions, and reads the verdict on each
+from the check of a round.
 
-A function's body and its proof are its own: others cite its contract alone. So what the check says of a function's goals is the
-same whichever other bodies are changed. Where it refuses a goal of a function that the round leaves as it stands, that isn't so,
-and the round says nothing of its edits.
+A function's body and its proof are its own: others cite only its contract. So the output about a function's goals is
+the same whichever other bodies are changed. If the check refuses a goal of a function that the round leaves alone, this
+doesn't hold, and the round decides nothing about its edits.
 """
 
 import re
@@ -10,25 +11,25 @@ from typing import Dict, List, Mapping, NamedTuple, Optional, Sequence, Set
 
 from checks.library.bodies import Body, Code, Edit, applied, changed_lines
 
-# What the check says at a place of a file, of a function, and last.
+# Messages at a place of a file and about a function, and the last line.
 AT_PLACE = re.compile(r"(?P<note>note: )?(?:\./)?(?P<file>[^\s:]+):(?P<line>\d+):\d+: (?P<said>.*)")
 OF_FUNCTION = re.compile(r"fn (?P<name>\S+): (?P<said>.*)")
 OPEN = ("not proved", "no proof")
 NOT_PROVED = "logic=not-proved"
 GOAL = "it is not proved that "
 PROOFS = "proofs/"
-# What refuses no goal: a proof file that names what an edit took away, and a limit of the prover. And what may come of another
-# function: a proof file that cites what isn't admitted or isn't there.
+# Messages that refuse no goal (a proof file names something removed; a limit of the prover), and those that another
+# function may cause (a proof file cites something that isn't admitted or is missing).
 NO_GOAL = re.compile(r"has no field|has no `|ran out of (stack|the (steps|memory) )|outgrew the memory|stopped at the step limit")
 OF_OTHERS = re.compile(r"is not in scope|was not admitted")
 REFUSED = "refused, as it must be"
 MOST_SIGNS = 160
-# What the folder of a function's proof has before the name: nothing, or a plus where the function calls itself.
+# The prefixes of a name in the folder of a function's proof: none, or a plus if the function calls itself.
 BEFORE_NAMES = ("", "+")
 
 
 class Round(NamedTuple):
-    """Edits of several functions, and the texts of the files that have all of them."""
+    """Edits of different functions, and the file texts with all of them."""
 
     edits: Dict[Body, Edit]
     texts: Dict[str, str]
@@ -39,7 +40,7 @@ class Round(NamedTuple):
 
 
 def rounds_of(code: Code, edits: Sequence[Edit]) -> List[Round]:
-    """The edits that change one function's body each, in as few rounds as they fit in, in their order."""
+    """The edits, each of one function's body, in as few rounds as possible, in order."""
     rounds: List[Round] = []
     for edit in edits:
         body = code.body_of(edit)
@@ -49,7 +50,7 @@ def rounds_of(code: Code, edits: Sequence[Edit]) -> List[Round]:
 
 
 def round_of(code: Code, edits: Mapping[Body, Edit]) -> Round:
-    """A round of edits that can be applied together."""
+    """A round of edits that apply together."""
     made = Round({}, {})
     for body, edit in edits.items():
         is_added(made, code, body, edit)
@@ -57,7 +58,8 @@ def round_of(code: Code, edits: Mapping[Body, Edit]) -> Round:
 
 
 def is_added(one: Round, code: Code, body: Body, edit: Edit) -> bool:
-    """Adds an edit to a round that has none of its function, unless it can't be applied over the others in this function alone."""
+    """Adds an edit to a round without one of its function, if with the others it still applies and changes only this
+    function."""
     before = one.texts.get(body.file, code.texts[body.file])
     after = applied(edit, before)
     if body in one.edits or after is None or after.count("\n") != before.count("\n"):
@@ -70,8 +72,8 @@ def is_added(one: Round, code: Code, body: Body, edit: Edit) -> bool:
 
 
 def rests_of(code: Code, one: Round, lines: Sequence[str]) -> List[Round]:
-    """What is to be checked in place of a round of which a check says nothing: the round without the edits in whose functions it
-    found errors, or its halves where it found none there. Nothing is where one edit is left."""
+    """The checks that replace an undecided round: the round without the edits whose functions have errors, or its
+    halves if none has. None if a single edit is left."""
     errors = [match for match in filter(None, map(AT_PLACE.match, lines)) if not match["note"] and is_refusal(match)]
     faulty = [body for body in one.edits if any(is_within(match, body) for match in errors)]
     edits = list(one.edits.items())
@@ -83,13 +85,13 @@ def rests_of(code: Code, one: Round, lines: Sequence[str]) -> List[Round]:
 
 
 def is_readable(status: int, lines: Sequence[str]) -> bool:
-    """Whether a check read the code and came to a verdict on all functions: that the crate is proved or not."""
+    """Whether a check read the code and finished: the crate is proved or not."""
     return status in (0, 1) and bool(lines) and lines[-1].startswith("logic=")
 
 
 def refused_in(one: Round, crate: str, lines: Sequence[str]) -> Optional[Dict[str, str]]:
-    """The edits of a round that are refused, by goals of their functions, each with what was said of the first of these. Nothing
-    comes where the check refused something else. Left out are functions whose proofs cite what isn't there."""
+    """The refused edits of a round, each with the first message about a goal of its function. None if the check refused
+    something else. Functions whose proofs cite something missing are left out."""
     names = {body: name_of(body, crate, lines) for body in one.edits}
     goals: Dict[Body, str] = {}
     doubted: Set[Optional[Body]] = set()
@@ -106,21 +108,21 @@ def refused_in(one: Round, crate: str, lines: Sequence[str]) -> Optional[Dict[st
 
 
 def is_refusal(match: "re.Match[str]") -> bool:
-    """Whether a line refuses something."""
+    """Whether a line is a refusal."""
     return match["said"].startswith(GOAL if match["note"] else "error")
 
 
 def is_in_proof(match: "re.Match[str]", words: "re.Pattern[str]") -> bool:
-    """Whether a line is an error in a file of a proof, with such words."""
+    """Whether a line is an error in a proof file, with these words."""
     is_error = is_refusal(match) and not match["note"]
     return is_error and match["file"].startswith(PROOFS) and words.search(match["said"]) is not None
 
 
 def name_of(body: Body, crate: str, lines: Sequence[str]) -> str:
-    """The name of a function of which the check says that it isn't proved, or nothing where it says so of none or of several."""
+    """The name of a function that a line reports as not proved, or nothing if it reports none or several."""
     said = {match["name"]: match["said"] for match in map(OF_FUNCTION.match, lines) if match is not None}
     modules = "::".join((crate, *body.modules))
-    # (a method has the modules of its type, which may be others than those of its file)
+    # (a method has the modules of its type, which can differ from those of its file)
     for above in (modules, rf"{crate}(::\w+)*") if body.of else (modules,):
         for of in patterns_of(body):
             found = [name for name in said if re.fullmatch(f"{above}::{of}{body.name}", name)]
@@ -130,15 +132,15 @@ def name_of(body: Body, crate: str, lines: Sequence[str]) -> str:
 
 
 def patterns_of(body: Body) -> List[str]:
-    """How what stands between a function's modules and its name may be spelled, likeliest first. In an impl of a trait it has the
-    type's parameters, the trait's name, and the trait's parameters besides."""
+    """Spellings of the part between a function's modules and its name, likeliest first. In an impl of a trait it
+    contains the type's parameters, the trait's name, and the trait's parameters."""
     if not body.trait:
         return [f"{body.of}::" if body.of else ""]
     return [f"{body.of}{body.trait}::", rf"{body.of}{body.trait}\w+::", rf"{body.of}\w+{body.trait}\w*::"]
 
 
 def is_of(match: "re.Match[str]", body: Body, name: str) -> bool:
-    """Whether what is refused is a function's goal: it stands in the function's lines, or in the files of its proof."""
+    """Whether the refused goal is the function's: it is in the function's lines, or in its proof files."""
     if match["note"]:
         return is_within(match, body)
     *above, last = (PROOFS.rstrip("/"), *name.split("::")[1:])
@@ -151,5 +153,5 @@ def is_within(match: "re.Match[str]", body: Body) -> bool:
 
 
 def verdict_of(line: str, others: int) -> str:
-    """The verdict on an edit that is refused with others, by a goal that a line is of."""
+    """The verdict on an edit refused with others, from the line of its goal."""
     return f"{REFUSED}, tried with {others} other{'' if others == 1 else 's'}: {line[:MOST_SIGNS]}"

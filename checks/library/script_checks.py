@@ -1,4 +1,4 @@
-"""Checks that scripts of the shell and of Python are well formed, by the tools that are there."""
+"""Checks the form of shell and Python scripts with the tools available."""
 
 import ast
 import os
@@ -8,7 +8,7 @@ import shutil
 import subprocess
 from typing import Iterator, List, Sequence, Tuple
 
-# the oldest Python that reads the files of a folder or a file at the top; what isn't listed is read by 3.10
+# the oldest Python for the files of a folder or for a file at the top; all others need 3.10
 OLDEST: Tuple[Tuple[str, Tuple[int, int]], ...] = (
     ("distac_view/tests", (3, 10)),
     ("distac_view", (3, 8)),
@@ -20,7 +20,7 @@ OLDEST: Tuple[Tuple[str, Tuple[int, int]], ...] = (
     ("checks/dead-names", (3, 8)),
     ("believe", (3, 8)),
 )
-# the oldest mypy that finds the types right, which is Debian 12's
+# the oldest mypy with correct results, that of Debian 12
 OLDEST_MYPY = (1, 0)
 
 
@@ -31,17 +31,17 @@ def first_line(file: pathlib.Path) -> str:
 
 
 def shell_scripts(files: Sequence[pathlib.Path]) -> List[pathlib.Path]:
-    """The scripts that bash runs."""
+    """The scripts for bash."""
     return [one for one in files if not one.suffix and "bash" in first_line(one)]
 
 
 def python_scripts(files: Sequence[pathlib.Path]) -> List[pathlib.Path]:
-    """The files of Python, with the scripts at the top."""
+    """The Python files, with the scripts at the top."""
     return [one for one in files if one.suffix == ".py" or not one.suffix and "python" in first_line(one)]
 
 
 def output_of(words: Sequence[str], root: pathlib.Path, **variables: str) -> Tuple[int, str]:
-    """How a command ends in a folder, where these variables are set besides, and what it prints."""
+    """The status and output of a command in a folder, with additional variables."""
     environment = {**os.environ, **variables}
     pipe = subprocess.PIPE
     done = subprocess.run(words, cwd=str(root), env=environment, stdout=pipe, stderr=subprocess.STDOUT, check=False)
@@ -49,7 +49,7 @@ def output_of(words: Sequence[str], root: pathlib.Path, **variables: str) -> Tup
 
 
 def bash_faults(root: pathlib.Path, files: Sequence[pathlib.Path]) -> Iterator[str]:
-    """What `bash -n` says."""
+    """The errors of `bash -n`."""
     for script in shell_scripts(files):
         status, said = output_of(["bash", "-n", str(script)], root)
         if status != 0:
@@ -57,7 +57,7 @@ def bash_faults(root: pathlib.Path, files: Sequence[pathlib.Path]) -> Iterator[s
 
 
 def shellcheck_faults(root: pathlib.Path, files: Sequence[pathlib.Path]) -> Iterator[str]:
-    """What shellcheck warns of."""
+    """The warnings of shellcheck."""
     scripts = [str(one.relative_to(root)) for one in shell_scripts(files)]
     status, said = output_of(["shellcheck", "--severity=warning", "--format=gcc"] + scripts, root)
     if status != 0:
@@ -65,12 +65,12 @@ def shellcheck_faults(root: pathlib.Path, files: Sequence[pathlib.Path]) -> Iter
 
 
 def oldest_for(name: str) -> Tuple[int, int]:
-    """The oldest Python that has to read a file."""
+    """The oldest Python that must read a file."""
     return next((version for start, version in OLDEST if name == start or name.startswith(start + "/")), (3, 10))
 
 
 def python_faults(root: pathlib.Path, files: Sequence[pathlib.Path]) -> Iterator[str]:
-    """The files that the grammar of their oldest Python doesn't have."""
+    """The files that the grammar of their oldest Python rejects."""
     for script in python_scripts(files):
         name = str(script.relative_to(root))
         try:
@@ -80,7 +80,7 @@ def python_faults(root: pathlib.Path, files: Sequence[pathlib.Path]) -> Iterator
 
 
 def type_faults(root: pathlib.Path) -> Iterator[str]:
-    """What mypy says of the files that pyproject.toml names, and then of the models and of the tests of distac-view, which are run
+    """The errors of mypy in the files of pyproject.toml, and then in the models and the tests of distac-view, which run
     from their folders."""
     models, tests = root / "models", root / "distac_view" / "tests"
     here = ["mypy", "--config-file", str(root / "pyproject.toml")]
@@ -91,12 +91,12 @@ def type_faults(root: pathlib.Path) -> Iterator[str]:
 
 
 def names_in(folder: pathlib.Path) -> List[str]:
-    """The files of Python in a folder."""
+    """The Python files in a folder."""
     return sorted(one.name for one in folder.glob("*.py"))
 
 
 def faults_of_types(status: int, said: str) -> Iterator[str]:
-    """The faults in what mypy said."""
+    """The faults in mypy's output."""
     if status != 0:
         yield from (line for line in said.strip().split("\n") if not line.startswith("Found "))
 
@@ -107,12 +107,12 @@ def is_here(tool: str) -> bool:
 
 
 def why_not(tool: str) -> str:
-    """Why scripts aren't checked by a tool, or nothing."""
+    """Why scripts aren't checked by a tool, or empty."""
     return "" if is_here(tool) else f"{tool} isn't in PATH"
 
 
 def why_no_types() -> str:
-    """Why mypy isn't asked, or nothing."""
+    """Why mypy isn't used, or empty."""
     needed = ".".join(map(str, OLDEST_MYPY))
     if not is_here("mypy"):
         return f"mypy {needed} or later isn't in PATH"

@@ -1,4 +1,4 @@
-"""Finds what stands in backticks."""
+"""Finds texts in backticks."""
 
 import re
 

@@ -1,4 +1,4 @@
-"""Finds as what contracts see the values of the code: the views of the types in a signature, and of the types inside of these."""
+"""Finds the views of a signature's types, as contracts see their values, and of the types inside these."""
 
 import pathlib
 import re
@@ -15,7 +15,7 @@ NAME = re.compile(r"\b[A-Z]\w+")
 
 
 class View(NamedTuple):
-    """As what contracts see the values of a type."""
+    """The view of a type's values in contracts."""
 
     crate: str
     name: str
@@ -27,7 +27,7 @@ class View(NamedTuple):
 
 
 def block_at(lines: List[str], place: int) -> List[str]:
-    """The lines of the block that begins at a line, without the first and the last one."""
+    """The lines of the block that begins at a line, without the first and last ones."""
     depth = depth_of(lines[place])
     last = place + 1
     while not lines[last].strip() or depth_of(lines[last]) > depth:
@@ -36,7 +36,7 @@ def block_at(lines: List[str], place: int) -> List[str]:
 
 
 def parts_of(block: List[str]) -> Iterator[str]:
-    """The lines of a block that say what is seen: `Value` and `view`."""
+    """The lines of a block that define the view: `Value` and `view`."""
     name = ""
     for line in block:
         match = PART.match(line)
@@ -62,7 +62,7 @@ class Views:
                 self._read(crate, file)
 
     def _read(self, crate: str, file: pathlib.Path) -> None:
-        """Takes the views of a file."""
+        """Reads the views of a file."""
         source = SourceFile(crate, (), file)
         for place, line in enumerate(source.lines):
             match = MODEL.match(line)
@@ -74,7 +74,7 @@ class Views:
                 self._by_name[name] = View(crate, name, file, place + 1, text, words)
 
     def of_function(self, function: Function) -> List[View]:
-        """The views of the values that a function takes, gives or changes, and of what is inside of them."""
+        """The views of the values that a function takes, returns or changes, and of their parts."""
         signature: List[str] = []
         for line in function.text:
             if CLAUSE.match(line):
@@ -98,7 +98,7 @@ class Views:
             self._follow(inside, declared.crate, found, above | {name})
 
     def _declared(self, name: str, crate: str) -> Optional[Declared]:
-        """The declaration of a type that a crate names: its own one, or that of a crate below."""
+        """The declaration of a type that a crate names: its own, or one of a crate below."""
         below = [one for one in reversed(self.crates.order()) if one in self.crates.below(crate)]
         places = (self.types.find(CodeType(one, name)) for one in [crate, *below])
         return next((one for one in places if one is not None), None)

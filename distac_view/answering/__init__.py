@@ -1,1 +1,1 @@
-"""Answers to questions of operators: losses of nodes, rolling restarts, load, splits, and what a new file changes."""
+"""Answers to operators' questions: lost nodes, rolling restarts, load, splits, and the changes by a new file."""

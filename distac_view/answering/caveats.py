@@ -1,4 +1,4 @@
-"""What is to be said below an answer to a what-if question: who waits at a start gate, and where OTP may answer otherwise."""
+"""Notes below an answer to a what-if question: nodes waiting at a start gate, and possible differences from OTP."""
 
 from __future__ import annotations
 
@@ -33,19 +33,19 @@ TEXTS = {
 
 
 def notes_on(reply: Reply) -> list[Note]:
-    """All notes, each sentence once."""
+    """All notes, without repeated sentences."""
     found = [*opening_notes(reply), *gate_notes(reply), *time_notes(reply), *otp_notes(reply)]
     return list(dict.fromkeys(found))
 
 
 def below(notes: Iterable[Note]) -> Iterator[str]:
-    """Notes as they stand below an answer."""
+    """Notes in the form below an answer."""
     lines = [f"- {note.text}" for note in notes]
     yield from ["", *lines] if lines else []
 
 
 def opening_notes(reply: Reply) -> Iterator[Note]:
-    """How the question begins: the sides of a split, and nodes that can't act."""
+    """Notes on the beginning: the sides of a split, and nodes that can't act."""
     sides = [answers.side for answers in reply.sides]
     if len(sides) > 1:
         parts = "; ".join(listed(bare_names(side.members)) for side in sides)
@@ -56,19 +56,20 @@ def opening_notes(reply: Reply) -> Iterator[Note]:
 
 
 def start_notes(side: Side, is_now: bool) -> list[Note]:
-    """What to know of a start: what runs nowhere, nodes that can't act, and what moves at once if it is now, or what is guessed."""
+    """Notes on a start: applications that run nowhere, nodes that can't act, and applications that move at once or
+    whose place is guessed."""
     guessed = [Note("StartedAtOnce", TEXTS["StartedAtOnce"])] if side.is_guessed else []
     return [*nowhere_notes(side), *side_notes(side), *(now_notes(side) if is_now else ()), *guessed]
 
 
 def nowhere_notes(side: Side) -> Iterator[Note]:
-    """What runs nowhere before any node goes down, and why."""
+    """Applications that run nowhere before any node goes down, and why."""
     for held in nowhere_at_first(side):
         yield Note("RunsNowhere", shown(f"{bare_name(held.app)} runs nowhere before any loss: {bare_marks(held.marks) or 'no node is up'}"))
 
 
 def now_notes(side: Side) -> Iterator[Note]:
-    """What distac moves at once from where it runs now, and what runs nowhere."""
+    """Applications that distac moves at once from their present node, and those that run nowhere."""
     for held in side.page.held.values():
         if held.verdict == "takeover":
             app, at, holder = bare_names((held.app, str(held.at), str(held.holder)))
@@ -90,7 +91,7 @@ def side_notes(side: Side) -> Iterator[Note]:
 
 
 def gate_notes(reply: Reply) -> Iterator[Note]:
-    """Nodes that can't come back, and that still wait when all others are at rest."""
+    """Nodes that can't come back, or that still wait when all others are at rest."""
     for case in reply.cases:
         for waiter in case.waiters:
             wait = wait_of(waiter, reply.configuration)
@@ -101,7 +102,7 @@ def gate_notes(reply: Reply) -> Iterator[Note]:
 
 
 def wait_of(waiter: Waiter, configuration: Configuration) -> str:
-    """How long a node waits at its start gate, and for whom."""
+    """How long a node waits at its start gate, and for which nodes."""
     time = configuration.sync_timeout
     groups = [(waiter.mandatory, "mandatory"), ([] if waiter.gave_up else waiter.optional, "optional")]
     names = ", and ".join(f"{listed(bare_names(nodes))}, {kind}" for nodes, kind in groups if nodes)
@@ -109,7 +110,7 @@ def wait_of(waiter: Waiter, configuration: Configuration) -> str:
 
 
 def time_notes(reply: Reply) -> Iterator[Note]:
-    """What the times in the table are counted from."""
+    """The start of the table's times."""
     lost = [fate for case in reply.cases for fate in case.fates if fate.how == "failover" and fate.milliseconds is not None]
     if lost:
         least, most = (seconds_of(each) for each in notice_range(reply.tick_time))
@@ -120,7 +121,7 @@ def time_notes(reply: Reply) -> Iterator[Note]:
 
 
 def otp_notes(reply: Reply) -> Iterator[Note]:
-    """What differs from OTP, where it matters here."""
+    """Relevant differences from OTP."""
     fates = [fate for case in reply.cases for fate in case.fates]
     yield from hang_notes((case.down, case.may_hang) for case in reply.cases)
     yield from idle_notes(fates)
@@ -135,7 +136,7 @@ def otp_notes(reply: Reply) -> Iterator[Note]:
 
 
 def idle_notes(fates: list[Fate]) -> Iterator[Note]:
-    """Applications that go elsewhere while a node of their list is up and hasn't started them."""
+    """Applications that go elsewhere although a node of their list is up, because it hasn't started them."""
     found: dict[str, list[str]] = {}
     for fate in fates:
         if fate.how not in ("stays", "nobody"):
@@ -148,12 +149,12 @@ def idle_notes(fates: list[Fate]) -> Iterator[Note]:
 
 
 def few_of(names: list[str]) -> str:
-    """Some names in a sentence, of many the first ones."""
+    """Some names in a sentence, or the first of many."""
     more, names = len(names) - MOST_NAMED, bare_names(names)
     return listed(names if more <= 0 else [*names[:MOST_NAMED], f"{more} more"])
 
 
 def is_in_tuple(configuration: Configuration, fate: Fate) -> bool:
-    """Whether an application came to a node of a tuple."""
+    """Whether an application moved to a node of a tuple."""
     application = next(each for each in configuration.applications if each.name == fate.app)
     return fate.milliseconds is not None and any(fate.then in group and len(group) > 1 for group in application.groups)

@@ -1,4 +1,4 @@
-"""What a new configuration changes: where applications run now, what each loss of a node does, settings, and what is to be noted."""
+"""The effects of a new configuration: on present places, on the loss of each node, on settings, and on notes."""
 
 from __future__ import annotations
 
@@ -19,10 +19,10 @@ from distac_view.reading.configuration import Checked, Configuration
 
 @dataclass(frozen=True)
 class Answer:
-    """Where an application is, now or in the end of a loss, and after how many milliseconds it comes there.
+    """An application's place, now or at the end of a loss, and the milliseconds until it gets there.
 
-    With it go how long it is away at most, where it is once the nodes are back, whether no other node could run it, and whether the
-    nodes are back before its wait is over.
+    Also its longest outage, its place once the nodes are back, whether no other node could run it, and whether the
+    nodes are back before its wait ends.
     """
 
     place: str | None
@@ -35,7 +35,8 @@ class Answer:
 
 @dataclass(frozen=True)
 class Change:
-    """An answer that another configuration changes: of which application, and with which nodes down. Without any it is about now."""
+    """An answer that another configuration changes: its application, and the nodes that are down. Without any it is
+    about now."""
 
     app: str
     down: list[str]
@@ -45,7 +46,7 @@ class Change:
 
 @dataclass(frozen=True)
 class Changes:
-    """All that another configuration changes, and how many answers both have."""
+    """All changes by another configuration, and the number of answers that both have."""
 
     old: Reply
     new: Reply
@@ -55,28 +56,28 @@ class Changes:
 
     @property
     def are_any(self) -> bool:
-        """Whether the two configurations differ in anything: in what is answered, noted or set."""
+        """Whether the two configurations differ in any answer, note or setting."""
         return any((self.changes, self.settings, *self.apps, *self.nodes, *self.notes))
 
     @property
     def apps(self) -> tuple[list[str], list[str]]:
-        """The applications that only the new configuration has, and those that only the old one has."""
+        """The applications that only the new or only the old configuration has."""
         return differences(self.old.configuration.names, self.new.configuration.names)
 
     @property
     def nodes(self) -> tuple[list[str], list[str]]:
-        """The nodes that only the new configuration has, and those that only the old one has."""
+        """The nodes that only the new or only the old configuration has."""
         return differences(self.old.configuration.nodes, self.new.configuration.nodes)
 
     @property
     def notes(self) -> tuple[list[Note], list[Note]]:
-        """The notes that stand below the new answer alone, and those that stand below the old one alone."""
+        """The notes that only the new or only the old answer has."""
         old, new = notes_on(self.old), notes_on(self.new)
         return [note for note in new if note not in old], [note for note in old if note not in new]
 
     @property
     def other_lists(self) -> list[str]:
-        """The applications whose lists differ. Where nodes with both files meet, OTP ends one of them."""
+        """The applications whose lists differ. If nodes with both files meet, OTP ends one of them."""
         return [each.app for each in self.settings if each.name == LIST and each.app]
 
     @property
@@ -86,12 +87,12 @@ class Changes:
 
 
 def differences(old: list[str], new: list[str]) -> tuple[list[str], list[str]]:
-    """What only the new list has, and what only the old one has."""
+    """The parts of only the new and of only the old list."""
     return [name for name in new if name not in old], [name for name in old if name not in new]
 
 
 def changes_by(distac: Distac, question: Question, path: str) -> Changes:
-    """What a new configuration changes."""
+    """The changes by a new configuration."""
     if question.after:
         raise Problem("--then can't stand beside --after: a script has one configuration; --now says where applications run")
     old, new = load_config(distac, question.config), load_config(distac, path)
@@ -99,7 +100,7 @@ def changes_by(distac: Distac, question: Question, path: str) -> Changes:
 
 
 def changes_between(distac: Distac, question: Question, old: Checked, new: Checked) -> Changes:
-    """What a configuration changes that was read."""
+    """The changes by a configuration that was read."""
     first = reply_on(distac, old, question)
     second = reply_on(distac, new, fitting(question, old.configuration, new.configuration))
     answers, others = answers_in(first), answers_in(second)
@@ -109,7 +110,7 @@ def changes_between(distac: Distac, question: Question, old: Checked, new: Check
 
 
 def fitting(question: Question, old: Configuration, new: Configuration) -> Question:
-    """The question for the new configuration: of nodes and places only those that it has."""
+    """The question for the new configuration, with only those nodes and places that it has."""
     named = (question.down, question.not_started, question.back)
     down, not_started, back = ([word for word in words if node_meant(word, new.nodes)] for words in named)
     if question.down and not down:
@@ -119,7 +120,8 @@ def fitting(question: Question, old: Configuration, new: Configuration) -> Quest
 
 
 def placed_in_both(placed: Placed, old: Configuration, new: Configuration) -> Placed:
-    """Where applications run now, as far as the new configuration allows it. What it has to place anew is started everywhere."""
+    """The present places, as far as the new configuration allows them. Applications that it must place again are
+    started everywhere."""
     lists = {each.name: each.nodes for each in new.applications}
     places = {app: node for app, node in placed.places.items() if node in lists.get(app, [])}
     fresh = [name for name in new.names if name not in places and (name not in old.names or name in placed.places)]
@@ -127,7 +129,7 @@ def placed_in_both(placed: Placed, old: Configuration, new: Configuration) -> Pl
 
 
 def answers_in(reply: Reply) -> dict[tuple[str, tuple[str, ...]], Answer]:
-    """All answers of a reply: by application, and by the nodes that are down."""
+    """All answers of a reply, by application and by the nodes that are down."""
     found: dict[tuple[str, tuple[str, ...]], Answer] = {(name, ()): answer for name, answer in answers_now(reply).items()}
     for case in reply.cases:
         found.update({(fate.app, tuple(case.down)): answer_of(fate, reply.tick_time) for fate in case.fates})
@@ -135,12 +137,12 @@ def answers_in(reply: Reply) -> dict[tuple[str, tuple[str, ...]], Answer]:
 
 
 def answers_now(reply: Reply) -> dict[str, Answer]:
-    """Where each application is now, or where it goes next if it stands where it isn't left."""
+    """The present place of each application, or its next one if it must move."""
     held = held_on(reply.sides[0].side.page, reply.configuration)
     return {name: Answer(each.at if each.is_pending else each.runs_at, is_alone=each.is_alone) for name, each in held.items()}
 
 
 def answer_of(fate: Fate, tick_time: int) -> Answer:
-    """What a loss does to an application."""
+    """The effect of a loss on an application."""
     outage = None if fate.wait is None else longest_outage(fate.wait, tick_time)
     return Answer(fate.then, fate.milliseconds, outage, fate.back, fate.is_alone, fate.waits)

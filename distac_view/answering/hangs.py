@@ -1,4 +1,4 @@
-"""Which applications OTP may fail to restart in a case that was played, and what is said of them."""
+"""Applications that OTP may fail to restart in a played case, with a note on them."""
 
 from __future__ import annotations
 
@@ -13,7 +13,8 @@ from distac_view.reading.equal_times import CURE, pairs_among
 
 
 def names_that_hang(course: Course, nodes: Iterable[str], configuration: Configuration) -> list[str]:
-    """The applications that fail over at one moment of a case, and that OTP may fail to restart with those of the nodes that are left."""
+    """The applications that fail over at one moment of a case, and that OTP may fail to restart with the remaining
+    nodes."""
     claimed = {each.app: each.milliseconds for each in course.claims}
     moments: dict[int, list[str]] = {}
     for held in course.at_once.held.values():
@@ -28,7 +29,7 @@ def names_that_hang(course: Course, nodes: Iterable[str], configuration: Configu
 
 
 def hang_notes(cases: Iterable["tuple[list[str], list[str]]"]) -> Iterator[Note]:
-    """A note for each of some losses that may hang: the nodes that are down, and the applications."""
+    """A note for each loss that may hang: the nodes that are down, and the applications."""
     for down, names in cases:
         if names:
             text = f"Without {listed(bare_names(down))} OTP 25 may restart one of {listed(bare_names(names))} alone and hang"

@@ -1,7 +1,7 @@
-"""How many applications each node has under each loss of a node, or of two, and which applications are lost.
+"""The load of each node under each loss of a node, or of two, and the lost applications.
 
-A pair of nodes is played only if its two losses can touch each other. Else each does what it does alone: no application that moves
-in one case can come to a node whose applications the other case changes.
+A pair of nodes is played only if its two losses can affect each other. Otherwise each has the effect that it has alone:
+no application that moves in one case can come to a node whose applications the other case changes.
 """
 
 from __future__ import annotations
@@ -21,9 +21,9 @@ from distac_view.reading.configuration import Configuration
 
 @dataclass(frozen=True)
 class Row:
-    """Some nodes that are down: how many applications each other node has, which are lost, and which have one node left.
+    """Some nodes that are down: the load of each other node, the lost applications, and those with one node left.
 
-    An application is lost if it ran before and runs nowhere. It has one node left if no other one could run it. With it go the
+    An application is lost if it ran before and runs nowhere. It has one node left if no other could run it. Also the
     applications that OTP may fail to restart.
     """
 
@@ -36,18 +36,18 @@ class Row:
 
     @property
     def most(self) -> int:
-        """How many applications the node has that has the most of them."""
+        """The greatest load of a node."""
         return max(self.counts.values(), default=0)
 
     @property
     def most_at(self) -> str | None:
-        """The first node that has the most applications."""
+        """The first node with the greatest load."""
         return next((node for node, count in self.counts.items() if count == self.most), None)
 
 
 @dataclass(frozen=True)
 class Load:
-    """The whole answer: with no node down, with each one down, and with each pair down if these were asked for."""
+    """The whole answer: with no node down, with each one down, and with each pair down if requested."""
 
     configuration: Configuration
     side: Side
@@ -84,7 +84,7 @@ def load_on(distac: Distac, side: Side, has_pairs: bool) -> Load:
 
 
 def row_of(side: Side, course: Course) -> Row:
-    """The row of a loss, in the end of which nothing is left to be done."""
+    """The row of a loss after which everything is done."""
     held = held_on(course.then, side.cluster.configuration)
     return row_by(course.loss.down, side, held, hanging(side, course))
 
@@ -95,7 +95,7 @@ def hanging(side: Side, course: Course) -> list[str]:
 
 
 def row_by(down: list[str], side: Side, held: dict[str, Held], may_hang: list[str]) -> Row:
-    """The row of applications as they are held."""
+    """The row of applications with these holders."""
     places = {name: each.runs_at for name, each in held.items() if each.runs_at is not None}
     counts = {node: list(places.values()).count(node) for node in side.nodes if node not in down}
     ran = [name for name, each in side.page.held.items() if each.runs_at is not None]
@@ -105,7 +105,7 @@ def row_by(down: list[str], side: Side, held: dict[str, Held], may_hang: list[st
 
 
 def pair_rows(distac: Distac, side: Side, singles: dict[str, Course]) -> list[Row]:
-    """The rows of all pairs of nodes, those that are played and those that are put together."""
+    """The rows of all pairs of nodes, played or combined."""
     pairs = list(combinations(side.nodes, 2))
     touching = [pair for pair in pairs if can_touch(side, *(singles[node] for node in pair))]
     losses = [Loss(list(pair), [], []) for pair in touching]
@@ -114,25 +114,25 @@ def pair_rows(distac: Distac, side: Side, singles: dict[str, Course]) -> list[Ro
 
 
 def can_touch(side: Side, one: Course, other: Course) -> bool:
-    """Whether one of two losses can change what the other one does: the nodes that they may touch have any in common."""
+    """Whether two losses can affect each other: the nodes that they may touch have any in common."""
     return bool(reach_of(side, one) & reach_of(side, other))
 
 
 def reach_of(side: Side, course: Course) -> set[str]:
-    """The node of a loss, and all nodes of the lists of the applications that are about to move."""
+    """The node of a loss, and all nodes of the lists of applications that are about to move."""
     pending = [held.app for held in course.at_once.held.values() if held.is_pending]
     lists = [each.nodes for each in side.cluster.configuration.applications if each.name in pending]
     return {*course.loss.down, *(node for nodes in lists for node in nodes), *barred_by(side, course)}
 
 
 def barred_by(side: Side, course: Course) -> set[str]:
-    """The nodes of the lists of what no node can run once a loss is known."""
+    """The nodes of the lists of applications that no node can run once a loss is known."""
     lost = [held.app for held in course.at_once.held.values() if held.verdict == "nobody"]
     return {node for each in side.cluster.configuration.applications if each.name in lost for node in each.nodes}
 
 
 def put_together(side: Side, one: Course, other: Course) -> Row:
-    """The row of a pair of losses that don't touch each other: of each application what its own loss does to it, if any does."""
+    """The row of two independent losses: each application has the effect of its own loss, if any."""
     start, held = held_on(side.page, side.cluster.configuration), {}
     down = [*one.loss.down, *other.loss.down]
     for name in start:
@@ -144,7 +144,7 @@ def put_together(side: Side, one: Course, other: Course) -> Row:
 
 
 def without_marks(moved: Held, first: Held, second: Held) -> Held:
-    """An application with only those nodes as able that are so in both cases."""
+    """An application with only those nodes as able that are able in both cases."""
     able = [node for node in first.nodes_marked("ok") if node in second.nodes_marked("ok")]
     marks = " ".join(f"{node}=ok" for node in able)
     return Held(moved.app, moved.holder, moved.inc, moved.term, moved.how, moved.verdict, moved.at, marks, moved.is_alive)

@@ -1,4 +1,4 @@
-"""Notes below an answer, and what it fails for."""
+"""Notes below an answer, and reasons for its failure."""
 
 from __future__ import annotations
 
@@ -7,7 +7,7 @@ from dataclasses import dataclass
 
 @dataclass(frozen=True)
 class Note:
-    """A sentence below an answer, with a name of its own that later versions keep, as docs/FORMATS.md lists them."""
+    """A sentence below an answer, with a name that later versions keep, listed in docs/FORMATS.md."""
 
     id: str
     text: str
@@ -15,7 +15,7 @@ class Note:
 
 @dataclass(frozen=True)
 class Failure:
-    """What `--fail-on` names and an answer has: by its word there, and as a sentence."""
+    """A failure that `--fail-on` names and an answer has: its word there, and a sentence."""
 
     what: str
     text: str

@@ -1,4 +1,4 @@
-"""After how long the loss of a node is noticed, and how long an application is away then."""
+"""The time until a lost node is noticed, and the outage of its applications."""
 
 from __future__ import annotations
 
@@ -12,7 +12,7 @@ REMEMBERED = re.compile(rb"^%+ *net_ticktime (?P<seconds>[0-9]{1,9})\s*$", re.MU
 
 
 def tick_time_of(text: bytes) -> int:
-    """Kernel's net_ticktime in seconds: that of the file or of a comment of `gather`, else what OTP takes without one."""
+    """Kernel's net_ticktime in seconds: from the file or a comment of `gather`, or else OTP's default."""
     values = Source(text).values_of("net_ticktime")
     if len(values) == 1 and values[0].kind is Kind.NUMBER and len(values[0].written) < 10 and int(values[0].written) > 0:
         return int(values[0].written)
@@ -21,17 +21,17 @@ def tick_time_of(text: bytes) -> int:
 
 
 def notice_range(tick_time: int) -> tuple[int, int]:
-    """After how many milliseconds a host that dies without a word is noticed, at least and at most."""
+    """The least and most milliseconds until a host that dies silently is noticed."""
     return tick_time * 750, tick_time * 1250
 
 
 def longest_outage(wait: int, tick_time: int) -> int:
-    """For how many milliseconds an application is away at most: its wait, and the noticing of a dead host before it."""
+    """An application's longest outage in milliseconds: its wait, after a dead host is noticed."""
     return wait + notice_range(tick_time)[1]
 
 
 def outage_of(wait: int, tick_time: int) -> str:
-    """How long an application is away: its wait alone if its node ends, and up to the noticing of a dead host more."""
+    """An application's outage: its wait if only its node ends, and up to the noticing of a dead host more."""
     return f"{seconds_of(wait)} to {seconds_of(longest_outage(wait, tick_time))} s"
 
 

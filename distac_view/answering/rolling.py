@@ -1,7 +1,7 @@
-"""A rolling restart: one node after another goes down and comes back, and the best order of them.
+"""A rolling restart: nodes go down and come back one after another, in the best order.
 
-A step hangs on where applications run, and not on how they came there. So a step that began with an equal page isn't played again
-when orders are compared. The order that is answered is played as a whole.
+A step depends on where applications run, and not on how they got there. So when orders are compared, a step that began
+with an equal page isn't played again. The order of the answer is played as a whole.
 """
 
 from __future__ import annotations
@@ -27,13 +27,13 @@ Cost = Tuple[int, int, int, int]
 
 
 def sum_of(one: Cost, other: Cost) -> Cost:
-    """What two plans cost together, part by part."""
+    """The joint cost of two plans, part by part."""
     return (one[0] + other[0], one[1] + other[1], one[2] + other[2], one[3] + other[3])
 
 
 @dataclass(frozen=True)
 class Move:
-    """An application that goes to another node, or back to its own one: how, and after how many milliseconds."""
+    """An application's move to another node, or back: its cause, and the milliseconds until then."""
 
     app: str
     source: str | None
@@ -44,10 +44,11 @@ class Move:
 
 @dataclass(frozen=True)
 class Step:
-    """A node that restarts: what moves before by a drain, while it is down, and once it is back; what runs nowhere meanwhile.
+    """A node that restarts: the moves by a drain before, those while it is down, those once it is back, and the
+    applications that run nowhere meanwhile.
 
-    A waiter is a node that gives up at its start gate: then the restart can't go on. Some applications OTP may fail to restart, and
-    some wait, because the node is back before their time is over.
+    A waiter is a node that gives up at its start gate, so that the restart can't go on. OTP may fail to restart some
+    applications, and some wait because the node is back before their time is over.
     """
 
     node: str
@@ -61,30 +62,30 @@ class Step:
 
     @property
     def moves(self) -> int:
-        """How many moves it makes."""
+        """The number of its moves."""
         return len(self.drained) + len(self.down) + len(self.back)
 
     @property
     def waits(self) -> int:
-        """For how many milliseconds applications wait for their failover, all together."""
+        """The total wait of applications for their failover, in milliseconds."""
         return sum(move.milliseconds for move in (*self.down, *self.back) if move.how == "failover")
 
     @property
     def cost(self) -> Cost:
-        """What it costs: first whether it can't go on, then what runs nowhere, then moves, then waits."""
+        """Its cost: first whether it can't go on, then applications that run nowhere, then moves, then waits."""
         return (len(self.waiters), len(self.nowhere), self.moves, self.waits)
 
 
 @dataclass(frozen=True)
 class Standing:
-    """A cluster between two steps, with what its nodes know."""
+    """A cluster between two steps, with its nodes' knowledge."""
 
     cluster: Cluster
     page: Page
 
     @property
     def key(self) -> tuple[object, ...]:
-        """What the next step hangs on: the nodes that are up, and what is to be done about each application by whom."""
+        """The input of the next step: the nodes that are up, and each application's place, verdict and marks."""
         held = ((each.app, each.runs_at, each.verdict, each.at, each.marks) for each in self.page.held.values())
         return (tuple(sorted(self.cluster.nodes)), tuple(held))
 
@@ -93,7 +94,7 @@ class Standing:
 class Rolling:
     """The whole answer: the steps of an order, how it was found, and the moves of the worst order if all were compared.
 
-    A restart takes so many milliseconds, or longer than all waits.
+    A restart takes a number of milliseconds, or longer than all waits.
     """
 
     configuration: Configuration
@@ -108,12 +109,12 @@ class Rolling:
 
     @property
     def moves(self) -> int:
-        """How many moves all steps make."""
+        """The number of moves of all steps."""
         return sum(step.moves for step in self.steps)
 
     @property
     def waits(self) -> int:
-        """For how many milliseconds applications wait in all steps together."""
+        """The total wait of applications in all steps, in milliseconds."""
         return sum(step.waits for step in self.steps)
 
     @property
@@ -151,7 +152,7 @@ def rolling_on(distac: Distac, side: Side, given: list[str], drains: bool, takes
 
 
 def play_order(planner: Planner, start: Standing, order: Iterable[str]) -> tuple[list[Step], list[str]]:
-    """The steps of an order, played as one script up to the first that can't go on, and the script's lines."""
+    """The steps of an order, played as one script until one can't go on, and the script's lines."""
     standing, steps = start, []
     for node in order:
         step, standing = planner.play(standing, node)
@@ -162,7 +163,7 @@ def play_order(planner: Planner, start: Standing, order: Iterable[str]) -> tuple
 
 
 def greedy(planner: Planner, start: Standing) -> tuple[list[Step], list[str]]:
-    """The steps of an order that takes next whichever node has the fewest applications, and the script's lines."""
+    """The steps of an order that always takes the node with the fewest applications next, and the script's lines."""
     standing, rest = start, sorted(start.cluster.nodes)
     steps: list[Step] = []
     planner.distac.cases += len(rest)
@@ -178,7 +179,7 @@ def greedy(planner: Planner, start: Standing) -> tuple[list[Step], list[str]]:
 
 @dataclass(frozen=True)
 class Plan:
-    """The best order of some nodes with its cost, how many orders there are, and the moves of the worst one."""
+    """The best order of some nodes with its cost, the number of orders, and the moves of the worst one."""
 
     cost: Cost
     order: tuple[str, ...]
@@ -197,7 +198,7 @@ class Planner:
         self.plans: dict[tuple[object, frozenset[str]], Plan] = {}
 
     def best(self, standing: Standing, nodes: frozenset[str]) -> Plan:
-        """The best order of some nodes. Of equal ones the first by name counts."""
+        """The best order of some nodes; of equally good ones the first by name."""
         key = (standing.key, nodes)
         if key not in self.plans:
             self.plans[key] = self.compared(standing, nodes)
@@ -212,21 +213,21 @@ class Planner:
         return Plan(best.cost, best.order, sum(plan.count for plan in plans), max(plan.most_moves for plan in plans))
 
     def beginning_with(self, standing: Standing, node: str, nodes: frozenset[str]) -> Plan:
-        """The best of all orders that begin with a node. Behind a step that can't go on there is no other one."""
+        """The best of all orders that begin with a node. No order continues after a step that can't go on."""
         step, following = self.step(standing, node)
         rest = nodes - {node}
         plan = Plan((len(rest), 0, 0, 0), tuple(sorted(rest)), factorial(len(rest)), 0) if step.waiters else self.best(following, rest)
         return Plan(sum_of(step.cost, plan.cost), (node, *plan.order), plan.count, step.moves + plan.most_moves)
 
     def step(self, standing: Standing, node: str) -> tuple[Step, Standing]:
-        """A step and what it leads to, by an earlier one that began with an equal page if there was any."""
+        """A step and its result, possibly from an earlier one that began with an equal page."""
         key = (standing.key, node)
         if key not in self.steps:
             self.steps[key] = self.play(standing, node)
         return self.steps[key]
 
     def play(self, standing: Standing, node: str) -> tuple[Step, Standing]:
-        """A step is played. In the end all nodes know all, so that any of them may be the next one."""
+        """Plays a step. At its end all nodes know everything, so that any of them may be the next one."""
         cluster, drained = standing.cluster.copy(), []
         if self.drains and node in cluster.nodes:
             drained = drain(self.distac, cluster, node)
@@ -244,7 +245,7 @@ class Planner:
 
 
 def drain(distac: Distac, cluster: Cluster, node: str) -> list[Claimed]:
-    """A node is drained, and what can run elsewhere goes there."""
+    """Drains a node; applications that can run elsewhere move there."""
     start = len(cluster.story.lines)
     cluster.story.command(f"drain {cluster.hub} {node} true")
     cluster.is_untold = True
@@ -253,7 +254,8 @@ def drain(distac: Distac, cluster: Cluster, node: str) -> list[Claimed]:
 
 
 def moves_of(page: Page, claims: list[Claimed], earlier: Page | None = None) -> list[Move]:
-    """Claims as moves from where each application ran, by a page before them, or by one still earlier if it ran nowhere then."""
+    """Claims as moves from each application's node, on the page before them, or on an earlier one if it ran nowhere
+    then."""
     found = []
     for claim in claims:
         source = runs_at(page, claim.app) or (runs_at(earlier, claim.app) if earlier else None)
@@ -262,6 +264,6 @@ def moves_of(page: Page, claims: list[Claimed], earlier: Page | None = None) -> 
 
 
 def runs_at(page: Page, app: str) -> str | None:
-    """Where an application runs by a page."""
+    """The node that runs an application, on a page."""
     held = page.held.get(app)
     return held.runs_at if held else None

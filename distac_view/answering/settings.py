@@ -1,4 +1,4 @@
-"""What two configurations say otherwise: of an application that both have, and of all nodes."""
+"""The differences of two configurations in the settings of shared applications, and of all nodes."""
 
 from __future__ import annotations
 
@@ -15,7 +15,7 @@ GATES = ("sync_nodes_mandatory", "sync_nodes_optional", "sync_nodes_timeout")
 
 @dataclass(frozen=True)
 class Differing:
-    """A setting with its two values as a file has them: of an application, or of all nodes. An absent value is none."""
+    """A setting with its two values in the files' form: of an application, or of all nodes. None is an absent value."""
 
     name: str
     app: str | None
@@ -34,7 +34,7 @@ def differing_settings(old: Checked, new: Checked) -> list[Differing]:
 
 
 def of_application(one: Application, other: Application) -> Iterator[Differing]:
-    """What an application has otherwise in another configuration."""
+    """The settings of an application that another configuration changes."""
     values = {
         LIST: (list_of(one.groups), list_of(other.groups)),
         TIME: (str(one.timeout), str(other.timeout)),
@@ -44,7 +44,7 @@ def of_application(one: Application, other: Application) -> Iterator[Differing]:
 
 
 def forbidden_of(old: Checked, new: Checked) -> dict[str, tuple[str, str]]:
-    """At which single nodes each application is forbidden that both have."""
+    """The single nodes at which each shared application is forbidden."""
     pairs = forbidden_in(old), forbidden_in(new)
     names = [name for name in old.configuration.names if name in new.configuration.names]
     return {name: (nodes_for(name, pairs[0]), nodes_for(name, pairs[1])) for name in names}
@@ -56,17 +56,17 @@ def nodes_for(name: str, pairs: list[tuple[str, str]]) -> str:
 
 
 def list_of(groups: list[list[str]]) -> str:
-    """A list of nodes as a file has it."""
+    """A list of nodes in a file's form."""
     return "[%s]" % ",".join(group[0] if len(group) == 1 else "{%s}" % ",".join(group) for group in groups)
 
 
 def truth_of(value: bool) -> str:
-    """A truth value as a file has it."""
+    """A boolean in a file's form."""
     return "true" if value else "false"
 
 
 def of_all_nodes(checked: Checked) -> dict[str, str | None]:
-    """The settings that hold for all nodes, by their names in the file."""
+    """The settings for all nodes, by their names in the file."""
     configuration = checked.configuration
     lists = [list_of([[node] for node in nodes]) for nodes in (configuration.mandatory, configuration.optional)]
     return {**dict(zip(GATES, (*lists, configuration.sync_timeout))), "net_ticktime": str(tick_time_of(checked.text))}

@@ -1,7 +1,7 @@
-"""What becomes of each application in a split, and once it is healed.
+"""The effect of a split on each application, and its place once the split is healed.
 
-All sides are played in one script: each says of all other nodes that they are down, and waits. Then all tell each other what they
-know, and the page says who holds each application. What runs once all nodes have booted again is asked from there.
+All sides are played in one script: each declares all other nodes down, and waits. Then all share their states, and the
+page names the holder of each application. The final places, after all nodes have booted again, are computed from there.
 """
 
 from __future__ import annotations
@@ -27,7 +27,7 @@ BETWEEN = "/"
 
 @dataclass(frozen=True)
 class Part:
-    """A side of a split: its nodes that were up, and what becomes of each application there."""
+    """A side of a split: its nodes that were up, and the effect on each application there."""
 
     nodes: list[str]
     case: Case
@@ -35,7 +35,8 @@ class Part:
 
 @dataclass(frozen=True)
 class Healed:
-    """An application behind a split: where copies of it ran, which one has the greatest claim, and where it runs once all have booted."""
+    """An application after a split: the places of its copies, the greatest claim, and its place once all nodes have
+    booted."""
 
     app: str
     copies: list[str]
@@ -46,7 +47,7 @@ class Healed:
 
 @dataclass(frozen=True)
 class SplitReply:
-    """The answer on a split: how it began, its sides, what is healed, and kernel's time of ticks."""
+    """The answer on a split: its beginning, its sides, the healed applications, and net_ticktime."""
 
     configuration: Configuration
     question: Question
@@ -57,7 +58,7 @@ class SplitReply:
 
     @property
     def twice(self) -> list[Healed]:
-        """The applications that run more than once while the split lasts."""
+        """The applications that run more than once during the split."""
         return [each for each in self.healed if len(each.copies) > 1]
 
 
@@ -78,7 +79,7 @@ def split_reply(distac: Distac, question: Question) -> SplitReply:
 
 
 def groups_of(words: list[str], configuration: Configuration) -> list[list[str]]:
-    """The sides that the command line names, a slash between them. Nodes that none has are one more."""
+    """The sides named on the command line, separated by slashes. Unnamed nodes form one more side."""
     bars = [-1, *(place for place, word in enumerate(words) if word == BETWEEN), len(words)]
     named = [known_nodes(words[start + 1 : end], configuration) for start, end in zip(bars, bars[1:])]
     every = [node for group in named for node in group]
@@ -92,7 +93,7 @@ def groups_of(words: list[str], configuration: Configuration) -> list[list[str]]
 
 
 def course_of_part(distac: Distac, whole: Cluster, group: list[str]) -> Course:
-    """What a side does, in the script of all sides: it begins when the split does."""
+    """The course of a side, in the script of all sides: it begins with the split."""
     others = [node for node in whole.nodes if node not in group]
     begin, start = whole.story.now, len(whole.story.lines)
     cluster = replace(whole, nodes=sorted(group, key=name_order), ended=[], waiting=[])
@@ -108,14 +109,15 @@ def course_of_part(distac: Distac, whole: Cluster, group: list[str]) -> Course:
 
 
 def held_when_healed(distac: Distac, whole: Cluster) -> dict[str, Held]:
-    """Who holds each application once all nodes hear each other again. A second share brings what the first one made known."""
+    """The holder of each application once all nodes hear each other again. A second share spreads the news of the first
+    one."""
     whole.story.add_uncounted("share", "share")
     page = page_of(whole.story.play(distac, f"page {whole.hub}")[0].answer) if whole.nodes else Page()
     return held_on(page, whole.configuration)
 
 
 def healed_by(distac: Distac, checked: Checked, side: Side, parts: list[Part], held: dict[str, Held]) -> list[Healed]:
-    """Each application behind the split. Where it runs in the end is asked from where its greatest claim is, with all nodes up."""
+    """Each application after the split. Its final place is computed from its greatest claim, with all nodes up."""
     places = {app: each.holder for app, each in held.items() if each.holder is not None}
     fresh = [app for app in held if app not in places and app not in side.cluster.unused]
     start = opened_now(distac, checked, Placed(places, side.nodes, fresh))
@@ -129,6 +131,6 @@ def healed_by(distac: Distac, checked: Checked, side: Side, parts: list[Part], h
 
 
 def with_back(part: Part, healed: list[Healed]) -> Part:
-    """A side, whose applications are in the end where they are once the split is healed."""
+    """A side whose final places are those after the split is healed."""
     back = {each.app: each.back for each in healed}
     return Part(part.nodes, replace(part.case, fates=[replace(fate, back=back[fate.app]) for fate in part.case.fates]))

@@ -1,7 +1,7 @@
-"""What becomes of each application if nodes go down, and once they are back.
+"""The effect on each application if nodes go down, and once they are back.
 
-A script is made for each answer, and `distac sim` plays it: all nodes come up, everything is started, and all comes to rest. Then
-the nodes go down, another one is told, and those that are left tick at each moment at which a wait is over.
+Each answer comes from a script that `distac sim` plays: all nodes come up, everything is started, and all comes to
+rest. Then the nodes go down, another one is told, and the remaining nodes tick at each moment at which a wait ends.
 """
 
 from __future__ import annotations
@@ -30,10 +30,11 @@ MOST_AT_ONCE = 8
 
 @dataclass(frozen=True)
 class Question:
-    """What is asked: the configuration, which nodes go down together and come back, where nothing is started, and how it begins.
+    """The question: the configuration, the nodes that go down together and come back, nodes where nothing is started,
+    and the beginning.
 
-    It begins after a script, or with applications where they run now, or with a cluster that just came up. A restart takes so many
-    milliseconds, or longer than all waits.
+    It begins after a script, with applications at their present places, or with a cluster that just came up. A restart
+    takes a number of milliseconds, or longer than all waits.
     """
 
     config: str
@@ -49,7 +50,7 @@ class Question:
 
 @dataclass(frozen=True)
 class Fate:
-    """What becomes of an application: where it is, then and later, how it comes there, after how long, and its list's marks.
+    """The course of an application: its places, how and when it gets there, and its list's marks.
 
     It waits if its nodes are back before its time is over.
     """
@@ -66,25 +67,26 @@ class Fate:
 
     @property
     def stays(self) -> bool:
-        """Whether nothing becomes of it: it is in one place all the time."""
+        """Whether it stays in one place."""
         return self.how in ("stays", "nobody") and self.now == self.then == self.back
 
     @property
     def wait(self) -> int | None:
-        """For how many milliseconds it waits for its failover, if it fails over."""
+        """Its failover wait in milliseconds, if it fails over."""
         return self.milliseconds if self.how == "failover" else None
 
     @property
     def is_alone(self) -> bool:
-        """Whether it is then at the last node that can run it."""
+        """Whether the last node that can run it then has it."""
         return self.then is not None and all(node == self.then for node, mark in marks_in(self.marks) if mark == "ok")
 
 
 @dataclass(frozen=True)
 class Case:
-    """Some nodes that go down together, what becomes of each application, which nodes come back, and who waits at a start gate then.
+    """Nodes that go down together, the course of each application, the nodes that come back, and those that wait at a
+    start gate then.
 
-    With it go the applications that OTP may fail to restart.
+    Also the applications that OTP may fail to restart.
     """
 
     down: list[str]
@@ -96,7 +98,7 @@ class Case:
 
 @dataclass(frozen=True)
 class Answers:
-    """What is answered for nodes that hear each other: their start, and a case for each loss."""
+    """The answers for nodes that hear each other: their start, and a case for each loss."""
 
     side: Side
     cases: list[Case]
@@ -104,7 +106,7 @@ class Answers:
 
 @dataclass(frozen=True)
 class Reply:
-    """The whole answer: for each side of a split, or for the one side that there is."""
+    """The whole answer: for each side of a split, or for the only side."""
 
     configuration: Configuration
     question: Question
@@ -137,7 +139,7 @@ def reply_on(distac: Distac, checked: Checked, question: Question) -> Reply:
 
 
 def sides_of(distac: Distac, checked: Checked, question: Question, not_started: list[str]) -> list[Side]:
-    """How the question begins."""
+    """The sides at the beginning of the question."""
     if question.now:
         if question.after or not_started:
             raise Problem("--now can't stand beside --after or --not-started: it says itself what runs where")
@@ -148,12 +150,12 @@ def sides_of(distac: Distac, checked: Checked, question: Question, not_started: 
 
 
 def known_nodes(words: list[str], configuration: Configuration) -> list[str]:
-    """Nodes that the command line names, as the configuration spells them."""
+    """Nodes of the command line, as the configuration spells them."""
     return sorted({known_node(word, configuration) for word in words}, key=name_order)
 
 
 def known_node(word: str, configuration: Configuration) -> str:
-    """A node that somebody names, as the configuration spells it."""
+    """A named node, as the configuration spells it."""
     name = node_meant(word, configuration.nodes)
     if name is None:
         some = shown(", ".join(bare_names(configuration.nodes)))
@@ -162,7 +164,7 @@ def known_node(word: str, configuration: Configuration) -> str:
 
 
 def courses_of(distac: Distac, side: Side, losses: list[Loss]) -> Iterator[Course]:
-    """How some cases go, each told to the progress."""
+    """The courses of some cases, each reported to the progress."""
     pages = first_pages(distac, side.cluster, losses)
     distac.cases += len(losses)
     with ThreadPoolExecutor(min(MOST_AT_ONCE, os.cpu_count() or 1)) as pool:
@@ -172,12 +174,12 @@ def courses_of(distac: Distac, side: Side, losses: list[Loss]) -> Iterator[Cours
 
 
 def cases_of(distac: Distac, side: Side, losses: list[Loss]) -> list[Case]:
-    """What becomes of each application in some cases."""
+    """The course of each application in some cases."""
     return [case_of(side, course) for course in courses_of(distac, side, losses)]
 
 
 def case_of(side: Side, course: Course) -> Case:
-    """What becomes of each application in a case."""
+    """The course of each application in a case."""
     now, at_once, then, back = (held_on(page, side.cluster.configuration) for page in (side.page, course.at_once, course.then, course.back))
     claims = {each.app: each.milliseconds for each in course.claims}
     fates = [fate_of(now[name], at_once[name], then[name], back[name], claims.get(name), name in course.waiting) for name in now]
@@ -187,7 +189,7 @@ def case_of(side: Side, course: Course) -> Case:
 
 
 def held_on(page: Page, configuration: Configuration) -> dict[str, Held]:
-    """The applications on a page. If there is no node that knows anything, nobody has any."""
+    """The applications on a page. Without a node that knows anything, nobody holds any."""
     return {name: page.held.get(name) or Held(name, None, 0, 0, "", "nobody", None, "") for name in configuration.names}
 
 
@@ -197,7 +199,7 @@ def nowhere_at_first(side: Side) -> list[Held]:
 
 
 def fate_of(now: Held, at_once: Held, then: Held, back: Held, claimed: int | None, waits: bool) -> Fate:
-    """What becomes of an application, by the pages before, at once behind, later and in the end."""
+    """The course of an application, from the pages before, directly after, later and at the end."""
     how = at_once.verdict
     if how in ("kept", "halted") or (how == "nobody" and at_once.runs_at):
         how = "stays"

@@ -1,4 +1,4 @@
-"""The models in place of the program `distac`: Python, and no proof."""
+"""The models instead of the program `distac`: Python, and no proof."""
 
 from __future__ import annotations
 
@@ -10,13 +10,13 @@ from typing import Callable
 from distac_view.common.problems import Problem
 
 PACKAGE = Path(__file__).resolve().parents[1]
-# Where the package is installed the models are within it, and otherwise beside it.
+# An installed package contains the models; otherwise they are next to it.
 INSTALLED = PACKAGE / "models"
 FOLDER = INSTALLED if INSTALLED.is_dir() else PACKAGE.parent / "models"
 
 
 def asked_of_models() -> Callable[[str, bytes], "tuple[bytes, int]"]:
-    """What answers as the program does: a function from a subcommand and its input to what is printed and the exit status."""
+    """A replacement for the program: a function from a subcommand and its input to the output and the exit status."""
     sys.path.insert(0, str(FOLDER))
     models = {"check": import_module("check").check, "sim": import_module("simulator").simulate}
 

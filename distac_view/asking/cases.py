@@ -1,8 +1,8 @@
-"""Nodes go down together, and come back: what the others do then, as a script that is played once for each case.
+"""Nodes go down together and come back: the others' actions, as a script that is played once for each case.
 
-The lines of a case are written before it is known what is answered to them. Which nodes may claim anything is read off a page on
-which the loss has been told, and all such pages are had in one play. If a node waits at its start gate, or if a case isn't at rest
-at the end of its lines, the case is played again step by step.
+The lines of a case are written before their answers are known. The nodes that may claim anything are found on a page
+after the loss was reported, and all such pages come from one play. If a node waits at its start gate, or if a case
+isn't at rest after its lines, the case is played again step by step.
 """
 
 from __future__ import annotations
@@ -20,7 +20,8 @@ LAST_ROUNDS = 2
 
 @dataclass(frozen=True)
 class Loss:
-    """Nodes that go down together, which of them come back, where nothing is started then, and after how many milliseconds.
+    """Nodes that go down together, those that come back, where nothing is started then, and after how many
+    milliseconds.
 
     Without such a number they come back once all waits are over.
     """
@@ -31,17 +32,17 @@ class Loss:
     takes: int | None = None
 
     def outlasts(self, wait: int) -> bool:
-        """Whether an application's wait is over before they are back."""
+        """Whether an application's wait ends before they are back."""
         return self.takes is None or wait < self.takes
 
     def leaves(self, held: Held, timeouts: dict[str, int]) -> bool:
-        """Whether nothing is to be done about an application before they are back: it waits for longer than that."""
+        """Whether nothing happens to an application before they are back, because it waits longer."""
         return not held.is_pending or (held.verdict == "failover" and not self.outlasts(timeouts[held.app]))
 
 
 @dataclass(frozen=True)
 class Claimed:
-    """A claim: which application, by which node, how, and how many milliseconds after the loss or the return."""
+    """A claim: its application, node and kind, and the milliseconds since the loss or the return."""
 
     app: str
     node: str
@@ -51,9 +52,10 @@ class Claimed:
 
 @dataclass(frozen=True)
 class Course:
-    """How a case goes: what is known at once, later, and once nodes are back. With it go the claims until then, and those behind it.
+    """The course of a case: the pages at once, later, and once nodes are back, the claims until then, and those after
+    it.
 
-    The cluster is the one in the end.
+    The cluster is the final one.
     """
 
     loss: Loss
@@ -71,9 +73,10 @@ class Course:
 
 
 def first_pages(distac: Distac, cluster: Cluster, losses: list[Loss]) -> list[Page]:
-    """What is known at once in each of some cases, if some node is left.
+    """The page directly after each case's loss, if a node is left.
 
-    A node that is told of a loss, and tells nobody, knows what all would know: as many cases as there are nodes are had in one play.
+    A node that is told of a loss, and tells nobody, knows what all would know, so one play covers as many cases as
+    there are nodes.
     """
     found: dict[int, Page] = {}
     open_ones = {number: loss for number, loss in enumerate(losses) if set(cluster.nodes) - set(loss.down)}
@@ -91,7 +94,7 @@ def first_pages(distac: Distac, cluster: Cluster, losses: list[Loss]) -> list[Pa
 
 
 def tellers_of(cluster: Cluster, losses: dict[int, Loss]) -> dict[int, str]:
-    """A node for each of some cases, as far as there are nodes: none that is down in it, and each for one case alone."""
+    """A node for each case, as far as there are enough: none that is down in it, and each for only one case."""
     free, found = list(cluster.nodes), {}
     for number, loss in losses.items():
         node = next((node for node in free if node not in loss.down), None)
@@ -104,7 +107,7 @@ def tellers_of(cluster: Cluster, losses: dict[int, Loss]) -> dict[int, str]:
 
 
 def course_of(distac: Distac, settled: Cluster, loss: Loss, at_once: Page) -> Course:
-    """How a case goes. What is at rest at once needs no play, if nobody comes back."""
+    """The course of a case. One that is at rest at once needs no play, if nobody comes back."""
     if at_once.held and at_once.is_at_rest and not loss.back:
         return Course(loss, at_once, at_once, at_once, [], [], settled)
     if not set(settled.nodes) - set(loss.down):
@@ -117,7 +120,7 @@ def course_of(distac: Distac, settled: Cluster, loss: Loss, at_once: Page) -> Co
 
 
 def quick_course(distac: Distac, settled: Cluster, loss: Loss, at_once: Page, is_wide: bool) -> Course | None:
-    """How a case goes, if that can be had in one play. By default those nodes alone take part that a page names for a claim."""
+    """The course of a case, if one play suffices. By default only nodes that a page names for a claim take part."""
     cluster, start, begin = settled.copy(), len(settled.story.lines), settled.story.now
     left = [node for node in cluster.nodes if node not in loss.down]
     if cluster.is_untold:
@@ -144,7 +147,7 @@ def quick_course(distac: Distac, settled: Cluster, loss: Loss, at_once: Page, is
 
 
 def careful_course(distac: Distac, settled: Cluster, loss: Loss) -> Course:
-    """How a case goes, played step by step with all nodes."""
+    """The course of a case, played step by step with all nodes."""
     cluster, start, begin = settled.copy(), len(settled.story.lines), settled.story.now
     cluster.tell_all()
     cluster.crash(loss.down)
@@ -163,7 +166,8 @@ def careful_course(distac: Distac, settled: Cluster, loss: Loss) -> Course:
 
 
 def wait_out(distac: Distac, cluster: Cluster, at_once: Page, loss: Loss) -> None:
-    """Those that are left tick at once, and at each moment at which an application's wait is over before nodes are back."""
+    """The remaining nodes tick at once, and at each moment at which an application's wait ends before nodes are
+    back."""
     begin, waits = cluster.story.now, [wait for wait in waits_of(cluster, at_once) if loss.outlasts(wait)]
     for moment in [begin, *(begin + wait for wait in sorted(waits))]:
         cluster.story.now = moment
@@ -173,18 +177,18 @@ def wait_out(distac: Distac, cluster: Cluster, at_once: Page, loss: Loss) -> Non
 
 
 def later_moments(cluster: Cluster, at_once: Page, loss: Loss, begin: int) -> list[int]:
-    """The moments at which waits are over that nodes interrupted by coming back: they count from the loss."""
+    """The moments at which waits end that returning nodes interrupted: they count from the loss."""
     return sorted({begin + wait for wait in waits_of(cluster, at_once) if not loss.outlasts(wait)})
 
 
 def boot_again(cluster: Cluster, loss: Loss, begin: int) -> None:
-    """Nodes come up again, so long after they went down or once all waits are over, and everything is started there."""
+    """Nodes come up again, after their time or once all waits are over, and everything is started there."""
     cluster.story.now = cluster.story.now + 1 if loss.takes is None else begin + loss.takes
     cluster.boot(loss.back, loss.not_started)
 
 
 def claims_in(cluster: Cluster, start: int, end: int | None = None) -> list[Claimed]:
-    """The claims of some lines, their moments counted from the first of these."""
+    """The claims of some lines, with moments counted from the first line."""
     story = cluster.story
     each = list(zip(story.moments[start:end], story.answers[start:end]))
     return [claimed(one, line, moment - each[0][0]) for moment, one in each for line in one.answer[1:] if is_claim(one, line)]
@@ -196,6 +200,6 @@ def is_claim(one: Answered, line: str) -> bool:
 
 
 def claimed(one: Answered, line: str, milliseconds: int) -> Claimed:
-    """A claim by its line."""
+    """The claim in a line."""
     found = CLAIM.match(line)
     return Claimed(found["app"], one.actor, found["how"].split(" ")[0], milliseconds) if found else Claimed("", one.actor, "", milliseconds)

@@ -1,7 +1,7 @@
-"""Nodes that hear each other, in a script that is made: they tick, one of them hears of all claims, and tells the others.
+"""Nodes that hear each other, in a generated script: they tick, one of them hears of all claims, and tells the others.
 
-A share among sixty-four nodes is 4,032 messages. Here all is told to the first of the nodes, the hub, and the hub tells the others:
-then each knows what it would know behind a share.
+A share among sixty-four nodes is 4,032 messages. Here the first node, the hub, is told everything and tells the others,
+who then know as much as after a share.
 """
 
 from __future__ import annotations
@@ -19,7 +19,7 @@ GAVE_UP, HELD_BACK = "gave up", "held"
 
 @dataclass(frozen=True)
 class Waiter:
-    """A node at its start gate: the mandatory nodes and the optional ones that it waits for, and whether it gave up."""
+    """A node at its start gate: the mandatory and optional nodes that it waits for, and whether it gave up."""
 
     node: str
     mandatory: list[str]
@@ -29,10 +29,11 @@ class Waiter:
 
 @dataclass
 class Cluster:
-    """Nodes that are up, can act and hear each other, and the script that brought them here. The first one is the hub.
+    """Nodes that are up, can act and hear each other, and the script so far. The first one is the hub.
 
-    It is untold if the hub heard something since it last told all others. Beside the nodes stand those that gave up at their start
-    gate, those that still wait there, the applications that are never started, and those that nodes forbid to themselves as they boot.
+    It is untold if the hub has news that it hasn't told all others. Also the nodes that gave up at their start gate,
+    those that still wait there, the applications that are never started, and those that nodes forbid to themselves as
+    they boot.
     """
 
     story: Story
@@ -44,12 +45,12 @@ class Cluster:
     forbidden: list[tuple[str, str]] = field(default_factory=list)
 
     def copy(self) -> Cluster:
-        """The same cluster, to be gone on with apart."""
+        """A copy that can continue separately."""
         return replace(self, story=self.story.copy(), nodes=list(self.nodes), ended=list(self.ended), waiting=list(self.waiting))
 
     @property
     def hub(self) -> str:
-        """The node that all is told to, and that tells all others."""
+        """The node that is told everything and tells all others."""
         return self.nodes[0]
 
     @property
@@ -58,7 +59,8 @@ class Cluster:
         return self.story.configuration
 
     def boot(self, nodes: list[str], not_started: Iterable[str]) -> None:
-        """Nodes come up, start everything that they may run, but for some nodes, and tell the hub, which is one that was up before."""
+        """Nodes come up, start everything that they may run, except at some nodes, and tell the hub, which was up
+        before."""
         first = self.nodes[0] if self.nodes else nodes[0]
         for node in nodes:
             self.story.command(f"boot {node} {self.story.now}")
@@ -72,12 +74,12 @@ class Cluster:
         self.is_untold = True
 
     def start_at(self, places: Iterable[tuple[str, str]]) -> None:
-        """Applications are started at nodes. The hub says it."""
+        """The hub starts applications at nodes."""
         self.story.command(*(f"start {self.hub} {name} {node}" for name, node in places))
         self.is_untold = True
 
     def crash(self, nodes: list[str]) -> None:
-        """Nodes go down, and the first one of those that are left is told."""
+        """Nodes go down, and the first remaining one is told."""
         self.story.add(*(f"crash {node}" for node in nodes))
         self.nodes = [node for node in self.nodes if node not in nodes]
         if self.nodes:
@@ -89,44 +91,45 @@ class Cluster:
         self.is_untold = True
 
     def tell(self, nodes: Iterable[str]) -> None:
-        """The hub tells some nodes what it knows. It has to have heard something since it told them last."""
+        """The hub tells some nodes its state. It must have news since it told them last."""
         for node in nodes:
             if node != self.hub:
                 self.story.tell(self.hub, node)
 
     def tell_all(self) -> None:
-        """The hub tells all nodes what it knows, if they don't know it yet."""
+        """The hub tells all nodes its state, unless they already know it."""
         if self.is_untold:
             self.tell(self.nodes)
         self.is_untold = False
 
     def tick(self, nodes: Iterable[str]) -> None:
-        """Nodes look after their applications."""
+        """Nodes tick."""
         self.story.add(*(f"tick {node} {self.story.now}" for node in nodes))
 
     def page(self, distac: Distac) -> Page:
-        """What the hub knows. Of no node at all there is an empty page."""
+        """The hub's page, which is empty if there is no node."""
         if not self.nodes:
             return Page()
         return page_of(self.story.play(distac, f"page {self.hub}")[0].answer)
 
     def waiter(self, node: str, gave_up: bool) -> Waiter:
-        """Whom a node waits for: the sync nodes that aren't among those that hear each other."""
+        """The nodes that a node waits for: the sync nodes outside those that hear each other."""
         return Waiter(node, self.away(self.configuration.mandatory), self.away(self.configuration.optional), gave_up)
 
     def away(self, nodes: Iterable[str]) -> list[str]:
-        """Those of some nodes that aren't among those that hear each other."""
+        """Those of some nodes outside the ones that hear each other."""
         return [node for node in nodes if node not in self.nodes]
 
 
 def longest_wait(configuration: Configuration) -> int:
-    """After how long each wait of a failover or of a starting node is over, in milliseconds."""
+    """The milliseconds after which all waits of failovers and starting nodes are over."""
     sync = configuration.sync_timeout or "0"
     return max([0 if sync == "infinity" else int(sync), *(each.timeout for each in configuration.applications)])
 
 
 def take_round(distac: Distac, cluster: Cluster) -> bool:
-    """All nodes hear what is new and tick. The hub hears of all claims, and of nodes that gave up. Whether there was any of both."""
+    """All nodes hear the news and tick. The hub hears of all claims, and of nodes that gave up. Returns whether there
+    were any of either."""
     cluster.tell_all()
     story, start = cluster.story, len(cluster.story.lines)
     cluster.tick(cluster.nodes)
@@ -144,9 +147,9 @@ def take_round(distac: Distac, cluster: Cluster) -> bool:
 
 
 def take_rounds(distac: Distac, cluster: Cluster) -> None:
-    """Rounds until one in which nothing happens, at most two more than there are applications. That last one is taken back.
+    """Rounds until nothing happens in one, at most two more than there are applications. That last one is undone.
 
-    It is not taken back if a node waits at its start gate, since a tick may have opened that gate.
+    It isn't undone if a node waits at its start gate, because a tick may have opened it.
     """
     for _ in range(len(cluster.configuration.applications) + 2):
         before = cluster.copy()
@@ -158,7 +161,7 @@ def take_rounds(distac: Distac, cluster: Cluster) -> None:
 
 
 def come_to_rest(distac: Distac, cluster: Cluster) -> None:
-    """All waits pass, and the cluster comes to rest. If a node gives up meanwhile, the others wait once more."""
+    """All waits end, and the cluster comes to rest. If a node gives up meanwhile, the others wait once more."""
     ended = -1
     while ended != len(cluster.ended):
         ended = len(cluster.ended)
@@ -168,9 +171,10 @@ def come_to_rest(distac: Distac, cluster: Cluster) -> None:
 
 
 def share_all(distac: Distac, cluster: Cluster) -> None:
-    """All nodes tell each other what they know, whatever they told each other before.
+    """All nodes tell each other their states, whatever they told before.
 
-    A ship may be refused here, and a node that booted again may be known by its earlier life. It is played which ships are heard.
+    A ship may be refused here, and a node that booted again may be known by its earlier life, so playing shows which
+    ships are heard.
     """
     if not cluster.nodes:
         return

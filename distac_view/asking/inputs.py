@@ -1,4 +1,4 @@
-"""Files read and looked at by `distac`: configurations, and scripts with their answers."""
+"""Files read and checked by `distac`: configurations, and scripts with their answers."""
 
 from __future__ import annotations
 
@@ -19,7 +19,7 @@ from distac_view.reading.tell_lines import fault_in, written_out
 
 @dataclass(frozen=True)
 class Loaded:
-    """A script that has no fault: its file, its configuration, and its lines with each `tell` written out."""
+    """A script without faults: its file, its configuration, and its lines with each `tell` written out."""
 
     path: str
     script: Script
@@ -28,24 +28,24 @@ class Loaded:
 
     @property
     def plain(self) -> bytes:
-        """The input that `distac sim` gets."""
+        """The input for `distac sim`."""
         return plain_of(self.script, self.lines)
 
 
 def plain_of(script: Script, lines: list[Line]) -> bytes:
-    """An input of these lines: the file itself where nothing is written out."""
+    """An input of these lines: the file itself if nothing is written out."""
     if lines == script.lines:
         return script.source
     return script.config + b"--\n" + bytes_of("\n".join(line.text for line in lines))
 
 
 def load_config(distac: Distac, path: str) -> Checked:
-    """A configuration by its file. Of one that is too long one byte more than it may have is read, and that is the fault."""
+    """The configuration in a file. If it is too long, one byte more than allowed is read, which is the fault."""
     return check_config(distac, path, read_bytes(path, MOST_CONFIG))
 
 
 def check_config(distac: Distac, path: str, text: bytes) -> Checked:
-    """A configuration by its text."""
+    """The configuration in a text."""
     answer = distac.check(text)
     if answer.is_fault:
         raise Faulty(path, remark_on_answer(answer, text))
@@ -54,7 +54,7 @@ def check_config(distac: Distac, path: str, text: bytes) -> Checked:
 
 
 def remark_on_answer(answer: Answer, source: bytes) -> Remark:
-    """What is to be said of a fault of a configuration, or of an input as a whole."""
+    """The remark on a fault of a configuration, or of a whole input."""
     fault = fault_of(answer.lines[0])
     if fault.part is Part.SCRIPT:
         raise Problem(f"distac spoke of a script where there was none: {answer.lines[0]}")
@@ -62,7 +62,7 @@ def remark_on_answer(answer: Answer, source: bytes) -> Remark:
 
 
 def load_script(distac: Distac, path: str) -> Loaded:
-    """A script by its file."""
+    """The script in a file."""
     source = read_bytes(path, MOST_INPUT)
     script = script_of(source) if len(source) <= MOST_INPUT else None
     if script is None:
@@ -102,7 +102,7 @@ def play_lines(distac: Distac, path: str, script: Script, lines: list[Line], con
 
 
 def remark_on_fault(answer: Answer, source: bytes, lines: list[Line], configuration: Configuration) -> Remark:
-    """What is to be said of a fault of an input that has lines of a script."""
+    """The remark on a fault of an input with script lines."""
     fault = fault_of(answer.lines[0])
     if fault.part is not Part.SCRIPT:
         return remark_on_answer(answer, source)
@@ -110,6 +110,6 @@ def remark_on_fault(answer: Answer, source: bytes, lines: list[Line], configurat
 
 
 def answers_of(distac: Distac, loaded: Loaded, lines: list[Line] | None = None) -> list[Answered]:
-    """A script with its answers, or other lines in its place."""
+    """A script with its answers, or with those of other lines."""
     chosen = loaded.lines if lines is None else lines
     return play_lines(distac, loaded.path, loaded.script, chosen, loaded.configuration)

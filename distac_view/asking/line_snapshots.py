@@ -1,4 +1,4 @@
-"""What nodes know after each line of a script: pages are asked for behind the lines that may change it."""
+"""Nodes' knowledge after each line of a script, from pages after the lines that may change it."""
 
 from __future__ import annotations
 
@@ -18,14 +18,14 @@ MOST_PRINTED = 200_000
 
 @dataclass(frozen=True)
 class Seen:
-    """A line with its answer, and the pages of the nodes whose knowledge it may have changed."""
+    """A line with its answer, and the pages of nodes whose knowledge it may have changed."""
 
     answered: Answered
     pages: dict[str, Page]
 
 
 def seen_lines(distac: Distac, loaded: Loaded, first: int, last: int) -> Iterator[Seen]:
-    """The lines from one number to another, each with its answer and pages. It takes several runs where there are many."""
+    """The lines between two numbers, each with its answer and pages. Many lines take several runs."""
     while first < last:
         end = part_end(loaded, first, last)
         yield from seen_part(distac, loaded, first, end)
@@ -33,7 +33,7 @@ def seen_lines(distac: Distac, loaded: Loaded, first: int, last: int) -> Iterato
 
 
 def asked_after(line: Line, nodes: list[str]) -> list[str]:
-    """The nodes whose pages are asked for behind a line."""
+    """The nodes whose pages are printed after a line."""
     if not line.is_event:
         return []
     if line.verb == "share":
@@ -42,7 +42,7 @@ def asked_after(line: Line, nodes: list[str]) -> list[str]:
 
 
 def part_end(loaded: Loaded, first: int, last: int) -> int:
-    """Up to which line one run can ask for pages: neither its input nor its output may be too long."""
+    """The last line whose pages fit into one run: neither its input nor its output may be too long."""
     nodes = loaded.configuration.nodes
     page_length = 2 + len(nodes) + 2 * len(loaded.configuration.applications)
     size = len(loaded.script.config) + 3 + sum(size_of(line) for line in loaded.lines[:first])
@@ -58,12 +58,12 @@ def part_end(loaded: Loaded, first: int, last: int) -> int:
 
 
 def size_of(line: Line) -> int:
-    """How many bytes a line takes."""
+    """The bytes that a line takes."""
     return len(bytes_of(line.text)) + 1
 
 
 def seen_part(distac: Distac, loaded: Loaded, first: int, end: int) -> Iterator[Seen]:
-    """Some lines with their answers and pages, by one run of all lines up to the last of them."""
+    """Some lines with their answers and pages, from one run of all lines up to the last of them."""
     lines, counts = list(loaded.lines[:first]), []
     for line in loaded.lines[first:end]:
         asked = asked_after(line, loaded.configuration.nodes)

@@ -1,4 +1,5 @@
-"""How a question begins: with a cluster that just came up, behind a script, or with applications where they run now."""
+"""The beginning of a question: a cluster that just came up, the end of a script, or applications at their present
+places."""
 
 from __future__ import annotations
 
@@ -21,10 +22,10 @@ LATEST = MOST_NUMBER - 2**40
 
 @dataclass(frozen=True)
 class Side:
-    """Nodes that hear each other, at the start of a question: their cluster, what they know, and which nodes are asked about here.
+    """Nodes that hear each other at the beginning: their cluster, their page, and the nodes that the question covers.
 
-    Beside the nodes that can act these are the ones that are off, or were said to be down: they would come back to this side. Of
-    some applications nobody said where they run.
+    Besides nodes that can act these are the ones that are off or declared down: they would come back to this side.
+    Nobody named the place of some applications.
     """
 
     cluster: Cluster
@@ -35,12 +36,12 @@ class Side:
 
     @property
     def is_guessed(self) -> bool:
-        """Whether nobody said where an application runs, and the load of a tuple's nodes decides it."""
+        """Whether an application has no named place, so that the load of a tuple's nodes decides."""
         applications = self.cluster.configuration.applications
         return len(applications) > 1 and any(self.is_chosen(each) for each in applications if each.name in self.unsaid)
 
     def is_chosen(self, application: Application) -> bool:
-        """Whether an application runs at a node of a tuple."""
+        """Whether a node of a tuple runs an application."""
         held = self.page.held.get(application.name)
         return held is not None and any(held.runs_at in group and len(group) > 1 for group in application.groups)
 
@@ -60,12 +61,12 @@ def new_story(checked: Checked) -> Story:
 
 
 def playable(checked: Checked) -> bytes:
-    """The configuration as a script begins with it: its own text, unless a line of that would end it."""
+    """The configuration at the beginning of a script: its own text, unless one of its lines would end it."""
     return checked.text if separator_in(checked.text) is None else bytes_of(checked.canonical + "\n")
 
 
 def opened(distac: Distac, checked: Checked, not_started: list[str]) -> Side:
-    """All nodes came up, everything was started but at some nodes, and all is at rest."""
+    """All nodes came up, everything was started except at some nodes, and all is at rest."""
     cluster = Cluster(new_story(checked), [], forbidden=forbidden_in(checked))
     nodes = checked.configuration.nodes
     cluster.boot(nodes, not_started)
@@ -74,7 +75,7 @@ def opened(distac: Distac, checked: Checked, not_started: list[str]) -> Side:
 
 
 def opened_after(distac: Distac, checked: Checked, path: str) -> list[Side]:
-    """The sides of a cluster behind a script, each at rest. Only one of them, if no node is cut off from another one."""
+    """The sides of a cluster after a script, each at rest. Only one, if no node is cut off from another."""
     story = story_after(distac, checked, path)
     nodes = checked.configuration.nodes
     pages = {one.actor: page_of(one.answer) for one in story.play(distac, *(f"page {node}" for node in nodes))}
@@ -91,14 +92,15 @@ def opened_after(distac: Distac, checked: Checked, path: str) -> list[Side]:
 
 
 def side_of(distac: Distac, cluster: Cluster, group: list[str], others: list[str], pages: dict[str, Page], unsaid: list[str]) -> Side:
-    """A side by its cluster, by the nodes that it began with, by those that no side has, and by what nobody held."""
+    """A side, from its cluster, the nodes that it began with, those of no side, and the applications without a
+    holder."""
     members = [node for node in cluster.configuration.nodes if node in group or node in others]
     said_down = [node for node in others if pages[node].inc is not None]
     return Side(cluster, cluster.page(distac), members, said_down, unsaid)
 
 
 def groups_of(pages: dict[str, Page]) -> list[list[str]]:
-    """The nodes that can act, parted so that no node says of another one of its group that it is down."""
+    """The nodes that can act, grouped so that no node declares another one of its group down."""
     groups: list[list[str]] = []
     for node in pages:
         group = next((group for group in groups if not any(are_parted(pages, node, other) for other in group)), None)
@@ -110,7 +112,7 @@ def groups_of(pages: dict[str, Page]) -> list[list[str]]:
 
 
 def are_parted(pages: dict[str, Page], one: str, other: str) -> bool:
-    """Whether one of two nodes says that the other one's present life is down."""
+    """Whether one of two nodes declares the other one's present life down."""
     return any(pages[by].lives.get(of) == ("down", pages[of].inc) for by, of in ((one, other), (other, one)))
 
 

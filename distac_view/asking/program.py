@@ -1,4 +1,4 @@
-"""The program `distac`: where it is found, and how it is asked."""
+"""The program `distac`: finding and running it."""
 
 from __future__ import annotations
 
@@ -14,7 +14,7 @@ from distac_view.common.output import say
 from distac_view.common.problems import Problem
 from distac_view.common.texts import bytes_of, text_of
 
-# The folder above that of the package. If this program is packed into one file, that file stands in its place.
+# The folder above the package. If this program is packed into one file, that file is in its place.
 TOP = Path(__file__).resolve().parents[2]
 BESIDE = (TOP if TOP.is_dir() else TOP.parent) / "distac"
 MODELS = "--models"
@@ -26,16 +26,17 @@ Asked = Callable[[str, bytes], "tuple[bytes, int]"]
 
 @dataclass(frozen=True)
 class Answer:
-    """What `distac` printed, as lines, and whether it found a fault."""
+    """The output lines of `distac`, and whether it found a fault."""
 
     lines: list[str]
     is_fault: bool
 
 
 class Distac:
-    """The program, asked by a function from its subcommand and its input to what it printed and its exit status.
+    """The program, as a function from its subcommand and input to its output and exit status.
 
-    A page says about it what is known of its proof. It counts the cases of a question, and those of them that are done, for the progress that is shown.
+    A page reports whether it is known to be proved. It counts the cases of a question, and the finished ones, for the
+    progress shown.
     """
 
     def __init__(self, asked: Asked, about: str = "the program distac") -> None:
@@ -46,15 +47,15 @@ class Distac:
         self.cases_done = 0
 
     def check(self, config: bytes) -> Answer:
-        """What `distac check` says of a configuration."""
+        """The answer of `distac check` on a configuration."""
         return self.answer("check", config)
 
     def sim(self, source: bytes) -> Answer:
-        """What `distac sim` says of a configuration and a script."""
+        """The answer of `distac sim` on a configuration and a script."""
         return self.answer("sim", source)
 
     def play(self, config: bytes, script: list[str]) -> list[str]:
-        """What `distac sim` prints for a script that has no fault."""
+        """The output of `distac sim` for a script without faults."""
         said = self.sim(joined(config, script))
         if said.is_fault:
             raise Problem(f"distac refused a script that distac-view made: {said.lines[0]}")
@@ -74,7 +75,7 @@ class Distac:
 
 
 def lines_of(text: str) -> list[str]:
-    """The lines of a text, which end at line feeds alone."""
+    """The lines of a text, which end only at line feeds."""
     return text.split("\n")[:-1]
 
 
@@ -85,7 +86,7 @@ def joined(config: bytes, script: list[str]) -> bytes:
 
 
 def found_distac(named: str | None) -> Distac:
-    """The program by the command line, by the environment, or beside this one; or the models."""
+    """The program named by the command line or the environment, or the one next to this; or the models."""
     if named == MODELS:
         say("distac-view: the models answer, and nothing of them is proved")
         return Distac(asked_of_models(), "the models: nothing of them is proved")
@@ -95,7 +96,7 @@ def found_distac(named: str | None) -> Distac:
 
 
 def nobody() -> Distac:
-    """For what is printed without a question: there is no program, and none is looked for."""
+    """For output without a question: no program is looked for."""
 
     def asked(word: str, _source: bytes) -> tuple[bytes, int]:
         raise Problem(f"there is no program to be asked for distac {word}")
@@ -115,7 +116,8 @@ def runnable(path: str) -> str:
 
 
 def program_beside() -> tuple[str, str]:
-    """The program beside this one, and what is known of its proof: the proved one, else one without, which is compiled first."""
+    """The program next to this one, and whether it is proved: the proved one, or else one without proof, compiled first
+    if necessary."""
     if not TOP.is_dir():
         return runnable(str(BESIDE)), NAMED
     state, path = which_answers()
@@ -131,13 +133,13 @@ def program_beside() -> tuple[str, str]:
 
 
 def which_answers() -> tuple[str, str]:
-    """What `./distac --which` says: the state of the program, and its path."""
+    """The output of `./distac --which`: the state of the program, and its path."""
     state, _, path = text_of(launch("--which")).strip().partition(": ")
     return state, path
 
 
 def launch(*words: str) -> bytes:
-    """What the script beside this one prints, with nothing to read."""
+    """The output of the script next to this one, with nothing to read."""
     runnable(str(BESIDE))
     try:
         return subprocess.run([str(BESIDE), *words], stdin=subprocess.DEVNULL, stdout=subprocess.PIPE, check=False).stdout
@@ -146,7 +148,7 @@ def launch(*words: str) -> bytes:
 
 
 def run(program: str, word: str, source: bytes) -> tuple[bytes, int]:
-    """Runs the program once. What it says on standard error goes to the person."""
+    """Runs the program once. Its standard error goes to the user."""
     try:
         done = subprocess.run([program, word], input=source, stdout=subprocess.PIPE, check=False)
     except OSError as error:

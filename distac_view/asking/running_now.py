@@ -1,7 +1,7 @@
-"""Where applications run now: read from a file or from the command line, and brought about in a script.
+"""The present places of applications: read from a file or from the command line, and produced in a script.
 
-A line of the file is a node that is up and the distributed applications that run there. A node that the file doesn't name is off.
-The file may be what nodes answered to the line of `gather --print-command now`.
+A line of the file is a node that is up and the distributed applications that run there. Unnamed nodes are off. The file
+can also contain nodes' answers to the line of `gather --print-command now`.
 """
 
 from __future__ import annotations
@@ -20,13 +20,14 @@ from distac_view.reading.configuration import Application, Checked, Configuratio
 from distac_view.reading.forbidden import forbidden_in
 from distac_view.reading.script_file import MOST_INPUT, read_bytes
 
-# What erl_call and shells print behind a node's answer.
+# The text that erl_call and shells print after a node's answer.
 ANSWERED = ("{ok, ok}", "{ok,ok}", "ok", ":ok")
 
 
 @dataclass(frozen=True)
 class Placed:
-    """Where each application runs that runs at all, which nodes are up, and what is started everywhere and runs nowhere yet."""
+    """The place of each running application, the nodes that are up, and the applications that are started everywhere
+    but run nowhere yet."""
 
     places: dict[str, str]
     up: list[str]
@@ -34,7 +35,7 @@ class Placed:
 
 
 def placed_by(words: list[str], configuration: Configuration) -> Placed:
-    """What `--now` says: the name of a file, or APP=NODE for each application that runs. In that form all nodes are up."""
+    """The value of `--now`: a file name, or APP=NODE for each running application. In that form all nodes are up."""
     if names_a_file(words):
         return placed_in(words[0], text_of(read_bytes(words[0], MOST_INPUT)), configuration)
     places: dict[str, str] = {}
@@ -52,14 +53,14 @@ def names_a_file(words: list[str]) -> bool:
 
 
 def parted(word: str) -> tuple[str, str, str]:
-    """A word in two at its first equals sign that no quotes hold."""
+    """A word split at its first equals sign outside quotes."""
     start = word.find("'", 1) if word.startswith("'") else 0
     place = word.find("=", max(start, 0))
     return (word, "", "") if place < 0 else (word[:place], "=", word[place + 1 :])
 
 
 def placed_in(path: str, text: str, configuration: Configuration) -> Placed:
-    """What a file says."""
+    """The contents of a file."""
     places: dict[str, str] = {}
     up = set()
     for number, line in enumerate(text.split("\n"), 1):
@@ -75,7 +76,7 @@ def placed_in(path: str, text: str, configuration: Configuration) -> Placed:
 
 
 def put(places: dict[str, str], where: str, app_word: str, node_word: str, configuration: Configuration) -> None:
-    """Notes where an application runs."""
+    """Notes the place of an application."""
     app = named("application", app_word, configuration.names, where)
     node = named("node", node_word, configuration.nodes, where)
     if places.setdefault(app, node) != node:
@@ -90,7 +91,7 @@ def application_of(name: str, configuration: Configuration) -> Application:
 
 
 def named(what: str, word: str, names: list[str], where: str) -> str:
-    """A node or an application as the configuration spells it. Of a node the part before @ is enough."""
+    """A node or an application as the configuration spells it. For a node the part before @ suffices."""
     name = spelled(word)
     found = node_meant(word, names) if what == "node" else name
     if found in names:
@@ -101,7 +102,8 @@ def named(what: str, word: str, names: list[str], where: str) -> str:
 
 
 def opened_now(distac: Distac, checked: Checked, placed: Placed) -> Side:
-    """A cluster in which applications run where they do. What would move at the next ticks hasn't moved yet."""
+    """A cluster with applications at their present places. Those that would move at the next ticks haven't moved
+    yet."""
     configuration = checked.configuration
     unused = [name for name in configuration.names if name not in placed.places and name not in placed.fresh]
     cluster = Cluster(new_story(checked), [], unused=unused, forbidden=forbidden_in(checked))
@@ -121,7 +123,7 @@ def opened_now(distac: Distac, checked: Checked, placed: Placed) -> Side:
 
 
 def open_gates(distac: Distac, cluster: Cluster, up: list[str]) -> None:
-    """All nodes come up and pass their start gates, and then those go down that aren't up now."""
+    """All nodes come up and pass their start gates, and then those that are off now go down."""
     nodes = cluster.configuration.nodes
     cluster.boot(nodes, not_started=nodes)
     take_round(distac, cluster)
@@ -132,7 +134,7 @@ def open_gates(distac: Distac, cluster: Cluster, up: list[str]) -> None:
 
 
 def start_elsewhere(cluster: Cluster, placed: Placed) -> None:
-    """What runs is started at all other nodes of its list too, and no node ticks."""
+    """Running applications are also started at all other nodes of their lists, and no node ticks."""
     apps = [*placed.places, *placed.fresh]
     listed_ones = [(app, node) for app in apps for node in application_of(app, cluster.configuration).nodes]
     others = [(app, node) for app, node in listed_ones if node in cluster.nodes and node != placed.places.get(app)]

@@ -1,4 +1,4 @@
-"""Scripts that are made line by line, with the moment of each line and what `distac` answers."""
+"""Scripts built line by line, with the moment and the answer of each line."""
 
 from __future__ import annotations
 
@@ -17,15 +17,15 @@ ISSUED = re.compile(r"(?:booted \d+ op|issued|claim) (?P<number>\d+)")
 
 
 class Miscounted(Problem):
-    """A ship was refused that was taken to be heard."""
+    """A ship was refused that was expected to be heard."""
 
 
 @dataclass
 class Story:
     """A script under a configuration, at a moment in milliseconds.
 
-    Each line has its moment, and its answer once it was played. `shipped` and `issued` count messages and operations: of operations
-    there are at most so many, until the lines are played. `played` counts the messages of the lines that were played.
+    Each line has its moment, and its answer once played. `shipped` and `issued` count messages and operations; until
+    the lines are played, the latter is an upper bound. `played` counts the messages of played lines.
     """
 
     config: bytes
@@ -41,7 +41,7 @@ class Story:
     played: int = 0
 
     def copy(self) -> Story:
-        """The same script, to be gone on with apart."""
+        """A copy that can continue separately."""
         return replace(self, lines=list(self.lines), moments=list(self.moments), answers=list(self.answers))
 
     def add(self, *lines: str) -> None:
@@ -50,27 +50,27 @@ class Story:
         self.moments += [self.now] * len(lines)
 
     def add_uncounted(self, *lines: str) -> None:
-        """Adds lines of which it isn't known how many messages they ship."""
+        """Adds lines that ship an unknown number of messages."""
         self.add(*lines)
         self.is_counted = False
 
     def command(self, *lines: str) -> None:
-        """Adds lines that issue an operation each, or are refused."""
+        """Adds lines that each issue an operation, or are refused."""
         self.add(*lines)
         self.issued += len(lines)
 
     def tell(self, sender: str, hearer: str) -> None:
-        """A node tells another one what it knows. The ship must be one that isn't refused."""
+        """A node tells another one its state. The ship must not be refused."""
         self.shipped += 1
         self.add(f"ship {sender} {hearer}", f"hear {hearer} {self.shipped}")
 
     def look(self, node: str) -> int:
-        """Adds a line that asks for a page. Its place among the lines."""
+        """Adds a line that prints a page. Returns its position among the lines."""
         self.add(f"page {node}")
         return len(self.lines) - 1
 
     def play(self, distac: Distac, *asked: str) -> list[Answered]:
-        """Plays the lines, and behind them some that aren't kept. What is answered to these."""
+        """Plays the lines, followed by some that aren't kept, whose answers it returns."""
         texts = [*self.lines[len(self.answers) :], *asked]
         output = distac.play(self.config, [*self.lines, *asked])[self.printed :]
         each = answered([Line(number, text) for number, text in enumerate(texts, 1)], output, self.configuration)
@@ -101,7 +101,7 @@ class Story:
 
 
 def messages_in(each: list[Answered], number: int) -> int:
-    """The number of the last message, before some lines and behind them."""
+    """The number of the last message, before and after some lines."""
     for one in each:
         shipped, shared = SHIPPED.match(one.first), SHARED.match(one.first)
         if shipped:

@@ -1,4 +1,4 @@
-"""The output of `distac sim` parted by the script lines that it answers."""
+"""The output of `distac sim`, divided among the script lines."""
 
 from __future__ import annotations
 
@@ -12,7 +12,7 @@ from distac_view.reading.verbs import Role, word_of
 
 @dataclass(frozen=True)
 class Answered:
-    """A line of a script with the output lines that answer it. Comments and empty lines have none."""
+    """A script line with its output lines. Comments and empty lines have none."""
 
     line: Line
     answer: list[str]
@@ -42,7 +42,7 @@ def answered(lines: list[Line], output: list[str], configuration: Configuration)
 
 
 def answer_length(line: Line, output: list[str], place: int, page_length: int) -> int:
-    """How many lines of the output, from a place on, answer a line."""
+    """The number of output lines, from a position, that belong to a line."""
     if place >= len(output):
         raise Problem("distac printed fewer lines than its script asks for")
     if line.verb == "page" and not output[place].endswith(" off"):

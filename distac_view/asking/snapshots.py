@@ -1,4 +1,4 @@
-"""What `distac` prints of nodes and claims, as values."""
+"""The nodes and claims in the output of `distac`, as values."""
 
 from __future__ import annotations
 
@@ -22,9 +22,9 @@ CLAIM = re.compile(rf"claim \d+ (?P<app>{NAME}) term (?P<term>\d+) (?P<how>{HOW}
 
 @dataclass(frozen=True)
 class Held:
-    """An application on a page: who holds it under which term, what is to be done about it, and the marks of its list.
+    """An application on a page: its holder and term, its verdict, and the marks of its list.
 
-    A holder is alive if the page says that its incarnation is up.
+    A holder is alive if the page shows its incarnation as up.
     """
 
     app: str
@@ -39,44 +39,44 @@ class Held:
 
     @property
     def runs_at(self) -> str | None:
-        """The node that has it: its holder while that is up, also if it is about to move. Without a holder that is up, none."""
+        """The node that runs it: its holder if that is up, even if it is about to move; otherwise none."""
         return self.holder if self.is_alive else None
 
     @property
     def is_pending(self) -> bool:
-        """Whether something is left to be done about it."""
+        """Whether an action is pending for it."""
         return self.verdict in PENDING
 
     @property
     def is_alone(self) -> bool:
-        """Whether it runs at the last node that can run it."""
+        """Whether the last node that can run it runs it."""
         return self.runs_at is not None and set(self.nodes_marked("ok")) <= {self.runs_at}
 
     def nodes_marked(self, *marks: str) -> list[str]:
-        """The nodes of its list that have one of some marks."""
+        """The nodes of its list with one of some marks."""
         return [node for node, mark in marks_in(self.marks) if mark in marks]
 
 
 @dataclass
 class Page:
-    """What a node knows: its own life, that of each node, and each application. A node that is off has no life."""
+    """A node's knowledge: its own life, that of each node, and each application. A node that is off has no life."""
 
     inc: int | None = None
     lives: dict[str, tuple[str, int]] = field(default_factory=dict)
     held: dict[str, Held] = field(default_factory=dict)
 
     def can_act(self, node: str) -> bool:
-        """Whether the node whose page it is runs, and hasn't heard that it is down."""
+        """Whether the page's node runs, and hasn't heard that it is down."""
         return self.inc is not None and self.lives.get(node) == ("up", self.inc)
 
     @property
     def is_at_rest(self) -> bool:
-        """Whether nothing is left to be done about any application."""
+        """Whether no action is pending for any application."""
         return not any(held.is_pending for held in self.held.values())
 
 
 def page_of(answer: list[str]) -> Page:
-    """The page that some lines say."""
+    """The page in some lines."""
     head = HEAD.match(answer[0])
     if not head:
         return Page()
@@ -91,7 +91,7 @@ def page_of(answer: list[str]) -> Page:
 
 
 def held_of(found: "re.Match[str]", marks: str, lives: dict[str, tuple[str, int]]) -> Held:
-    """An application by its two lines, and by the lives that stand above them."""
+    """The application in two lines, with the lives above them."""
     inc, term = int(found["inc"] or 0), int(found["term"] or 0)
     how, list_marks = found["how"] or "", marks[len("list ") :]
     is_alive = found["holder"] is not None and lives.get(found["holder"]) == ("up", inc)
@@ -104,5 +104,5 @@ def marks_in(marks: str) -> list[tuple[str, str]]:
 
 
 def bare_marks(marks: str) -> str:
-    """An application's list as it is shown, names without quotes."""
+    """An application's list as shown, with unquoted names."""
     return " ".join(f"{bare_name(node)}={mark}" for node, mark in marks_in(marks))

@@ -1,4 +1,4 @@
-"""Lines that print a state with more lives of nodes than its bytes can count."""
+"""Lines that print a state with more lives of nodes than its format can count."""
 
 from __future__ import annotations
 
@@ -16,7 +16,7 @@ SENTENCE = (
 
 
 def too_wide(each: list[Answered]) -> Iterator[Remark]:
-    """What is to be said of lines that may print such a state: so many nodes booted before them."""
+    """The remark on lines that may print such a state, because so many nodes booted before them."""
     count = 0
     for one in each:
         count += one.first.startswith("booted ")

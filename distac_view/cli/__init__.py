@@ -1,1 +1,1 @@
-"""The command line: subcommands, options, help, completion, and how faults and warnings are said."""
+"""The command line: subcommands, options, help, completion, and the printing of faults and warnings."""

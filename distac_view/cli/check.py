@@ -1,4 +1,4 @@
-"""`check`: what distac understood of each configuration, or its first fault, and what is to be warned of."""
+"""`check`: each configuration as distac read it, or its first fault, and warnings."""
 
 from __future__ import annotations
 
@@ -26,7 +26,8 @@ class Looked:
 
 
 def check(distac: Distac, words: argparse.Namespace, output: Output) -> Status:
-    """Prints the canonical text of each configuration, with warnings on standard error. The worst status counts."""
+    """Prints the canonical text of each configuration, with warnings on standard error. The worst status is
+    returned."""
     found, statuses = [], []
     for path in words.files:
         looked = look_at(distac, path)
@@ -38,7 +39,7 @@ def check(distac: Distac, words: argparse.Namespace, output: Output) -> Status:
 
 
 def look_at(distac: Distac, path: str) -> Looked:
-    """What is to be said of a file."""
+    """The result for a file."""
     try:
         checked = load_config(distac, path)
     except (Faulty, Problem) as ended:
@@ -47,7 +48,8 @@ def look_at(distac: Distac, path: str) -> Looked:
 
 
 def told(looked: Looked, words: argparse.Namespace, output: Output) -> Status:
-    """Prints what is to be said of a file: its canonical text behind its name, if there are several. The status of it."""
+    """Prints the result for a file: its canonical text, after its name if there are several files. Returns its
+    status."""
     if looked.fault is not None:
         say_fault(looked.fault, output, words.json)
         return Status.TROUBLE

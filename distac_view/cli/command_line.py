@@ -34,7 +34,7 @@ MOST_DRAWN = 1_000
 
 
 def play(distac: Distac, words: argparse.Namespace, output: Output) -> Status:
-    """Prints each answer beside its line."""
+    """Prints each line with its answer."""
     loaded = load_script(distac, words.script)
     if words.plain:
         output.raw(loaded.plain)
@@ -65,7 +65,7 @@ def timeline(distac: Distac, words: argparse.Namespace, output: Output) -> Statu
 
 
 def drawn_lines(loaded: Loaded, first: int, most: int) -> tuple[range, str]:
-    """The lines that are drawn, and a sentence on those that aren't."""
+    """The lines drawn, and a sentence on the others."""
     start = next((place for place, line in enumerate(loaded.lines) if line.number >= first), len(loaded.lines))
     stop = min(start + most, len(loaded.lines))
     if start == stop:
@@ -100,7 +100,7 @@ def parser_of_words() -> Parser:
 
 
 def add_program(parser: Parser, default: str | None) -> None:
-    """The words that say which program is asked. They may stand before the subcommand or behind it."""
+    """The words that choose the program, before or after the subcommand."""
     more = "ask the models in its place: nothing of them is proved"
     parser.add_one_of(
         ("--distac", {"metavar": "PATH", "default": default, "help": "the program distac that is asked"}),
@@ -133,7 +133,7 @@ def timeline_words(parser: argparse.ArgumentParser) -> None:
 
 
 def count_from_one(word: str) -> int:
-    """A count that the command line gives."""
+    """A count from the command line."""
     if not fits(Role.NUMBER, word) or word == "0":
         raise argparse.ArgumentTypeError(f"a count from 1 on is wanted, in decimal digits, and not {shown(word)}")
     return int(word)
@@ -159,7 +159,7 @@ def gather_words(parser: argparse.ArgumentParser) -> None:
 
 
 def expect_words(parser: argparse.ArgumentParser) -> None:
-    """The words of `expect`, which reads command lines itself."""
+    """The words of `expect`, which itself reads command lines."""
     parser.set_defaults(parser_of_words=parser_of_words)
     add_expect(parser)
 
@@ -177,7 +177,7 @@ SUBCOMMANDS: "list[tuple[str, str, Subcommand, Callable[[argparse.ArgumentParser
 
 
 def run(arguments: list[str]) -> int:
-    """Does what the command line says. The exit status."""
+    """Runs the command line, and returns the exit status."""
     parser = parser_of_words()
     words = parser.parse_args(arguments)
     words.arguments = arguments
@@ -201,14 +201,14 @@ def run(arguments: list[str]) -> int:
 
 
 def watched(distac: Distac, progress: Progress) -> Distac:
-    """The program, with each question to it told to the progress."""
+    """The program, with each question reported to the progress."""
     distac.is_asked = progress.ask
     progress.cases = lambda: (distac.cases_done, distac.cases)
     return distac
 
 
 def main() -> int:
-    """The whole program: nothing that comes of its input or of its surroundings is a traceback."""
+    """The whole program: no input and no environment causes a traceback."""
     open_streams()
     try:
         return finished(sys.argv[1:])
@@ -225,7 +225,7 @@ def main() -> int:
 
 
 def finished(arguments: list[str]) -> int:
-    """The exit status, once all is written. Help and wrong use end the program too."""
+    """The exit status once everything is written. Help and wrong use also end the program."""
     try:
         status = run(arguments)
     except SystemExit as end:

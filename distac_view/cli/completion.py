@@ -1,6 +1,6 @@
-"""Completion of a command line by bash, made from the parser's own table.
+"""Completion of command lines by bash, from the parser's table.
 
-It offers subcommands, options and the values that an option may have. Where a file is wanted, bash offers files.
+It offers subcommands, options and the values of options. For file names bash offers files.
 """
 
 from __future__ import annotations
@@ -35,7 +35,7 @@ complete -o default -F _distac_view distac-view distac-view.pyz
 
 
 def bash_completion(parser: Parser) -> str:
-    """What bash reads: a function that completes the words of this parser, and for which commands."""
+    """The text for bash: a function that completes the words of this parser, and its commands."""
     subcommands = parser.subcommands
     begin = BEGIN.replace("SUBCOMMANDS", "|".join(subcommands))
     values = [line for name, own in [("", parser), *subcommands.items()] for line in values_of(name, own)]
@@ -51,7 +51,7 @@ def options_of(parser: Parser) -> list[str]:
 
 
 def values_of(subcommand: str, parser: Parser) -> Iterator[str]:
-    """Behind which options of a subcommand a value stands, and which values those may be. Else bash offers files."""
+    """The options of a subcommand that take a value, with the possible values. Otherwise bash offers files."""
     for action in parser.actions:
         if action.option_strings and action.nargs != 0:
             names = "|".join(f'"{subcommand} {name}"' for name in action.option_strings)

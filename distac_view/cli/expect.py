@@ -1,7 +1,7 @@
-"""`expect`: a folder of questions, each held against its stored answer.
+"""`expect`: a folder of questions, each compared with its stored answer.
 
-NAME.question has the words of a command line as a shell reads them, and NAME.answer what came of it. Each is asked in its folder, so
-that paths are the same wherever the folder lies.
+NAME.question contains a command line in shell syntax, and NAME.answer its result. Each runs in its folder, so that
+paths don't depend on the folder's place.
 """
 
 from __future__ import annotations
@@ -35,7 +35,8 @@ ERRORS = "standard error:"
 
 @dataclass(frozen=True)
 class Stored:
-    """A question by its name: its words, the answer that is stored, and the answer now, with its status. One of both may be missing."""
+    """A question by its name: its words, the stored answer, and the present answer with its status. Either answer can
+    be missing."""
 
     name: str
     words: "list[str]"
@@ -45,18 +46,18 @@ class Stored:
 
     @property
     def verdict(self) -> str:
-        """Whether the answer is as it was stored."""
+        """Whether the answer is as stored."""
         if self.answer is None or self.stored is None:
             return "left" if self.answer is None else "new"
         return "same" if self.answer == self.stored else "differs"
 
     @property
     def is_fault(self) -> bool:
-        """Whether there is no answer any more, or yet, to what is asked."""
+        """Whether one of the answers is missing."""
         return self.status == Status.TROUBLE and self.verdict != "same"
 
     def lines(self) -> Iterator[str]:
-        """What differs, as lines."""
+        """The differences, as lines."""
         if self.verdict == "same":
             return
         yield f"{shown(self.name)}: {shown(' '.join(self.words)) or 'no question has this answer any more'}"
@@ -65,7 +66,7 @@ class Stored:
 
 
 def expect(distac: Distac, words: argparse.Namespace, output: Output) -> Status:
-    """Asks the questions of a folder, and prints what differs from the stored answers. Or writes these anew."""
+    """Runs the questions of a folder, and prints differences from the stored answers, or stores the new ones."""
     if not os.path.isdir(words.folder):
         raise Problem(f"{words.folder} is no folder: expect wants one with NAME.question and NAME.answer")
     found = [held_against(distac, words, name) for name in chosen_names(words.folder, words.names)]
@@ -81,7 +82,7 @@ def expect(distac: Distac, words: argparse.Namespace, output: Output) -> Status:
 
 
 def print_all(found: "list[Stored]", written: "list[Stored]", writes: bool, output: Output) -> None:
-    """What differs, or what was written, and a line with the counts."""
+    """Prints the differences or the files written, and a line with the counts."""
     for each in found:
         for line in [f"{shown(each.name)}: written, status {each.status}"] if each in written else each.lines():
             output.line(line)
@@ -102,7 +103,7 @@ def path_of(folder: str, name: str, ending: str) -> str:
 
 
 def chosen_names(folder: str, names: "list[str]") -> "list[str]":
-    """The names of a folder's questions and answers, or those that the command line chooses."""
+    """The names of a folder's questions and answers, or those chosen by the command line."""
     try:
         stems = [os.path.splitext(name) for name in sorted(os.listdir(folder))]
     except OSError as error:
@@ -116,7 +117,7 @@ def chosen_names(folder: str, names: "list[str]") -> "list[str]":
 
 
 def held_against(distac: Distac, words: argparse.Namespace, name: str) -> Stored:
-    """A question of the folder, asked."""
+    """A question of the folder with its present answer."""
     question, answer = (path_of(words.folder, name, ending) for ending in (QUESTION, ANSWER))
     stored = text_of(read_bytes(answer, MOST_INPUT)) if os.path.exists(answer) else None
     if not os.path.exists(question):
@@ -129,7 +130,7 @@ def held_against(distac: Distac, words: argparse.Namespace, name: str) -> Stored
 
 
 def commands_in(path: str) -> "list[list[str]]":
-    """The commands of a question: words as a shell reads them, comments behind #, and a bar between a command and the next one."""
+    """The commands of a question: words in shell syntax, comments after #, and a bar between two commands."""
     try:
         lexer = shlex.shlex(text_of(read_bytes(path, MOST_INPUT)), posix=True, punctuation_chars=PIPE)
         lexer.whitespace_split = True
@@ -145,7 +146,8 @@ def commands_in(path: str) -> "list[list[str]]":
 
 
 def asked_in_turn(distac: Distac, parser: argparse.ArgumentParser, path: str, commands: "list[list[str]]") -> "tuple[str, int]":
-    """The answer to a question as it is stored, and its status: that of the last command, or of the first one that has no answer."""
+    """The answer to a question in its stored form, and its status: that of the last command, or of the first one
+    without an answer."""
     data, errors, status = b"", io.BytesIO(), int(Status.FINE)
     for command in commands:
         with standard_input(data), standard_error(errors):
@@ -173,7 +175,7 @@ def parsed(parser: argparse.ArgumentParser, path: str, command: "list[str]", err
 
 
 def answer_to(distac: Distac, words: argparse.Namespace) -> "tuple[bytes, int]":
-    """What a command prints, and its status."""
+    """The output of a command, and its status."""
     output = Kept()
     try:
         status: Status = words.subcommand(distac, words, output)
@@ -204,7 +206,7 @@ def within(folder: str) -> Iterator[None]:
 
 @contextmanager
 def standard_input(data: bytes) -> Iterator[None]:
-    """What a question reads for a dash."""
+    """The standard input of a question, for a dash."""
     kept = os.dup(0)
     try:
         with tempfile.TemporaryFile() as file:
@@ -219,7 +221,7 @@ def standard_input(data: bytes) -> Iterator[None]:
 
 @contextmanager
 def standard_error(errors: io.BytesIO) -> Iterator[None]:
-    """Keeps what a question says on standard error."""
+    """Captures a question's standard error."""
     before, sys.stderr = sys.stderr, io.TextIOWrapper(errors, "utf-8", "surrogateescape", write_through=True)
     try:
         yield

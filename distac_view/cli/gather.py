@@ -1,4 +1,4 @@
-"""`gather`: one configuration from the files of all nodes, written with where it comes from."""
+"""`gather`: one configuration from the files of all nodes, with its sources."""
 
 from __future__ import annotations
 
@@ -81,7 +81,7 @@ def gather(distac: Distac, words: argparse.Namespace, output: Output) -> Status:
 
 
 def settings_by_node(words: list[str], each: EachSurroundings, reader: Reader) -> list[NodeSettings]:
-    """What the files of each node say. A node that is named again has further files."""
+    """The settings in each node's files. A node that is named again has further files."""
     named: "dict[str, tuple[str, list[str]]]" = {}
     for word in words:
         node, paths = node_and_files(word)
@@ -97,7 +97,7 @@ def settings_by_node(words: list[str], each: EachSurroundings, reader: Reader) -
 
 
 def node_and_files(word: str) -> "tuple[str, list[str]]":
-    """A node and its files, by a word of the command line. Files of arguments may tell the node's name."""
+    """A node and its files, from a word of the command line. Argument files can contain the node's name."""
     node, sign, paths = word.partition("=")
     if not sign and any(os.path.exists(path) for path in word.split(",")):
         return "", [path for path in word.split(",") if path]
@@ -108,7 +108,7 @@ def node_and_files(word: str) -> "tuple[str, list[str]]":
 
 
 def head_of(version: str, placements: list[Placement], found: Gathered) -> list[str]:
-    """The comment above the configuration: which files it is made of."""
+    """The comment above the configuration, which names its source files."""
     count = f"{len(placements)} node" + ("s" if len(placements) > 1 else "")
     lines = [f"%% {version}, gather: one configuration from the files of {count}"]
     for placement in placements:
@@ -131,7 +131,7 @@ def opening_script(canonical: str, configuration: Configuration, found: Gathered
 
 
 def write(path: str, text: str, placements: list[Placement], output: Output) -> None:
-    """Writes a text to a file, but over none that was read, or to standard output for a dash."""
+    """Writes a text to a file, except over an input, or to standard output for a dash."""
     if path == PIPE:
         output.raw(bytes_of(text))
         output.flush()

@@ -1,4 +1,4 @@
-"""What the help of each subcommand shows beside its words: examples that can be typed."""
+"""The examples in the help of each subcommand."""
 
 from __future__ import annotations
 
@@ -81,7 +81,7 @@ EXAMPLES = {
 
 
 def epilog_of(name: str) -> str:
-    """What stands below the help of a subcommand, or of the whole program."""
+    """The text below the help of a subcommand, or of the whole program."""
     examples = [f"examples:\n{EXAMPLES[name]}\n"] if name in EXAMPLES else []
     no = [f"  1  {NO[name]}"] if name in NO else []
     trouble = "  2  a file has a fault or can't be read or written, wrong use, or no answer from distac\n"

@@ -14,7 +14,7 @@ if TYPE_CHECKING:
 
 
 class Parser(argparse.ArgumentParser):
-    """A parser that keeps what it was given, for completion, and tells where its help can't be written."""
+    """A parser that records its words for completion, and reports if its help can't be written."""
 
     def __init__(self, *words: Any, **settings: Any) -> None:
         self.actions: list[argparse.Action] = []
@@ -22,17 +22,17 @@ class Parser(argparse.ArgumentParser):
         super().__init__(*words, **settings)
 
     def add_argument(self, *names: Any, **settings: Any) -> argparse.Action:
-        """Takes an option or a word more."""
+        """Adds an option or a word."""
         self.actions.append(super().add_argument(*names, **settings))
         return self.actions[-1]
 
     def add_one_of(self, *options: "tuple[str, dict[str, Any]]") -> None:
-        """Takes options more, of which a command line has one at most."""
+        """Adds mutually exclusive options."""
         group = self.add_mutually_exclusive_group()
         self.actions += [group.add_argument(name, **settings) for name, settings in options]
 
     def _print_message(self, message: str, file: SupportsWrite[str] | None = None) -> None:
-        """Prints help, a version or a usage. What goes to standard output has to arrive."""
+        """Prints help, a version or a usage, which must reach standard output."""
         if file is sys.stdout:
             file.write(message)
         else:

@@ -1,4 +1,4 @@
-"""The subcommands that ask what would happen: `what-if`, `rolling` and `load`, with the words that each of them takes."""
+"""The subcommands for predictions, `what-if`, `rolling` and `load`, with their words."""
 
 from __future__ import annotations
 
@@ -39,7 +39,7 @@ from distac_view.showing.provenance import Asked, asked_by
 
 
 def answer(words: argparse.Namespace, output: Output, json: Callable[[], str], lines: Callable[[], Iterable[str]]) -> None:
-    """Writes an answer as JSON or line by line, unless its page stands on standard output."""
+    """Writes an answer as JSON or line by line, unless its page is on standard output."""
     if words.output != PIPE:
         for line in [json()] if words.json else lines():
             output.line(line)
@@ -47,7 +47,7 @@ def answer(words: argparse.Namespace, output: Output, json: Callable[[], str], l
 
 
 def put_page(distac: Distac, words: argparse.Namespace, output: Output, page: Callable[[Asked], str]) -> None:
-    """Writes the page of an answer, if one was asked for."""
+    """Writes the page of an answer, if requested."""
     if words.output is None:
         return
     if words.output == PIPE and words.json:
@@ -58,7 +58,7 @@ def put_page(distac: Distac, words: argparse.Namespace, output: Output, page: Ca
 
 
 def what_if(distac: Distac, words: argparse.Namespace, output: Output) -> Status:
-    """Prints what becomes of each application if nodes go down, or what a new configuration changes."""
+    """Prints the effect of lost nodes on each application, or the changes by a new configuration."""
     question = Question(words.config, words.down, words.not_started, words.after, words.back, words.now, takes=words.takes, split=words.split)
     if words.split:
         return in_split(distac, question, words, output)
@@ -71,7 +71,7 @@ def what_if(distac: Distac, words: argparse.Namespace, output: Output) -> Status
 
 
 def in_split(distac: Distac, question: Question, words: argparse.Namespace, output: Output) -> Status:
-    """Prints what becomes of each application in a split, and once it is healed."""
+    """Prints the effect of a split on each application, and its place once healed."""
     for name in ("down", "back", "after", "takes", "then"):
         if getattr(words, name):
             raise Problem(f"--split can't stand beside --{name}: it says itself who hears whom, and lasts longer than all waits")
@@ -84,7 +84,7 @@ def in_split(distac: Distac, question: Question, words: argparse.Namespace, outp
 
 
 def what_changes(distac: Distac, question: Question, words: argparse.Namespace, output: Output) -> Status:
-    """Prints what a new configuration changes. The status is 1 if it changes anything."""
+    """Prints the changes by a new configuration. The status is 1 if there are any."""
     changes = changes_by(distac, question, words.then)
     put_page(distac, words, output, lambda asked: changes_page(changes, change_notes(changes), asked))
     answer(words, output, lambda: changes_answer(changes, change_notes(changes)), lambda: changes_lines(changes))
@@ -92,7 +92,7 @@ def what_changes(distac: Distac, question: Question, words: argparse.Namespace, 
 
 
 def load(distac: Distac, words: argparse.Namespace, output: Output) -> Status:
-    """Prints how many applications each node has under each loss, and holds them to a budget."""
+    """Prints the load of each node under each loss, and checks a budget."""
     fail_on = failing(words.fail_on, ("lost", "load", "hang"))
     if "load" in fail_on and words.most is None:
         raise Problem("--fail-on load wants --most N: how many applications a node may have")
@@ -105,7 +105,7 @@ def load(distac: Distac, words: argparse.Namespace, output: Output) -> Status:
 
 
 def failing(words: list[str], known: tuple[str, ...]) -> list[str]:
-    """What `--fail-on` names, by several words or parted by commas."""
+    """The failures named by `--fail-on`, in several words or separated by commas."""
     found = [part for word in words for part in word.split(",") if part]
     if not set(found) <= set(known):
         raise Problem(f"--fail-on takes {listed(list(known))}, parted by commas")
@@ -113,7 +113,7 @@ def failing(words: list[str], known: tuple[str, ...]) -> list[str]:
 
 
 def judged(failures: list[Failure]) -> Status:
-    """Says what isn't allowed, and the status that it leads to."""
+    """Prints the failures that aren't allowed, and returns the resulting status."""
     for failure in failures:
         say(f"distac-view: {failure.what}: {failure.text}")
     return Status.NO if failures else Status.FINE
@@ -182,30 +182,30 @@ def add_fail_on(parser: argparse.ArgumentParser, what: str) -> None:
 
 
 def add_takes(parser: argparse.ArgumentParser) -> None:
-    """The word that says how long a restart takes."""
+    """The word for the duration of a restart."""
     more = "after how many milliseconds a node is back with all started: what waits longer doesn't move; longer than all waits if absent"
     parser.add_argument("--takes", metavar="MS", type=milliseconds, help=more)
 
 
 def milliseconds(word: str) -> int:
-    """A time that the command line gives."""
+    """A time from the command line."""
     if not fits(Role.NUMBER, word) or not 0 < int(word) <= FOREVER:
         raise argparse.ArgumentTypeError(f"milliseconds from 1 to {FOREVER} are wanted, and not {shown(word)}")
     return int(word)
 
 
 def add_page(parser: argparse.ArgumentParser) -> None:
-    """The word that asks for a page."""
+    """The word that requests a page."""
     more = "write the answer as a page too, to be printed or kept with a change; a dash is standard output, with the page alone"
     parser.add_argument("-o", "--output", metavar="FILE.html", help=more)
 
 
 def add_json(parser: argparse.ArgumentParser) -> None:
-    """The word that asks for JSON."""
+    """The word that requests JSON."""
     parser.add_argument("--json", action="store_true", help="print the answer as JSON")
 
 
 def add_now(parser: argparse.ArgumentParser) -> None:
-    """The words that say where applications run now."""
+    """The words for the present places of applications."""
     where = "where applications run now: a file with a line NODE APP APP .. for each node that is up, or APP=NODE .."
     parser.add_argument("--now", metavar="FILE", nargs="+", action="extend", default=[], help=where)

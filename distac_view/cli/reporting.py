@@ -1,4 +1,4 @@
-"""Faults and warnings: which warnings are allowed, how each is said, and their JSON."""
+"""Faults and warnings: which warnings are allowed, how they are printed, and their JSON."""
 
 from __future__ import annotations
 
@@ -13,7 +13,7 @@ from distac_view.showing.json_answers import Fields, json_of, names_of
 
 
 class Allowed:
-    """The warnings that `--allow ID[:APP]` names: all of an id, or those that are about such applications alone."""
+    """The warnings that `--allow ID[:APP]` names: all with an id, or only those about these applications."""
 
     def __init__(self, words: Iterable[str]) -> None:
         self.apps: dict[str, set[str]] = {}
@@ -28,12 +28,12 @@ class Allowed:
 
 
 def told_of(ended: Faulty | Problem) -> Told:
-    """What ended a subcommand, or its work on one of several files."""
+    """The problem that ended a subcommand, or its work on one of several files."""
     return ended.remark.told(ended.path) if isinstance(ended, Faulty) else Told(ended.name, ended.sentence)
 
 
 def say_fault(fault: Told, output: Output, is_json: bool) -> None:
-    """Says a fault: that of a file on standard output, unless JSON stands there."""
+    """Prints a fault: that of a file on standard output, unless JSON is written there."""
     if fault.place is None or is_json:
         say(fault.text())
     else:
@@ -42,7 +42,7 @@ def say_fault(fault: Told, output: Output, is_json: bool) -> None:
 
 
 def ended_by(ended: Faulty | Problem, words: argparse.Namespace, output: Output) -> Status:
-    """Says what ended a subcommand, also as JSON where that was asked for. The exit status of that."""
+    """Prints the problem that ended a subcommand, also as JSON if requested. Returns its exit status."""
     fault, is_json = told_of(ended), bool(getattr(words, "json", False))
     say_fault(fault, output, is_json)
     if is_json:
@@ -52,7 +52,7 @@ def ended_by(ended: Faulty | Problem, words: argparse.Namespace, output: Output)
 
 
 def warned(words: argparse.Namespace, warnings: list[Told]) -> Status:
-    """Says the warnings that aren't allowed, and the status that they lead to."""
+    """Prints the warnings that aren't allowed, and returns the resulting status."""
     left = [told for told in warnings if not Allowed(words.allow).has(told)]
     for told in left:
         say(told.text())
@@ -81,7 +81,7 @@ def warnings_fields(words: argparse.Namespace, warnings: list[Told]) -> list[Fie
 
 
 def add_strict(parser: argparse.ArgumentParser) -> None:
-    """The words that say what warnings lead to."""
+    """The words for the status of warnings."""
     parser.add_argument("--strict", action="store_true", help="a warning makes the exit status 1")
     more = "say nothing of these warnings, and let --strict take them: all of an id, or those about one application"
     parser.add_argument("--allow", metavar="ID[:APP]", nargs="+", action="extend", default=[], help=more)

@@ -1,1 +1,1 @@
-"""What all parts share: texts, names, places in files, standard output, and files that are written whole."""
+"""Shared parts: texts, names, places in files, standard output, and atomic writes of files."""

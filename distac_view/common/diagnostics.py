@@ -1,4 +1,4 @@
-"""Where a byte of a file stands for a person: line, column, and the line with a caret under the place."""
+"""The place of a byte of a file for users: line, column, and the line with a caret."""
 
 from __future__ import annotations
 
@@ -12,9 +12,9 @@ MOST_BEHIND = 60
 
 @dataclass(frozen=True)
 class Place:
-    """A place in a file: its line and column from 1, and what is shown of the line before the place and from it on.
+    """A place in a file: its line and column from 1, and the parts of the line shown before and after it.
 
-    Of a long line only a part is shown.
+    Only a part of a long line is shown.
     """
 
     line: int
@@ -25,7 +25,7 @@ class Place:
 
 @dataclass(frozen=True)
 class Remark:
-    """What is to be said of a place: the name of the fault, refusal or warning, a sentence, and the applications that it is about."""
+    """A remark at a place: the name of the fault, refusal or warning, a sentence, and the applications concerned."""
 
     place: Place
     name: str
@@ -33,18 +33,18 @@ class Remark:
     apps: tuple[str, ...] = ()
 
     def text(self, path: str) -> str:
-        """The remark as it is printed: the place in the file, the sentence, the line and a caret."""
+        """The remark as printed: the place in the file, the sentence, the line and a caret."""
         head = f"{path}:{self.place.line}:{self.place.column}: {self.name}: {self.sentence}"
         return "\n".join((head, *quoted(self.place)))
 
     def told(self, path: str) -> Told:
-        """The remark, and the file that it is about."""
+        """The remark with its file."""
         return Told(self.name, self.sentence, path, self.place, self.apps)
 
 
 @dataclass(frozen=True)
 class Told:
-    """A fault or a warning: its name, if it has one, a sentence, and its place in a file, if it has one; about which applications."""
+    """A fault or a warning: its name and its place in a file, if any, a sentence, and the applications concerned."""
 
     name: str
     sentence: str
@@ -53,14 +53,14 @@ class Told:
     apps: tuple[str, ...] = ()
 
     def text(self) -> str:
-        """What is printed of it."""
+        """Its printed form."""
         if self.path is None or self.place is None:
             return "distac-view: " + (f"{self.name}: {self.sentence}" if self.name else self.sentence)
         return Remark(self.place, self.name, self.sentence).text(self.path)
 
 
 class Faulty(Exception):
-    """A file has a fault: what is to be said of it, and the file."""
+    """A file has a fault: the remark, and the file."""
 
     def __init__(self, path: str, remark: Remark) -> None:
         super().__init__(path, remark)
@@ -69,7 +69,7 @@ class Faulty(Exception):
 
 
 def place_of(source: bytes, offset: int) -> Place:
-    """The place of a byte of a file. The file's length is the place behind its last byte."""
+    """The place of a byte of a file. The file's length is the place after its last byte."""
     start = source.rfind(b"\n", 0, offset) + 1
     line = line_from(source, start)
     return place_in(line, source.count(b"\n", 0, start) + 1, offset - start)
@@ -97,22 +97,23 @@ def without_return(line: bytes) -> bytes:
 
 
 def last_offset(source: bytes, end: int) -> int:
-    """The byte behind the last one that is no blank, up to an end."""
+    """The byte after the last nonblank one, up to an end."""
     return len(source[:end].rstrip())
 
 
 def one_sign_each(text: str) -> str:
-    """A text as an editor counts it: a tab is kept, and each other character of `CONTROLS` and each odd byte is one sign."""
+    """A text as an editor counts it: a tab is kept, and each other character of `CONTROLS` and each invalid byte is one
+    character."""
     return "".join(sign_of(character) for character in text)
 
 
 def sign_of(character: str) -> str:
-    """What is shown of a character."""
+    """The visible form of a character."""
     is_odd = character != "\t" and (CONTROLS.match(character) or 0xD800 <= ord(character) < 0xE000)
     return "\N{REPLACEMENT CHARACTER}" if is_odd else character
 
 
 def quoted(place: Place) -> list[str]:
-    """The line of a place, cut where it is long, and a caret under the place."""
+    """The line of a place, shortened if it is long, with a caret under the place."""
     blank = "".join("\t" if sign == "\t" else " " * columns_of(sign) for sign in place.before)
     return [f"  {place.before}{place.behind}", f"  {blank}^"]

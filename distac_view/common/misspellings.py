@@ -1,4 +1,4 @@
-"""Names that are nearly equal, as a misspelt name and the one that was meant."""
+"""Similar names, such as a misspelt name and the intended one."""
 
 from __future__ import annotations
 
@@ -6,7 +6,8 @@ from typing import Iterable
 
 
 def is_near(one: str, other: str) -> bool:
-    """Whether one change makes a name of the other: a sign changed, added or left out, or two neighbours exchanged."""
+    """Whether one change turns a name into the other: a character changed, added or removed, or two neighbours
+    swapped."""
     if one == other or abs(len(one) - len(other)) > 1:
         return False
     start = common_start(one, other)
@@ -17,7 +18,7 @@ def is_near(one: str, other: str) -> bool:
 
 
 def common_start(one: str, other: str) -> int:
-    """How many signs are equal from the start on."""
+    """The length of the common prefix."""
     for place, (left, right) in enumerate(zip(one, other)):
         if left != right:
             return place
@@ -25,7 +26,7 @@ def common_start(one: str, other: str) -> int:
 
 
 def near_to(name: str, names: Iterable[str]) -> "str | None":
-    """The first of some names that is near to a name, or differs from it by capitals alone."""
+    """The first of some names that is similar to a name, or differs only in capitals."""
     for other in names:
         if other != name and (is_near(name, other) or name.lower() == other.lower()):
             return other
@@ -33,7 +34,7 @@ def near_to(name: str, names: Iterable[str]) -> "str | None":
 
 
 def looks_misspelt(one: str, other: str) -> bool:
-    """Whether one of two names looks like the other one with a letter changed. Names with other digits are meant to differ."""
+    """Whether two names differ by one changed letter. Names with different digits are meant to differ."""
     parts, others = one.strip("'").split("@"), other.strip("'").split("@")
     if len(parts) != len(others):
         return False
@@ -42,7 +43,7 @@ def looks_misspelt(one: str, other: str) -> bool:
 
 
 def differ_by_letters(one: str, other: str) -> bool:
-    """Whether two names of some length are near, and no digit is what parts them."""
+    """Whether two names of sufficient length are similar, and don't differ in a digit."""
     if min(len(one), len(other)) < 3 or not is_near(one, other):
         return False
     start = common_start(one, other)

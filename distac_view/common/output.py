@@ -1,4 +1,4 @@
-"""Standard output and standard error, whatever they are."""
+"""Standard output and standard error of any kind."""
 
 from __future__ import annotations
 
@@ -15,14 +15,14 @@ SILENT_SECONDS = 2.0
 
 
 class Output:
-    """Standard output, to which text and bytes are written as they are."""
+    """Standard output for text and bytes, unchanged."""
 
     def __init__(self) -> None:
         self.stream = sys.stdout.buffer
 
     @property
     def is_terminal(self) -> bool:
-        """Whether a person looks at it."""
+        """Whether it is a terminal."""
         return self.stream.isatty()
 
     def line(self, text: str) -> None:
@@ -34,15 +34,14 @@ class Output:
         self.stream.write(data)
 
     def flush(self) -> None:
-        """Everything is handed on."""
+        """Passes everything on."""
         self.stream.flush()
 
 
 def open_streams() -> None:
-    """Opens a standard stream that is closed to nowhere, so that no file gets its number.
+    """Opens closed standard streams to nowhere, so that no file gets their numbers.
 
-    Standard input can't be read then, and standard output can't be written: who uses them is told. What goes to standard error
-    is lost.
+    Reading such a standard input or writing such a standard output fails. Standard error is lost.
     """
     for number, mode in enumerate((os.O_WRONLY, os.O_RDONLY, os.O_WRONLY)):
         try:
@@ -72,14 +71,14 @@ def why_not_written(error: OSError) -> str:
 
 
 def drop(stream: TextIO) -> None:
-    """Whatever is still to be written to a stream goes nowhere: nobody reads it any more."""
+    """Discards the rest of a stream that nobody reads any more."""
     nowhere = os.open(os.devnull, os.O_WRONLY)
     os.dup2(nowhere, stream.fileno())
     os.close(nowhere)
 
 
 class Progress:
-    """A line on a terminal's standard error that says what goes on, once it takes longer than two seconds."""
+    """A line on a terminal's standard error with the progress, after more than two seconds."""
 
     def __init__(self) -> None:
         self.times_asked = 0
@@ -98,12 +97,12 @@ class Progress:
 
     @property
     def what(self) -> str:
-        """What goes on: which case is played, or how many questions went to `distac`."""
+        """The progress: the case being played, or the number of questions to `distac`."""
         done, cases = self.cases()
         return f"case {min(done + 1, cases)} of {cases}" if cases else f"question {self.times_asked} to distac"
 
     def show(self) -> None:
-        """Shows twice a second what goes on."""
+        """Shows the progress twice a second."""
         has_shown = False
         while not self.is_over.wait(0.5):
             seconds = time.monotonic() - self.start

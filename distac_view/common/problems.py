@@ -6,7 +6,7 @@ from enum import IntEnum
 
 
 class Status(IntEnum):
-    """The exit statuses of all subcommands: done and good, the "no" of a question that was asked, and no answer at all."""
+    """The exit statuses of all subcommands: success, the answer "no", and no answer at all."""
 
     FINE = 0
     NO = 1
@@ -14,7 +14,7 @@ class Status(IntEnum):
 
 
 class Problem(Exception):
-    """A sentence on why the program can't go on, and a name where the fault has one."""
+    """A sentence on why the program can't go on, and the fault's name if it has one."""
 
     def __init__(self, sentence: str, name: str = "") -> None:
         super().__init__(sentence)

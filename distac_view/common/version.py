@@ -1,4 +1,4 @@
-"""The version of `distac-view`, and the commit that it is of."""
+"""The version of `distac-view`, and its commit."""
 
 from __future__ import annotations
 
@@ -8,22 +8,22 @@ import subprocess
 from pathlib import Path
 
 VERSION = "distac-view 1"
-# A release has a file of this name in its folder `distac_view`, with the commit in it.
+# A release has this file in its folder `distac_view`, containing the commit.
 COMMIT_FILE = "commit.txt"
 UNKNOWN = "unknown"
-# What is behind the commit of a checkout in which files differ from it.
+# The suffix of a commit if files of the checkout differ from it.
 CHANGED = "-changed"
 TOP = Path(__file__).resolve().parents[2]
 MOST_SECONDS = 10
 
 
 def version_line() -> str:
-    """What `--version` prints."""
+    """The output of `--version`."""
     return f"{VERSION}, commit {commit()}"
 
 
 def commit() -> str:
-    """The commit that a release was made of, or that of this checkout."""
+    """The commit of a release, or of this checkout."""
     return commit_within() or commit_of(TOP) or UNKNOWN
 
 
@@ -36,14 +36,14 @@ def commit_within() -> str:
 
 
 def commit_of(folder: Path) -> str:
-    """The commit of a checkout. A folder that only stands inside of another checkout has none."""
+    """The commit of a checkout. A folder that is only inside another checkout has none."""
     if not (folder / ".git").exists():
         return ""
     return git_says(folder, "describe", "--always", "--exclude=*", "--abbrev=40", f"--dirty={CHANGED}") or ""
 
 
 def git_says(folder: Path, *words: str) -> str | None:
-    """What git says of a checkout, or none if it fails."""
+    """The output of git in a checkout, or none if it fails."""
     line = ["git", "-C", str(folder), *words]
     surroundings = {name: value for name, value in os.environ.items() if not name.startswith("GIT_")}
     try:

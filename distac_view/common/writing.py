@@ -1,4 +1,4 @@
-"""Files that are written whole or not at all, and never over what was read."""
+"""Files that are written whole or not at all, and never over an input."""
 
 from __future__ import annotations
 
@@ -12,9 +12,9 @@ PIPE = "-"
 
 
 def write_whole(path: str, data: bytes, inputs: Iterable[str]) -> None:
-    """Writes a file beside its place and then moves it there, so that a failed write leaves what was there before.
+    """Writes a file next to its place and then moves it there, so that a failed write leaves the previous file.
 
-    What is no plain file, as a pipe or a device, is written to. None of the inputs is written over.
+    Special files, such as pipes and devices, are written directly. No input is overwritten.
     """
     try:
         place = os.path.realpath(path)
@@ -37,7 +37,7 @@ def is_same(place: str, source: str) -> bool:
 
 
 def write_beside(place: str, data: bytes) -> None:
-    """Writes a new file beside a place, and moves it there."""
+    """Writes a new file next to a place, and moves it there."""
     beside = os.path.join(os.path.dirname(place), f".distac-view-{os.urandom(6).hex()}")
     try:
         write_to(beside, data)
@@ -51,7 +51,7 @@ def write_beside(place: str, data: bytes) -> None:
 
 
 def write_to(place: str, data: bytes) -> None:
-    """Writes bytes to a place, down to the disk where it is a file."""
+    """Writes bytes to a place, and syncs a file to the disk."""
     with open(place, "wb") as file:
         file.write(data)
         file.flush()

@@ -1,1 +1,1 @@
-"""Files as they are written: Erlang's terms, configurations, the files of nodes, and scripts, with their faults and warnings."""
+"""Files as written: Erlang's terms, configurations, the files of nodes, and scripts, with their faults and warnings."""

@@ -1,4 +1,4 @@
-"""Files that `distac` takes, and with which a node of OTP doesn't boot or isn't waited for."""
+"""Files that `distac` accepts, but with which a node of OTP doesn't boot or isn't waited for."""
 
 from __future__ import annotations
 
@@ -20,7 +20,7 @@ TWICE = "{} stands twice in its section: OTP doesn't boot with that; take one ou
 
 
 def boot_warnings(checked: Checked, path: str) -> Iterator[Remark]:
-    """All that OTP has against a file which `distac` takes, by the reader that `gather` has too."""
+    """All of OTP's objections to a file that `distac` accepts, by the reader of `gather`."""
     file = plain_file(path, checked.text)
     sections = Sections(file.text)
     yield from not_erlang(file)
@@ -31,7 +31,7 @@ def boot_warnings(checked: Checked, path: str) -> Iterator[Remark]:
 
 
 def not_erlang(file: SourceFile) -> Iterator[Remark]:
-    """A text that Erlang doesn't read, or whose sections OTP doesn't take."""
+    """A text that Erlang can't read, or whose sections OTP refuses."""
     try:
         items = term_of(decoded(file.source))
     except Misread as misread:
@@ -45,7 +45,7 @@ def not_erlang(file: SourceFile) -> Iterator[Remark]:
 
 
 def wrong_terms(section: Term) -> Iterator[Way]:
-    """The ways to what is wrong in a pair that should be an application with a list of parameters."""
+    """The ways to the faults in a pair that should be an application with a list of parameters."""
     parameters = section[1] if isinstance(section, tuple) else None
     if not isinstance(parameters, list):
         yield (1,)
@@ -63,7 +63,7 @@ def zero_sync_time(checked: Checked, file: SourceFile, sections: Sections) -> It
 
 
 def own_file(checked: Checked, file: SourceFile, sections: Sections) -> Iterator[Remark]:
-    """A sync list that lacks one node alone: that node's own file, as the manual writes it, and no file for all nodes."""
+    """A sync list that lacks a single node: it is that node's own file, as in the manual, and not one for all nodes."""
     configuration = checked.configuration
     waited_for = {*configuration.mandatory, *configuration.optional}
     missing = [node for node in configuration.nodes if node not in waited_for]
@@ -76,7 +76,7 @@ def own_file(checked: Checked, file: SourceFile, sections: Sections) -> Iterator
 
 
 def equal_times(checked: Checked) -> Iterator[Remark]:
-    """Applications that OTP may fail to restart, one warning for each time."""
+    """Applications that OTP may fail to restart, with one warning per time."""
     by_time: dict[int, list[Pair]] = {}
     for pair in pairs_that_hang(checked.configuration):
         by_time.setdefault(pair.one.timeout, []).append(pair)
@@ -85,7 +85,7 @@ def equal_times(checked: Checked) -> Iterator[Remark]:
 
 
 def equal_times_remark(checked: Checked, pairs: list[Pair]) -> Remark:
-    """What is said of applications with one time."""
+    """The remark on applications with the same time."""
     pair = pairs[0]
     names = [each.name for each in checked.configuration.applications if any(each in (other.one, other.other) for other in pairs)]
     what = f"{cut(shown(listed(bare_names(names))), 200)} have the same time and may run at {shown(bare_name(pair.node))} together"
@@ -95,7 +95,7 @@ def equal_times_remark(checked: Checked, pairs: list[Pair]) -> Remark:
 
 
 def token_of_entry(text: bytes, app: str) -> Token:
-    """The name of an application in its entry of `distributed`, which stands six brackets deep."""
+    """The name of an application in its entry of `distributed`, six brackets deep."""
     depth, before = 0, ""
     for token in byte_tokens(text):
         depth += {"[": 1, "{": 1, "]": -1, "}": -1}.get(token.written, 0)

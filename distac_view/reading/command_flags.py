@@ -1,4 +1,5 @@
-"""A node's files as the command line names them: configurations, files of arguments such as `vm.args`, and files of variables."""
+"""A node's files as named on the command line: configurations, argument files such as `vm.args`, and files of
+variables."""
 
 from __future__ import annotations
 
@@ -23,7 +24,7 @@ READ_PARAMETERS = ("distributed", "permissions", "sync_nodes_mandatory", "sync_n
 
 @dataclass(frozen=True)
 class NodeInput:
-    """What was given for a node: its name, its configurations in the order of `-config`, its files of arguments, and their flags."""
+    """A node's inputs: its name, its configurations in the order of `-config`, its argument files, and their flags."""
 
     node: str
     surroundings: Surroundings
@@ -33,18 +34,18 @@ class NodeInput:
 
     @property
     def texts(self) -> Iterator[str]:
-        """All that a reader of terms has to read."""
+        """All texts that a reader of terms must read."""
         yield from (file.text for file in self.configs)
         yield from (text_of(word) for pair in self.flags.kernel for word in pair)
 
 
 def text_of(word: Word) -> str:
-    """A parameter or a value of a flag as the text of a term. OTP adds the full stop too."""
+    """A parameter or a value of a flag as the text of a term. OTP also adds the full stop."""
     return f"{word.text}\n."
 
 
 def input_of(node: str, paths: Iterable[str], surroundings: Surroundings, library: Library) -> NodeInput:
-    """The files of a node, with the configurations and further files that its arguments name."""
+    """The files of a node, with the configurations and further files named by its arguments."""
     arguments: "dict[str, SourceFile]" = {}
     configs: "list[SourceFile | Word]" = []
     words: list[Word] = []
@@ -61,7 +62,7 @@ def input_of(node: str, paths: Iterable[str], surroundings: Surroundings, librar
 
 
 def expanded(file: SourceFile, surroundings: Surroundings, library: Library, seen: "dict[str, SourceFile]", most: int) -> Iterator[Word]:
-    """The words of a file of arguments, and in place of each `-args_file FILE` those of that file."""
+    """The words of an argument file, with each `-args_file FILE` replaced by those of that file."""
     seen[file.path] = file
     try:
         words = iter(words_of(file.path, file.text))
@@ -79,12 +80,12 @@ def expanded(file: SourceFile, surroundings: Surroundings, library: Library, see
 
 
 def config_named(word: Word, surroundings: Surroundings, library: Library) -> SourceFile:
-    """The configuration that a flag `-config` names."""
+    """The configuration named by a flag `-config`."""
     return library.file(surroundings.config_of(word.text, os.path.dirname(word.path)), surroundings.variables)
 
 
 def settings_with_flags(given: NodeInput, library: Library) -> NodeSettings:
-    """What the files of a node say of kernel. The flags of kernel win over all files of `-config`."""
+    """The kernel settings in a node's files. Flags of kernel override all files of `-config`."""
     settings = settings_of(given.node, given.configs, given.surroundings, library)
     settings.files += given.arguments.values()
     settings.node = node_of(given, settings)
@@ -94,7 +95,7 @@ def settings_with_flags(given: NodeInput, library: Library) -> NodeSettings:
 
 
 def add_flag(settings: NodeSettings, file: SourceFile, parameter: Word, value: Word, library: Library) -> None:
-    """A parameter of kernel that a flag sets. One whose name is no atom sets nothing in OTP."""
+    """A parameter of kernel that a flag sets. In OTP one whose name isn't an atom sets nothing."""
     name, term = library.term(text_of(parameter)), library.term(text_of(value))
     if isinstance(term, Misread):
         raise bad_value(file, parameter, value, term)
@@ -110,7 +111,7 @@ def add_flag(settings: NodeSettings, file: SourceFile, parameter: Word, value: W
 
 
 def bad_value(file: SourceFile, parameter: Word, value: Word, misread: Misread) -> Exception:
-    """What is raised for the value of a flag that is no term."""
+    """The fault of a flag's value that isn't a term."""
     if TEMPLATE.search(value.text):
         return file.fault(value.place, "Template", f"this is {FILLED_IN}")
     what = f"OTP doesn't boot with {cut(shown(value.text), 60)} for the parameter {cut(shown(parameter.text), 60)}"
@@ -118,7 +119,7 @@ def bad_value(file: SourceFile, parameter: Word, value: Word, misread: Misread) 
 
 
 def node_of(given: NodeInput, settings: NodeSettings) -> str:
-    """A node's name: the one that was given with its files, or that of the flag `-name` or `-sname` where it says more."""
+    """A node's name: the one given with its files, or the flag `-name` or `-sname` if that is more complete."""
     flag = next(iter(given.flags.names), None)
     if flag is None or (given.node and TEMPLATE.search(flag.text)):
         if not given.node:
@@ -136,7 +137,7 @@ def node_of(given: NodeInput, settings: NodeSettings) -> str:
 
 
 def path_list(settings: NodeSettings) -> str:
-    """The files of a node, one behind the other."""
+    """The files of a node in turn."""
     return cut(", ".join(file.path for file in settings.files), 200)
 
 

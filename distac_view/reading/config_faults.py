@@ -1,4 +1,4 @@
-"""Sentences on the faults of configurations: the rule, and its cure."""
+"""Sentences on the faults of configurations: the rule, and its remedy."""
 
 from __future__ import annotations
 
@@ -31,18 +31,18 @@ class Scene:
 
     @property
     def last(self) -> str:
-        """The token before the fault, as it is written."""
+        """The token before the fault, as written."""
         return self.before[-1].written if self.before else ""
 
     @property
     def here(self) -> Token | None:
-        """The token at the fault, if one can be told there."""
+        """The token at the fault, if there is one."""
         token = next(byte_tokens(self.text[self.at :]), None)
         return token if token is not None and token.start == 0 else None
 
     @property
     def sign(self) -> str:
-        """The sign at the fault."""
+        """The character at the fault."""
         return text_of(self.text[self.at : self.at + 4])[:1]
 
     @property
@@ -52,7 +52,7 @@ class Scene:
 
     @property
     def touches_name(self) -> bool:
-        """Whether the sign before the fault belongs to a name that isn't between quotes."""
+        """Whether the character before the fault belongs to an unquoted name."""
         return bool(self.before) and self.before[-1].kind is Kind.ATOM and self.before[-1].end == self.at
 
     def open_brackets(self) -> list[Token]:
@@ -71,7 +71,7 @@ class Scene:
 
     @property
     def parameter(self) -> str | None:
-        """The parameter that is open at the fault, by its name. A section's name stands two brackets deep, a parameter's four."""
+        """The parameter open at the fault, by name. A section's name is two brackets deep, a parameter's four."""
         depth, names, last = 0, {2: "", 4: ""}, ""
         for token in self.before:
             depth += {"[": 1, "{": 1, "]": -1, "}": -1}.get(token.written, 0)
@@ -82,12 +82,12 @@ class Scene:
 
     @property
     def is_read(self) -> bool:
-        """Whether the fault stands in one of the parameters that are read, or where none is open yet."""
+        """Whether the fault is in one of the parameters that are read, or outside all parameters."""
         return self.parameter is None or self.parameter in READ_PARAMETERS
 
 
 def remark_on(fault: Fault, text: bytes) -> Remark:
-    """What is to be said of a fault of a configuration."""
+    """The remark on a fault of a configuration."""
     before = list(byte_tokens(text[: fault.place]))
     scene = Scene(text, fault.place, before)
     sentence = SENTENCES[fault.name](scene) if fault.name in SENTENCES else "see docs/FORMATS.md"
@@ -95,7 +95,7 @@ def remark_on(fault: Fault, text: bytes) -> Remark:
 
 
 def shown_offset(scene: Scene) -> int:
-    """The byte under which the caret stands. Where the end of the text is the fault it is the place behind the last token."""
+    """The byte under which the caret is. If the fault is the end of the text, it is the place after the last token."""
     if not scene.is_end:
         return scene.at
     meant = meant_for_distributed(scene)
@@ -135,7 +135,7 @@ NO_TERMS = "a configuration begins with [, and no term of Erlang's begins here: 
 
 
 def unsupported(scene: Scene) -> str:
-    """A term that Erlang reads and this program doesn't."""
+    """A term that Erlang reads, but not this program."""
     rest = scene.text[scene.at : scene.at + 8]
     if scene.at == 0 and rest.startswith(ORDER_MARKS):
         return "the file begins with a byte order mark: save it as UTF-8 without one"
@@ -151,7 +151,7 @@ def unsupported(scene: Scene) -> str:
 
 
 def unread_term(scene: Scene, rest: bytes) -> str:
-    """A term of a kind that isn't read. Outside of the parameters that are, it can stay as it is, in another file."""
+    """A term of a kind that isn't read. Outside the parameters that are read, it can stay in another file."""
     is_number = scene.here is not None and scene.here.kind is Kind.NUMBER
     if is_number and scene.is_read:
         return "only whole decimal numbers are read, without a base, a point or underscores: write 5000, not 5_000 or 5.0"
@@ -179,14 +179,14 @@ UNREAD = {
 
 
 def string_term(scene: Scene) -> str:
-    """A string where none is read."""
+    """A string in a place for none."""
     if scene.text[scene.at : scene.at + 3] == b'"""':
         return f"triple-quoted strings aren't read here: {ELSEWHERE}"
     return "a file name among the sections isn't followed: put the sections of that file here, or let distac-view gather follow it"
 
 
 def bad_shape(scene: Scene) -> str:
-    """A token that may not stand where it does, or one that is missing."""
+    """A misplaced token, or a missing one."""
     for rule in (at_end, no_list, behind_dash, wrong_value, wrong_bracket, second_time, missing_comma, comma_too_many):
         sentence = rule(scene)
         if sentence:
@@ -212,12 +212,12 @@ def at_end(scene: Scene) -> str | None:
 
 
 def no_list(scene: Scene) -> str | None:
-    """Something else than a bracket where the text begins."""
+    """Something other than a bracket at the beginning."""
     return None if scene.before else NO_TERMS if scene.sign.isalpha() else "a configuration begins with [: write [{kernel,[..]}]."
 
 
 def behind_dash(scene: Scene) -> str | None:
-    """A name with a dash that isn't between quotes, or a second text."""
+    """An unquoted name with a dash, or a second text."""
     if scene.touches_name and not NAME_SIGNS.match(scene.text, scene.at) and scene.sign not in "[]{},.%":
         return quotes_for(scene)
     if scene.last == ".":
@@ -226,7 +226,7 @@ def behind_dash(scene: Scene) -> str | None:
 
 
 def wrong_value(scene: Scene) -> str | None:
-    """Something else than the name, the number, the list or the truth value that is wanted here."""
+    """Something other than the name, number, list or boolean expected here."""
     here = scene.here.written if scene.here else ""
     names = [token.written for token in scene.before if token.is_name]
     parameter = next((name for name in reversed(names) if name_of(name) in READ_PARAMETERS), "")
@@ -245,14 +245,14 @@ def wrong_value(scene: Scene) -> str | None:
 
 
 def wanted_list(scene: Scene, here: str) -> str:
-    """An application's list of nodes, or its time, isn't what it should be."""
+    """An application's list of nodes or its time is wrong."""
     if here == "infinity":
         return "a failover time is a number of milliseconds: for OTP's infinity, never, write 4294967295, which is 49 days"
     return f"an application's nodes stand in a list, even a single one: write [{shown(here)}]"
 
 
 def wrong_bracket(scene: Scene) -> str | None:
-    """A bracket that closes another one than the innermost."""
+    """A bracket that doesn't match the innermost open one."""
     still_open = scene.open_brackets()
     if scene.sign not in ("]", "}"):
         if scene.sign == "." and still_open:
@@ -269,7 +269,7 @@ def wrong_bracket(scene: Scene) -> str | None:
 
 
 def second_time(scene: Scene) -> str | None:
-    """A section or a parameter that was there already."""
+    """A repeated section or parameter."""
     if scene.here is None or not scene.here.is_name or scene.last != "{":
         return None
     name = name_of(scene.here.written)
@@ -290,7 +290,7 @@ def missing_comma(scene: Scene) -> str | None:
 
 
 def comma_too_many(scene: Scene) -> str | None:
-    """A comma with nothing behind it, or a pair that lacks its second half."""
+    """A comma without anything after it, or a pair without its second half."""
     if scene.sign in ("]", "}") and scene.last == ",":
         return "a comma stands before this bracket, and nothing between them: take the comma out"
     if scene.sign == "," and scene.last in (",", *PAIRS):
@@ -314,7 +314,7 @@ def no_distributed(scene: Scene) -> str:
 
 
 def meant_for_distributed(scene: Scene) -> Token | None:
-    """A name that is nearly `distributed`, where that stands nowhere."""
+    """A name similar to `distributed`, if that is missing."""
     atoms = [token for token in scene.before if token.is_name]
     if any(name_of(token.written) == "distributed" for token in atoms):
         return None
@@ -322,7 +322,7 @@ def meant_for_distributed(scene: Scene) -> Token | None:
 
 
 def twice(scene: Scene) -> str:
-    """A name that stands twice in one list."""
+    """A name repeated in a list."""
     name = name_of(scene.here.written) if scene.here else "this name"
     earlier = [token for token in scene.before if token.is_name and name_of(token.written) == name]
     where = f", first on line {scene.line_of(earlier[-1])}" if earlier else ""
@@ -330,17 +330,17 @@ def twice(scene: Scene) -> str:
 
 
 def twice_app(scene: Scene) -> str:
-    """An application that stands twice in `distributed`."""
+    """An application repeated in `distributed`."""
     return twice(scene).replace("in this list", "in distributed", 1)
 
 
 def named(sign: str) -> str:
-    """A sign in words."""
+    """A character in words."""
     return "this" if not sign or shown(sign) != sign else sign
 
 
 def constant(sentence: str) -> Callable[[Scene], str]:
-    """A sentence that hangs on nothing."""
+    """A constant sentence."""
     return lambda _: sentence
 
 

@@ -1,4 +1,4 @@
-"""What `distac` accepts and an operator may not have meant."""
+"""Things that `distac` accepts but an operator may not have meant."""
 
 from __future__ import annotations
 
@@ -19,7 +19,7 @@ SYNC = ("sync_nodes_mandatory", "sync_nodes_optional")
 
 
 class Source:
-    """The text of a configuration that is in order, by its tokens."""
+    """The text of a correct configuration, by its tokens."""
 
     def __init__(self, text: bytes) -> None:
         self.text = text
@@ -39,7 +39,7 @@ class Source:
         return found
 
     def start_of(self, parameter: str) -> int | None:
-        """Where the value of a kernel parameter begins: kernel's parameters stand three brackets deep."""
+        """The beginning of a kernel parameter's value; kernel's parameters are three brackets deep."""
         depth, section = 0, ""
         for place, token in enumerate(self.tokens):
             depth += {"[": 1, "{": 1, "]": -1, "}": -1}.get(token.written, 0)
@@ -89,7 +89,7 @@ def unknown_permissions(checked: Checked, source: Source) -> Iterator[Remark]:
 
 
 def unlisted_sync_nodes(checked: Checked, source: Source) -> Iterator[Remark]:
-    """Nodes that are waited for and may run no application."""
+    """Nodes that are waited for although they can run no application."""
     configuration = checked.configuration
     listed_nodes = {node for application in configuration.applications for node in application.nodes}
     for parameter, nodes in zip(SYNC, (configuration.mandatory, configuration.optional)):
@@ -112,7 +112,7 @@ def sync_without_time(checked: Checked, source: Source) -> Iterator[Remark]:
 
 
 def single_nodes(checked: Checked, source: Source) -> Iterator[Remark]:
-    """Applications that one node alone can run."""
+    """Applications that only one node can run."""
     for application in checked.configuration.applications:
         if len(application.nodes) == 1:
             node, name = (shown(bare_name(each)) for each in (application.nodes[0], application.name))
@@ -121,7 +121,7 @@ def single_nodes(checked: Checked, source: Source) -> Iterator[Remark]:
 
 
 def near_names(checked: Checked, source: Source) -> Iterator[Remark]:
-    """Names that look like another one with a letter changed."""
+    """Names that differ from another one by one letter."""
     configuration = checked.configuration
     for is_app, names in enumerate((configuration.nodes, configuration.names)):
         for one, other in combinations(names, 2):

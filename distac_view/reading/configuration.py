@@ -28,7 +28,8 @@ class Application:
 
 @dataclass(frozen=True)
 class Configuration:
-    """A configuration: its nodes in name order, its applications in file order, and whom a starting node waits for."""
+    """A configuration: its nodes in name order, its applications in file order, and the nodes that a starting node
+    waits for."""
 
     nodes: list[str]
     applications: list[Application]
@@ -49,7 +50,7 @@ class Configuration:
 
 @dataclass(frozen=True)
 class Checked:
-    """A configuration that has no fault: its text, its canonical text, and what it says."""
+    """A configuration without faults: its text, its canonical text, and its contents."""
 
     text: bytes
     canonical: str
@@ -83,7 +84,7 @@ class TermReader:
 
 
 def configuration_of(canonical: str) -> Configuration:
-    """The configuration that a canonical text says."""
+    """The configuration in a canonical text."""
     try:
         return configuration_in(TermReader(canonical).term())
     except (IndexError, KeyError, TypeError, ValueError) as error:
@@ -91,7 +92,7 @@ def configuration_of(canonical: str) -> Configuration:
 
 
 def configuration_in(sections: Any) -> Configuration:
-    """The configuration that a canonical text's sections say."""
+    """The configuration in a canonical text's sections."""
     parameters = dict(sections[0][1])
     barred = {name for name, _ in parameters["permissions"]}
     applications = [application_of(entry, barred) for entry in parameters["distributed"]]
@@ -109,5 +110,5 @@ def application_of(entry: list[Any], barred: set[str]) -> Application:
 
 
 def name_order(name: str) -> bytes:
-    """What names are ordered by: their bytes without quotes."""
+    """The sort key of names: their bytes without quotes."""
     return bytes_of(name[1:-1] if name.startswith("'") else name)

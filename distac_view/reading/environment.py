@@ -1,4 +1,4 @@
-"""What a node finds where it runs: its variables, and where files with absolute names are, as the command line says them."""
+"""A node's surroundings from the command line: its variables, and the root of absolute file names."""
 
 from __future__ import annotations
 
@@ -14,17 +14,17 @@ from distac_view.reading.variables import Variables, variables_of
 
 @dataclass(frozen=True)
 class Surroundings:
-    """The variables of a node, and the folder in which absolute names of files are looked for, if one is given."""
+    """The variables of a node, and the folder for absolute file names, if one is given."""
 
     variables: Variables = Variables()
     root: "str | None" = None
 
     def config_of(self, name: str, folder: str) -> str:
-        """The path of a configuration that a file of a folder names. OTP adds `.config` where it is left out."""
+        """The path of a configuration named in a file of a folder. As in OTP, `.config` is added if missing."""
         return self.path_of(name if name.endswith(".config") else f"{name}.config", folder)
 
     def path_of(self, name: str, folder: str) -> str:
-        """The path of a file that a file of a folder names: beside that one if it is there, else as it is written."""
+        """The path of a file named in a file of a folder: next to that one if it exists, or else as written."""
         if os.path.isabs(name) and self.root is not None:
             return os.path.join(self.root, name.lstrip("/"))
         beside = os.path.normpath(os.path.join(folder, name))
@@ -32,7 +32,7 @@ class Surroundings:
 
 
 class EachSurroundings:
-    """The surroundings of each node, by the words of `--env` and `--root`."""
+    """The surroundings of each node, from `--env` and `--root`."""
 
     def __init__(self, env: Iterable[str], roots: Iterable[str]) -> None:
         self.variables = variables_of(env)
@@ -46,7 +46,7 @@ class EachSurroundings:
             self.roots[spelled(node) if node else ""] = folder
 
     def of(self, node: str, variable_files: Iterable[str]) -> Surroundings:
-        """Those of a node. The variables of its own files win."""
+        """Those of a node. The variables of its own files override others."""
         variables = self.variables
         for path in variable_files:
             variables = variables.with_file(path)
@@ -54,7 +54,7 @@ class EachSurroundings:
         return Surroundings(variables, next((self.roots[name] for name in names if name in self.roots), None))
 
     def want_known(self, nodes: Iterable[str]) -> None:
-        """Each node of `--root` is one of some nodes."""
+        """Requires each node of `--root` to be one of some nodes."""
         known = {name for node in nodes for name in (node, spelled(bare_name(node).split("@")[0]))}
         unknown = next((node for node in self.roots if node and node not in known), None)
         if unknown is not None:

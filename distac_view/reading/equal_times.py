@@ -1,9 +1,11 @@
-"""Which applications OTP's own controller may fail to restart: those that wait equally long, if their nodes wait for each other.
+"""Applications that OTP's own controller may fail to restart: those with equal waits, if their nodes wait for each
+other.
 
-If a node goes down, OTP restarts its applications one after another, at each node of their lists at once. The node that restarts
-the first one tells the others only when it is free. If it turns to the next one at once, it may wait for those others: for their
-loads where it has a tuple before it, or for the one of them that comes first in the list. They wait for its word meanwhile, so all
-of them hang. Times that lie further apart than the first one takes to start leave the node free between the two.
+If a node goes down, OTP restarts its applications one after another, at each node of their lists at once. The node that
+restarts the first one tells the others only when it is free. If it turns to the next one at once, it may wait for those
+others: for their loads if it has a tuple before it, or for the first of them in the list. Meanwhile they wait for its
+message, so all of them hang. If the times differ by more than the first application takes to start, the node is free
+between the two.
 """
 
 from __future__ import annotations
@@ -20,7 +22,7 @@ FOREVER = 4_294_967_295
 
 @dataclass(frozen=True)
 class Pair:
-    """Two applications that may hang once a node goes down, in file order, and the first such node in name order."""
+    """Two applications that may hang after a node goes down, in file order, and the first such node in name order."""
 
     one: Application
     other: Application
@@ -38,9 +40,10 @@ def pairs_that_hang(configuration: Configuration) -> list[Pair]:
 
 
 def hang_without(one: Application, other: Application, node: str, configuration: Configuration) -> bool:
-    """Whether two applications that run at a node may hang once it is down.
+    """Whether two applications that run at a node may hang after it goes down.
 
-    All other nodes are left then, or all but those before it in a list: else the applications wouldn't be at this one.
+    Then all other nodes are left, or all except those before it in a list, because otherwise the applications wouldn't
+    be at this one.
     """
     if node not in one.nodes or node not in other.nodes:
         return False
@@ -55,13 +58,14 @@ def before(application: Application, node: str) -> set[str]:
 
 
 def pairs_among(lost: Iterable[Application], left: Iterable[str]) -> list[tuple[Application, Application]]:
-    """Of the applications that fail over because nodes went down together, the pairs that may hang with these nodes left."""
+    """Of the applications that fail over because nodes went down together, the pairs that may hang with these nodes
+    left."""
     nodes = list(left)
     return [(one, other) for one, other in combinations(lost, 2) if hang_together(one, other, nodes)]
 
 
 def hang_together(one: Application, other: Application, left: Iterable[str]) -> bool:
-    """Whether two applications that fail over at one moment may hang, in the one order or the other. Weeks aren't waited for."""
+    """Whether two applications that fail over at one moment may hang, in either order. Waits of weeks don't count."""
     nodes = set(left)
     if one.timeout != other.timeout or one.timeout == FOREVER:
         return False
@@ -69,7 +73,8 @@ def hang_together(one: Application, other: Application, left: Iterable[str]) -> 
 
 
 def hang_in_turn(first: Application, second: Application, left: set[str]) -> bool:
-    """Whether a node that restarted the first application waits, for the second one, for a node that waits for its word."""
+    """Whether a node that restarted the first application waits, for the second one, for a node that waits for its
+    message."""
     for node in first_group(first, left).intersection(left):
         waiting = left.intersection(first.nodes).difference([node])
         if node in second.nodes and waiting & waited_for(second, node, left):
@@ -78,12 +83,13 @@ def hang_in_turn(first: Application, second: Application, left: set[str]) -> boo
 
 
 def waited_for(application: Application, node: str, left: set[str]) -> set[str]:
-    """For whom a node waits before an application is restarted: for all in a tuple's case, else for the first one of the list."""
+    """The nodes that a node waits for before an application is restarted: all if there is a tuple, else the first one
+    of the list."""
     group = first_group(application, left)
     others = left.intersection(application.nodes if len(group) > 1 else group)
     return set() if len(group) == 1 and node in group else others.difference([node])
 
 
 def first_group(application: Application, left: set[str]) -> set[str]:
-    """The first group of an application's list of which a node is left."""
+    """The first group of an application's list with a node left."""
     return next((set(group) for group in application.groups if left.intersection(group)), set())

@@ -1,4 +1,4 @@
-"""Two readers of configuration files: Erlang itself, if it is installed, and one of our own."""
+"""Two readers of configuration files: Erlang itself, if installed, and one of our own."""
 
 from __future__ import annotations
 
@@ -21,7 +21,8 @@ Reader = Callable[["list[str]"], "list[Read]"]
 SECONDS = 120
 LATIN = re.compile(rb"%.*coding[ \t]*[:=][ \t]*latin-?1", re.IGNORECASE)
 
-# Reads each file as the application controller reads that of -config, and prints its term, or the place and the kind of its fault.
+# Reads each file as the application controller reads that of -config, and prints its term, or the place and kind of its
+# fault.
 PROGRAM = """\
 #!/usr/bin/env escript
 main([Folder | Names]) ->
@@ -63,7 +64,7 @@ def decoded(source: bytes) -> str:
 
 
 def decoded_anyway(source: bytes) -> str:
-    """The text of a file, in which a byte that doesn't belong there is a character of its own."""
+    """The text of a file, with invalid bytes as characters."""
     return source.decode(encoding_of(source), "surrogateescape")
 
 
@@ -73,7 +74,7 @@ def encoding_of(source: bytes) -> str:
 
 
 def read_by_own(texts: list[str]) -> list[Read]:
-    """Texts by the reader of our own."""
+    """Texts by our own reader."""
     found: list[Read] = []
     for text in texts:
         try:
@@ -89,7 +90,7 @@ def has_erlang() -> bool:
 
 
 def read_by_erlang(texts: list[str]) -> list[Read]:
-    """Texts by Erlang itself. All of them are read at once, because its start takes longer than reading."""
+    """Texts by Erlang itself, all at once, because its start takes longer than reading."""
     with tempfile.TemporaryDirectory(prefix="distac-view-") as room:
         program = Path(room) / "reader.escript"
         program.write_text(PROGRAM, "utf-8")
@@ -103,7 +104,7 @@ def read_by_erlang(texts: list[str]) -> list[Read]:
 
 
 def run_escript(words: list[str], folder: str) -> str:
-    """What an Erlang script prints. Flags that the surroundings have for nodes are left out."""
+    """The output of an Erlang script. The environment's flags for nodes are left out."""
     escript = shutil.which("escript")
     if escript is None:
         raise Problem("escript isn't in PATH: install Erlang, or take --reader own")
@@ -123,7 +124,7 @@ def run_escript(words: list[str], folder: str) -> str:
 
 
 def read_of(answer: str, text: str) -> Read:
-    """The term of an answer, or what is wrong with the text, in the words of our own reader if that doesn't read it either."""
+    """The term of an answer, or the text's fault, in the words of our own reader if that doesn't read it either."""
     if answer.startswith("term "):
         return term_of(answer[len("term ") :])
     own = read_by_own([text])[0]
@@ -131,7 +132,7 @@ def read_of(answer: str, text: str) -> Read:
 
 
 def misread_of(answer: str, text: str) -> Misread:
-    """What is wrong with a text by Erlang's own words."""
+    """The fault in Erlang's own words."""
     found = ANSWER.match(answer)
     if found:
         return Misread(place_at(text, int(found[1]), int(found[2])), f"Erlang doesn't read it: {found[3]}")
@@ -152,5 +153,5 @@ READERS: dict[str, Reader] = {"erl": read_by_erlang, "own": read_by_own}
 
 
 def reader_named(name: str | None) -> Reader:
-    """A reader by its name: Erlang where it is installed, if no name is given."""
+    """A reader by its name, by default Erlang if installed."""
     return READERS[name or ("erl" if has_erlang() else "own")]

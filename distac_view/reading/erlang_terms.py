@@ -1,4 +1,4 @@
-"""Erlang's terms: read from a text of the whole term syntax, as values and as the places where these stand.
+"""Erlang's terms, read from a text in the whole term syntax, as values with their places.
 
 Nothing here recurses, so brackets may be as deep as a text is long.
 """
@@ -29,7 +29,7 @@ class Atom:
 
 @dataclass(frozen=True)
 class Other:
-    """A term that no placement is made of: a map, a binary, a fun, a huge number, or a list with a tail. Its kind says which."""
+    """A term that placement doesn't use: a map, a binary, a fun, a huge number, or an improper list, by kind."""
 
     kind: str
 
@@ -42,13 +42,13 @@ Way = Tuple[int, ...]
 
 
 class Spot(NamedTuple):
-    """Where a term begins, and the same of its items. Only those of lists and tuples are told."""
+    """The beginning of a term and of its items. Only lists and tuples have items."""
 
     place: int
     items: "tuple[Spot, ...]" = ()
 
     def at(self, way: Way) -> int:
-        """The first character of the term to which a way leads, or of the last term on it that is told."""
+        """The first character of the term at a way, or of the last known term on it."""
         spot = self
         for number in way:
             if number >= len(spot.items):
@@ -63,7 +63,7 @@ WITHIN_BINARY = frozenset((*"(),:/+-", "<<", ">>"))
 
 @dataclass
 class Frame:
-    """An open bracket, or a sign before a number: what it holds so far, and whether a term may follow or has to."""
+    """An open bracket, or a sign before a number: its contents so far, and whether a term can or must follow."""
 
     opened: str
     place: int
@@ -74,7 +74,7 @@ class Frame:
 
 
 class TermReader:
-    """Reads one term that ends in a full stop. What stands behind it has to be blank."""
+    """Reads one term that ends in a full stop, followed only by blanks."""
 
     def __init__(self, text: str) -> None:
         self.length = len(text)
@@ -93,7 +93,7 @@ class TermReader:
         return token
 
     def at_end(self) -> str:
-        """What is missing where the text ends."""
+        """What the end of the text lacks."""
         opened = self.frames[-1].opened
         return f"the text ends, and a {opened} is still open" if opened in CLOSING else "the full stop at the end is missing"
 
@@ -109,7 +109,7 @@ class TermReader:
                 self.add(self.value(token), token)
 
     def whole(self, stop: Token) -> Term:
-        """The only term, behind which the text ends."""
+        """The only term, after which the text ends."""
         top = self.frames[-1]
         if top.opened or top.wants_term:
             raise Misread(stop.start, f"a {top.opened} is still open" if top.opened else "a term is wanted before the full stop")
@@ -136,13 +136,13 @@ class TermReader:
             raise Misread(token.start, f"{written} may not stand here")
 
     def want(self, token: Token) -> None:
-        """A term begins here, and has to be wanted."""
+        """Begins a term, which must be expected here."""
         top = self.frames[-1]
         if top.items and not top.wants_term:
             raise Misread(token.start, f"a comma is missing before {token.written[:40]}")
 
     def go_on(self, token: Token) -> None:
-        """Behind a comma, a bar or an arrow one more term is wanted."""
+        """Expects one more term after a comma, a bar or an arrow."""
         top, written = self.frames[-1], token.written
         is_key = top.opened == "#{" and len(top.items) % 2 == 1
         if written == ",":
@@ -154,19 +154,19 @@ class TermReader:
         top.wants_term, top.has_tail = True, top.has_tail or written == "|"
 
     def close(self, token: Token) -> None:
-        """A bracket is closed, and what it holds is a term."""
+        """Closes a bracket, whose contents become a term."""
         frame = self.frames.pop()
         if frame.wants_term or (frame.opened == "#{" and len(frame.items) % 2):
             raise Misread(token.start, f"something is missing before this {token.written}")
         self.put(value_of_frame(frame), spot_of_frame(frame))
 
     def add(self, value: Term, token: Token) -> None:
-        """A term that one token, or a few, make."""
+        """Adds a term of one or a few tokens."""
         self.want(token)
         self.put(value, Spot(token.start))
 
     def put(self, value: Term, spot: Spot) -> None:
-        """A term goes to the innermost open bracket, through the sign before it."""
+        """Adds a term to the innermost open bracket, through the sign before it."""
         top, place = self.frames[-1], spot.place
         if top.opened and top.opened in "+-":
             self.frames.pop()
@@ -181,7 +181,7 @@ class TermReader:
         top.wants_term = False
 
     def skip_binary(self, token: Token) -> None:
-        """The tokens of a binary up to its end. What it holds is no placement, and isn't looked at."""
+        """Skips the tokens of a binary, because placement doesn't use it."""
         depth = 1
         while depth:
             inner = self.take()
@@ -190,7 +190,7 @@ class TermReader:
             depth += {"<<": 1, ">>": -1}.get(inner.written, 0) if inner.kind is Kind.MARK else 0
 
     def value(self, token: Token) -> Term:
-        """The value of a token that is no mark, together with those that belong to it."""
+        """The value of a token that isn't a mark, together with those that belong to it."""
         written, kind = token.written, token.kind
         if kind is Kind.ATOM and written in RESERVED:
             return self.reserved(token)
@@ -205,7 +205,7 @@ class TermReader:
         return self.string(token)
 
     def reserved(self, token: Token) -> Term:
-        """A word that Erlang keeps for itself: of these a fun alone is a term."""
+        """A reserved word of Erlang, of which only a fun is a term."""
         if token.written in SOFT_WORDS:
             return Atom(token.written)
         if token.written != "fun":
@@ -217,7 +217,7 @@ class TermReader:
         return Other("fun")
 
     def string(self, token: Token) -> Term:
-        """A string with those that follow it, as one list of numbers."""
+        """A string and the following ones, as one list of numbers."""
         numbers: list[Term] = []
         part: Token | None = token
         while part is not None and part.kind in (Kind.STRING, Kind.TEXT):
@@ -231,11 +231,11 @@ NAMES = (Kind.ATOM, Kind.QUOTED)
 
 
 class Signed(int):
-    """A whole number that has a sign already."""
+    """A whole number that already has a sign."""
 
 
 def signed(sign: str, value: Term) -> Term:
-    """A number behind a sign."""
+    """A number after a sign."""
     if isinstance(value, int):
         return Signed(-value if sign == "-" else value)
     return -value if sign == "-" and isinstance(value, float) else value
@@ -256,7 +256,7 @@ def value_of_frame(frame: Frame) -> Term:
 
 
 def spot_of_frame(frame: Frame) -> Spot:
-    """Where a closed bracket stands, and its items."""
+    """The place of a closed bracket, and of its items."""
     if frame.opened == "(":
         return frame.spots[0]
     if frame.opened == "#{":
@@ -277,7 +277,7 @@ def atom_of(token: Token) -> Atom:
 
 
 def number_of(token: Token) -> Term:
-    """The number of a token. One with very many digits is only known to be a number."""
+    """The number of a token. One with very many digits is only known as a number."""
     plain = token.written.replace("_", "")
     if "#" in plain:
         base, digits = plain.split("#", 1)
@@ -291,7 +291,7 @@ def number_of(token: Token) -> Term:
 
 
 def based_number(token: Token, base: str, digits: str) -> Term:
-    """A number that is written with its base."""
+    """A number with its base."""
     if len(base) > 2 or not 2 <= int(base) <= 36:
         raise Misread(token.start, "a base is a number from 2 to 36")
     if len(digits) > MOST_DIGITS:
@@ -303,7 +303,7 @@ def based_number(token: Token, base: str, digits: str) -> Term:
 
 
 def text_in(token: Token) -> str:
-    """What a string holds."""
+    """The contents of a string."""
     if token.kind is Kind.STRING:
         return unescaped(token.written[1:-1], token.start + 1)
     lines = token.written.split("\n")
@@ -313,12 +313,12 @@ def text_in(token: Token) -> str:
 
 
 def term_of(text: str) -> Term:
-    """The term of a text. A text that has none, or anything else beside it, raises this."""
+    """The only term of a text, or else an error."""
     return TermReader(text).term()
 
 
 def spot_of(text: str) -> Spot:
-    """Where the term of a text stands, and its items. A text that `term_of` doesn't read raises the same."""
+    """The place of a text's term, and of its items, with the errors of `term_of`."""
     reader = TermReader(text)
     reader.term()
     return reader.frames[0].spots[0]

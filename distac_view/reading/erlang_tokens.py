@@ -1,7 +1,7 @@
-"""The tokens of Erlang's whole term syntax, of texts and of bytes.
+"""The tokens of Erlang's whole term syntax, in texts and in bytes.
 
-Files of nodes hold more than `distac` reads, and `distac` alone says whether a text is in order for it. Of a text that it refuses
-the tokens before the fault are told, for the sentence on it.
+Files of nodes contain more than `distac` reads, and only `distac` decides whether it accepts a text. The sentence on a
+refused text needs the tokens before the fault.
 """
 
 from __future__ import annotations
@@ -28,7 +28,7 @@ class Kind(Enum):
 
 
 class Token(NamedTuple):
-    """A token: its kind, where it begins and ends, and how it is written. Places are characters, or bytes if `byte_tokens` made it."""
+    """A token: its kind, its beginning and end, and its text. Places are characters, or bytes if from `byte_tokens`."""
 
     kind: Kind
     start: int
@@ -37,12 +37,12 @@ class Token(NamedTuple):
 
     @property
     def is_name(self) -> bool:
-        """Whether it is an atom, with quotes or without."""
+        """Whether it is an atom, quoted or not."""
         return self.kind in (Kind.ATOM, Kind.QUOTED)
 
 
 class Misread(Exception):
-    """What is wrong at a character of a text."""
+    """The fault at a character of a text."""
 
     def __init__(self, place: int, sentence: str) -> None:
         super().__init__(place, sentence)
@@ -71,7 +71,7 @@ TOKEN = re.compile("|".join(f"(?P<{kind.name}>{form})" for kind, form in FORMS),
 
 
 def tokens_of(text: str) -> Iterator[Token]:
-    """The tokens of a text. Where none begins, this is raised."""
+    """The tokens of a text. Raises this if none begins."""
     place = blanks_end(text, 0)
     while place < len(text):
         found = TOKEN.match(text, place)
@@ -81,13 +81,14 @@ def tokens_of(text: str) -> Iterator[Token]:
         place = blanks_end(text, found.end())
 
 
-# What a configuration of distac is made of.
+# The tokens of distac's configurations.
 READ_KINDS = frozenset((Kind.STOP, Kind.ATOM, Kind.QUOTED, Kind.NUMBER, Kind.STRING))
 READ_MARKS = frozenset("[]{},")
 
 
 def byte_tokens(source: bytes) -> Iterator[Token]:
-    """The tokens of a text with bytes as places, up to the first that `distac` doesn't read. A byte that is no UTF-8 is a character."""
+    """The tokens of a text with bytes as places, up to the first that `distac` doesn't read. An invalid byte is a
+    character."""
     text, place, offset = text_of(source), 0, 0
     for token in read_tokens(text):
         offset += len(bytes_of(text[place : token.start]))
@@ -116,7 +117,7 @@ def read_tokens(text: str) -> Iterator[Token]:
 
 
 def blanks_end(text: str, place: int) -> int:
-    """The first character from a place on that is neither blank nor in a comment."""
+    """The first character from a place that is neither blank nor in a comment."""
     found = BLANKS.match(text, place)
     return found.end() if found else place
 
@@ -139,12 +140,12 @@ MOST_CODE = 0x10FFFF
 
 
 def unescaped(written: str, place: int) -> str:
-    """What stands between quotes, without its escapes. The place is that of its first character, for what is wrong."""
+    """The text between quotes, without escapes. The place is that of its first character, for faults."""
     if "\\" not in written:
         return written
 
     def replacement(found: re.Match[str]) -> str:
-        """The character that an escape stands for."""
+        """The character of an escape."""
         code = MOST_CODE + 1 if found["sign"] == "x" else code_of(found)
         if code > MOST_CODE or 0xD800 <= code < 0xE000:
             raise Misread(place + found.start(), "no character has this number")
@@ -154,7 +155,7 @@ def unescaped(written: str, place: int) -> str:
 
 
 def code_of(found: re.Match[str]) -> int:
-    """The number of the character that an escape stands for."""
+    """The number of an escape's character."""
     if found["control"]:
         return ord(found["control"]) & 31
     if found["code"] or found["pair"]:

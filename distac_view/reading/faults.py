@@ -10,7 +10,7 @@ from distac_view.common.problems import Problem
 
 
 class Part(Enum):
-    """What a fault is of."""
+    """The part of an input that has a fault."""
 
     INPUT = "input"
     CONFIG = "config"
@@ -19,7 +19,7 @@ class Part(Enum):
 
 @dataclass(frozen=True)
 class Fault:
-    """A fault: what it is of, its name, and its byte (of a configuration) or its line behind `--` (of a script)."""
+    """A fault: its part, its name, and its byte (of a configuration) or its line after `--` (of a script)."""
 
     part: Part
     name: str
@@ -34,7 +34,7 @@ FORMS = {
 
 
 def fault_of(line: str) -> Fault:
-    """The fault that a printed line says."""
+    """The fault in a printed line."""
     for part, form in FORMS.items():
         found = form.match(line)
         if found:

@@ -1,6 +1,6 @@
-"""Permissions that hold at single nodes: `gather` writes them as comments above its configuration, and questions read them.
+"""Permissions at single nodes: `gather` writes them as comments above its configuration, and questions read them.
 
-A configuration of `distac` forbids an application at all nodes or at none. A node that boots forbids these to itself.
+A configuration of `distac` forbids an application at all nodes or at none. A booting node forbids these to itself.
 """
 
 from __future__ import annotations
@@ -23,7 +23,7 @@ def comment_of(app: str, node: str) -> str:
 
 
 def unknown_in(checked: Checked) -> Iterator[Remark]:
-    """What is to be said of such comments that name no application, or no node of its list."""
+    """The remarks on such comments with an unknown application, or with a node outside its list."""
     known = forbidden_in(checked)
     for found in REMEMBERED.finditer(text_of(checked.text)):
         if (name_of(found["node"]), name_of(found["app"])) not in known:
@@ -33,7 +33,7 @@ def unknown_in(checked: Checked) -> Iterator[Remark]:
 
 
 def forbidden_in(checked: Checked) -> list[tuple[str, str]]:
-    """Which applications are forbidden at which nodes, by comments: pairs of a node and an application of its own."""
+    """The applications forbidden at nodes by comments: pairs of a node and an application of its own."""
     lists = {each.name: each.nodes for each in checked.configuration.applications}
     pairs = [(name_of(found["node"]), name_of(found["app"])) for found in REMEMBERED.finditer(text_of(checked.text))]
     return [(node, app) for node, app in dict.fromkeys(pairs) if node in lists.get(app, [])]

@@ -1,4 +1,4 @@
-"""What the files of one node say of placement: kernel's parameters as values, each looked at for what OTP takes."""
+"""The placement settings in one node's files: kernel's parameters as values, checked by OTP's rules."""
 
 from __future__ import annotations
 
@@ -31,19 +31,20 @@ class Entry:
 
     @property
     def list_text(self) -> str:
-        """Its list as it is written, the names of a tuple in name order."""
+        """Its list as written, with a tuple's names in name order."""
         items = [group[0] if len(group) == 1 else "{%s}" % ",".join(sorted(group)) for group in self.groups]
         return "[%s]" % ",".join(items)
 
     @property
     def text(self) -> str:
-        """The entry as it is written."""
+        """The entry as written."""
         return "{%s,%d,%s}" % (self.app, self.timeout, self.list_text)
 
 
 @dataclass
 class Placement:
-    """What one node's files say. A sync time is a number of milliseconds, or infinity; without one it is absent."""
+    """The contents of one node's files. A sync time is a number of milliseconds, or infinity; without one it is
+    absent."""
 
     node: str
     settings: NodeSettings
@@ -63,7 +64,7 @@ class Placement:
 
 
 def placement_of(settings: NodeSettings) -> Placement:
-    """What the files of a node say of placement. The first parameter that OTP wouldn't take is a fault."""
+    """The placement settings in a node's files. The first parameter that OTP would refuse is a fault."""
     placement = Placement(settings.node, settings)
     for name, taken in TAKEN.items():
         setting = settings.kernel.get(name)
@@ -97,7 +98,7 @@ def entry_of(placement: Placement, setting: Setting, number: int, item: Term) ->
 
 
 def time_of(placement: Placement, setting: Setting, number: int, app: str, value: Term) -> int:
-    """The failover time of an entry. OTP takes infinity for one, which `distac` says by its greatest number."""
+    """The failover time of an entry. `distac` expresses OTP's infinity by its greatest number."""
     way, path = (number, 1), setting.origin.file.path
     if value == Atom("infinity"):
         sentence = f"the failover time of {shown(app)} is infinity: OTP never fails it over; {FOREVER} ms (49 days) is written in its place"
@@ -112,7 +113,7 @@ def time_of(placement: Placement, setting: Setting, number: int, app: str, value
 
 
 def group_of(setting: Setting, way: Way, item: Term) -> tuple[str, ...]:
-    """A group of a list of nodes, to which a way leads."""
+    """A group of a list of nodes, at a way."""
     if isinstance(item, tuple) and item:
         return tuple(spelled(setting, (*way, number), node) for number, node in enumerate(item))
     return (spelled(setting, way, item),)
@@ -126,7 +127,7 @@ def names_of(setting: Setting) -> list[str]:
 
 
 def spelled(setting: Setting, way: Way, item: Term) -> str:
-    """A name, to which a way leads, as `distac` spells it."""
+    """A name at a way, as `distac` spells it."""
     if not isinstance(item, Atom):
         raise setting.fault_in(way, "BadName", "a name is wanted here: an atom, without double quotes around it")
     if TEMPLATE.search(item.name):
@@ -159,7 +160,7 @@ def take_sync_time(placement: Placement, setting: Setting) -> None:
 
 
 def take_tick_time(placement: Placement, setting: Setting) -> None:
-    """The parameter `net_ticktime`, which says how long a lost host stays unnoticed."""
+    """The parameter `net_ticktime`, which determines how long a lost host stays unnoticed."""
     if isinstance(setting.value, int) and setting.value > 0:
         placement.tick_time = int(setting.value)
 

@@ -1,4 +1,4 @@
-"""One configuration from what the files of all nodes say: where they differ, and what is written in such a case."""
+"""One configuration from the files of all nodes: their differences, and the value written then."""
 
 from __future__ import annotations
 
@@ -17,7 +17,7 @@ from distac_view.reading.node_settings import NO_NAME, Setting
 
 @dataclass
 class Gathered:
-    """The one configuration, permissions that it can't say (node by node), and what is to be warned of."""
+    """The one configuration, the permissions that it can't express (node by node), and warnings."""
 
     entries: list[Entry]
     nodes: list[str]
@@ -30,7 +30,7 @@ class Gathered:
 
     @property
     def text(self) -> str:
-        """The configuration as a text that `distac` reads."""
+        """The configuration as a text for `distac`."""
         parts = ["{distributed,[%s]}" % ",".join(entry.text for entry in self.entries)]
         parts.append("{permissions,[%s]}" % ",".join("{%s,false}" % app for app in self.barred))
         parts += ["{%s,[%s]}" % (name, ",".join(self.sync[name])) for name in SYNC_LISTS]
@@ -40,7 +40,7 @@ class Gathered:
 
 
 def gathered(placements: list[Placement]) -> Gathered:
-    """One configuration from what each node's files say."""
+    """One configuration from the contents of each node's files."""
     for placement in placements:
         if "distributed" not in placement.settings.kernel:
             raise without_distributed(placement, placements)
@@ -61,7 +61,7 @@ def gathered(placements: list[Placement]) -> Gathered:
 
 
 def once_each(warnings: Iterable[Told]) -> list[Told]:
-    """Warnings, of which those on many files are said of the first one."""
+    """Warnings without repetition: one on many files names only the first."""
     by_sentence: dict[str, Told] = {}
     for told in warnings:
         by_sentence.setdefault(told.sentence, told)
@@ -69,7 +69,7 @@ def once_each(warnings: Iterable[Told]) -> list[Told]:
 
 
 def without_distributed(placement: Placement, placements: list[Placement]) -> Exception:
-    """What is raised where a node's files name no distributed application."""
+    """The fault of a node whose files name no distributed application."""
     files = listed([file.path for file in placement.settings.files])
     other = next((each for each in placements if "distributed" in each.settings.kernel), None)
     if other is not None:
@@ -87,7 +87,7 @@ def nodes_named(entries: list[Entry], placements: list[Placement]) -> list[str]:
 
 
 def resolve_nodes(found: Gathered, placements: list[Placement]) -> None:
-    """Each node by its whole name: the part before @ is enough on the command line if it names one."""
+    """Each node by its whole name. On the command line the part before @ suffices if it names one."""
     for placement in placements:
         if placement.node not in found.nodes:
             resolve(placement, found)
@@ -112,13 +112,13 @@ def resolve(placement: Placement, found: Gathered) -> None:
 
 
 def merged_entry(entry: Entry, placements: list[Placement]) -> Entry:
-    """An entry with the greatest of the times that nodes have for it."""
+    """An entry with the greatest of its times on all nodes."""
     others = [placement.entry_of(entry.app) or entry for placement in placements]
     return Entry(entry.app, max(other.timeout for other in others), entry.groups)
 
 
 def want_same_applications(first: Placement, other: Placement) -> None:
-    """OTP wants equal lists at all nodes, the order within tuples aside."""
+    """OTP requires equal lists at all nodes, except for the order within tuples."""
     here, there = first.settings.kernel["distributed"], other.settings.kernel["distributed"]
     for entry in other.entries:
         own = first.entry_of(entry.app)
@@ -133,7 +133,7 @@ def want_same_applications(first: Placement, other: Placement) -> None:
 
 
 def differs(setting: Setting, what: str) -> Exception:
-    """What is raised where `distributed` differs, at one of the two places."""
+    """The fault of different `distributed` settings, at one of the two places."""
     return setting.fault("Differs", f"{what}: OTP wants distributed equal at all nodes")
 
 
@@ -157,7 +157,7 @@ def told_at(setting: Setting, name: str, sentence: str, *apps: str) -> Told:
 
 
 def greatest(found: Gathered, placements: list[Placement], name: str, values: list[float | None]) -> float | None:
-    """The greatest value of a parameter, with a warning where nodes differ."""
+    """The greatest value of a parameter, with a warning if nodes differ."""
     most = max((value for value in values if value is not None), default=None)
     for placement, value in zip(placements, values):
         if value != most:
@@ -169,12 +169,12 @@ def greatest(found: Gathered, placements: list[Placement], name: str, values: li
 
 
 def time_text(value: float | None) -> str:
-    """A time as a file has it."""
+    """A time in a file's form."""
     return "none" if value is None else "infinity" if value == float("inf") else str(int(value))
 
 
 def gather_sync(found: Gathered, placements: list[Placement]) -> None:
-    """The sync lists of all nodes as one: a node needs no word for itself, since it counts itself as up."""
+    """The sync lists of all nodes as one. A node's own entry is optional, because it counts itself as up."""
     for name in SYNC_LISTS:
         union = {node for placement in placements for node in placement.sync[name]}
         for placement in placements:
@@ -187,7 +187,7 @@ def gather_sync(found: Gathered, placements: list[Placement]) -> None:
 
 
 def sync_differs(name: str, placement: Placement, missing: list[str], placements: list[Placement]) -> Told:
-    """That a node doesn't wait for nodes for which another one waits."""
+    """A node doesn't wait for nodes for which another one waits."""
     other = next(each for each in placements if missing[0] in each.sync[name])
     there = other.settings.kernel[name]
     what = f"{shown(placement.node)} doesn't wait for {shown(listed(missing))}, which {shown(other.node)} has in {name}"
@@ -195,7 +195,7 @@ def sync_differs(name: str, placement: Placement, missing: list[str], placements
 
 
 def add_own(found: Gathered, placement: Placement, placements: list[Placement]) -> None:
-    """A node is added to its own list if no file names it and a node without a file may wait for it."""
+    """Adds a node to its own list if no file names it and a node without a file may wait for it."""
     known = {each.node for each in placements}
     is_waited_for = any(placement.node in found.sync[name] for name in SYNC_LISTS)
     has_others = any(node not in known for node in placement.waits_for())
@@ -220,7 +220,7 @@ def gather_permissions(found: Gathered, placements: list[Placement]) -> None:
 
 
 def permission_differs(app: str, first: Placement, here: Iterable[Placement], barring: list[Placement]) -> Told:
-    """That an application is forbidden at some of its nodes alone."""
+    """An application is forbidden only at some of its nodes."""
     nodes = shown(listed([placement.node for placement in barring]))
     others = shown(listed([placement.node for placement in here if placement not in barring]))
     cure = "true is written, and a comment above it by which what-if, rolling and load forbid it there"
@@ -228,7 +228,7 @@ def permission_differs(app: str, first: Placement, here: Iterable[Placement], ba
 
 
 def coverage_warnings(found: Gathered, placements: list[Placement]) -> list[Told]:
-    """Nodes of lists for which no file was given, and sync lists without a time."""
+    """Nodes of lists without a file, and sync lists without a time."""
     known = {placement.node for placement in placements}
     missing = [node for node in found.nodes if node not in known]
     warnings = []

@@ -1,4 +1,4 @@
-"""The configuration files of a node as OTP puts them together, with the place that each parameter of kernel comes from."""
+"""The configuration files of a node as OTP merges them, with the origin of each kernel parameter."""
 
 from __future__ import annotations
 
@@ -24,13 +24,14 @@ TWICE = "the parameter {} stands twice: OTP doesn't boot with that, and the last
 
 @dataclass(frozen=True)
 class Written:
-    """A text that was read as one term, and its characters in the file, where these have other numbers there."""
+    """A text that was read as one term, and its characters in the file, if their numbers differ there."""
 
     text: str
     characters: tuple[int, ...] = ()
 
     def place_of(self, way: Way, other: int) -> int:
-        """The file's character at which a term of the text begins, or another one if our own reader doesn't read the text."""
+        """The file's character at which a term of the text begins, or another one if our own reader can't read the
+        text."""
         try:
             place = spot_of(self.text).at(way)
         except Misread:
@@ -40,7 +41,8 @@ class Written:
 
 @dataclass(frozen=True)
 class Origin:
-    """Where a parameter stands: its file, its first character there, and the text of its value with the way to that."""
+    """The origin of a parameter: its file, its first character there, and the text of its value with the way to
+    that."""
 
     file: SourceFile
     place: int
@@ -49,34 +51,34 @@ class Origin:
 
     @property
     def line(self) -> str:
-        """The file and the line, as a person names them."""
+        """The file and the line, for users."""
         return f"{self.file.path}:{self.file.remark(self.place, '', '').place.line}"
 
 
 @dataclass(frozen=True)
 class Setting:
-    """The value of a parameter of kernel, and where it comes from."""
+    """The value of a kernel parameter, and its origin."""
 
     value: Term
     origin: Origin
 
     def fault(self, name: str, sentence: str) -> Faulty:
-        """What is raised for a fault of the parameter."""
+        """The fault of the parameter."""
         return self.origin.file.fault(self.origin.place, name, sentence)
 
     def remark_in(self, way: Way, name: str, sentence: str) -> Remark:
-        """What is said of a term of the value."""
+        """The remark on a term of the value."""
         origin = self.origin
         return origin.file.remark(origin.written.place_of((*origin.way, *way), origin.place), name, sentence)
 
     def fault_in(self, way: Way, name: str, sentence: str) -> Faulty:
-        """What is raised for a fault of a term of the value."""
+        """The fault of a term of the value."""
         return Faulty(self.origin.file.path, self.remark_in(way, name, sentence))
 
 
 @dataclass
 class NodeSettings:
-    """What the files of a node say of kernel, the files, and what is to be warned of."""
+    """The kernel settings in a node's files, the files, and warnings."""
 
     node: str
     files: list[SourceFile] = field(default_factory=list)
@@ -85,7 +87,7 @@ class NodeSettings:
 
 
 class Library:
-    """Files that were read, each once with the same variables, and their terms by one reader."""
+    """Files that were read, each once per set of variables, and their terms by one reader."""
 
     def __init__(self, reader: Reader) -> None:
         self.reader = reader
@@ -99,13 +101,13 @@ class Library:
         return self.files[path, variables]
 
     def read(self, texts: Iterable[str]) -> None:
-        """Reads texts: many at once, because a reader may take long to begin."""
+        """Reads many texts at once, because a reader may take long to start."""
         new = [text for text in dict.fromkeys(texts) if text not in self.terms]
         if new:
             self.terms.update(zip(new, self.reader(new)))
 
     def term(self, text: str) -> Read:
-        """The term of a text, or what is wrong with it."""
+        """The term of a text, or its fault."""
         self.read([text])
         return self.terms[text]
 
@@ -120,7 +122,7 @@ class Library:
 
 
 def fault_of_syntax(file: SourceFile, misread: Misread) -> Faulty:
-    """What is raised for a text that is no term: a template is told as such."""
+    """The fault of a text that isn't a term, or that is a template."""
     template = template_in(file.text)
     if template is not None:
         return file.fault(template, "Template", FILLED_IN)
@@ -131,7 +133,8 @@ def fault_of_syntax(file: SourceFile, misread: Misread) -> Faulty:
 
 
 def settings_of(node: str, files: list[SourceFile], surroundings: Surroundings, library: Library) -> NodeSettings:
-    """What the files of a node say, in the order of `-config`. Names of other files in their outer lists are followed."""
+    """The settings in a node's files, in the order of `-config`. Names of other files in their outer lists are
+    followed."""
     settings = NodeSettings(node)
     library.read(inner.text for file in files for inner in named_in(file, surroundings, library))
     for file in files:
@@ -140,20 +143,20 @@ def settings_of(node: str, files: list[SourceFile], surroundings: Surroundings, 
 
 
 def named_in(file: SourceFile, surroundings: Surroundings, library: Library) -> list[SourceFile]:
-    """The files that a file names in its outer list."""
+    """The files named in a file's outer list."""
     names = map(file_name, library.sections(file))
     paths = [surroundings.config_of(name, os.path.dirname(file.path)) for name in names if name]
     return [library.file(path, surroundings.variables) for path in paths]
 
 
 def file_name(item: Term) -> str:
-    """The name of the file that an item of the outer list names: a string. Any other item names none."""
+    """The file name in an item of the outer list, if it is a string."""
     numbers = [number for number in item if type(number) is int and 0 < number <= 0x10FFFF] if isinstance(item, list) else []
     return "".join(map(chr, numbers)) if numbers == item else ""
 
 
 def add_file(settings: NodeSettings, file: SourceFile, named: list[SourceFile], library: Library) -> None:
-    """A file of `-config`, with those that it names."""
+    """Adds a file of `-config`, with those that it names."""
     settings.files.append(file)
     places = Sections(file.text)
     inner = iter(named)
@@ -169,7 +172,7 @@ def add_file(settings: NodeSettings, file: SourceFile, named: list[SourceFile], 
 
 
 def follow(settings: NodeSettings, file: SourceFile, named: SourceFile, library: Library) -> None:
-    """A file that another one names. OTP follows no name in it."""
+    """Adds a file that another one names. OTP follows no names in it."""
     settings.files.append(named)
     places = Sections(named.text)
     for number, item in enumerate(library.sections(named)):
@@ -180,7 +183,7 @@ def follow(settings: NodeSettings, file: SourceFile, named: SourceFile, library:
 
 
 def add_section(settings: NodeSettings, file: SourceFile, way: Way, item: Term, places: Sections) -> None:
-    """A section, to which a way leads: of kernel's parameters each one wins over an earlier one of its name."""
+    """Adds a section, at a way. Each kernel parameter overrides an earlier one of its name."""
     written = Written(file.text)
     if not (isinstance(item, tuple) and len(item) == 2 and isinstance(item[0], Atom) and isinstance(item[1], list)):
         place = written.place_of((*way, *wrong_part(item)), 0)
@@ -196,5 +199,5 @@ def add_section(settings: NodeSettings, file: SourceFile, way: Way, item: Term, 
             settings.kernel[name] = Setting(parameter[1], Origin(file, places.of_parameter(name), written, (*inner, 1)))
 
 def path_text(path: str) -> str:
-    """A path as it is shown in a comment."""
+    """A path as shown in a comment."""
     return shown(bytes_of(path).decode("utf-8", "replace"))

@@ -1,4 +1,4 @@
-"""Sentences on the faults of inputs and scripts: the rule, and its cure."""
+"""Sentences on the faults of inputs and scripts: the rule, and its remedy."""
 
 from __future__ import annotations
 
@@ -17,7 +17,7 @@ RETURN = "a carriage return stands at the line's end, and counts as a part of it
 
 
 def remark_on_input(fault: Fault, source: bytes) -> Remark:
-    """What is to be said of a fault of an input as a whole."""
+    """The remark on a fault of a whole input."""
     if fault.name == "TooLong":
         offset, sentence = MOST_INPUT, "an input has at most 2,097,152 bytes, configuration and script together: play it in parts"
     elif fault.name == "NoScript":
@@ -28,7 +28,7 @@ def remark_on_input(fault: Fault, source: bytes) -> Remark:
 
 
 def missing_separator(source: bytes) -> tuple[int, str]:
-    """Where a line `--` is nearly there, or where it should be, and a sentence."""
+    """A line similar to `--`, or the place for it, and a sentence."""
     near = re.search(rb"^[ \t]*--[ \t\r]*$", source, re.MULTILINE)
     if near:
         what = "a carriage return" if b"\r" in near.group() else "a blank"
@@ -41,19 +41,19 @@ def missing_separator(source: bytes) -> tuple[int, str]:
 
 
 def remark_on_line(name: str, line: Line, nodes: list[str]) -> Remark:
-    """What is to be said of a fault of a script's line, by the names of the nodes that there are."""
+    """The remark on a fault of a script's line, with the names of the known nodes."""
     offset, sentence = SENTENCES.get(name, unknown_fault)(line, nodes)
     return remark_in_line(line, offset, name, sentence)
 
 
 def remark_in_line(line: Line, offset: int, name: str, sentence: str) -> Remark:
-    """A remark on a place in a line, given by the number of signs before it."""
+    """A remark on a place in a line, given by the number of characters before it."""
     before = len(bytes_of(line.text[:offset]))
     return Remark(place_in(bytes_of(line.text), line.number, before), name, sentence)
 
 
 def offset_of(line: Line, place: int) -> int:
-    """Where the word of a number begins in a line, or the line's end."""
+    """The beginning of a numbered word in a line, or the line's end."""
     starts = [found.start() for found in re.finditer("[^ ]+", line.text)]
     return starts[place] if place < len(starts) else len(line.text.rstrip(" \r"))
 
@@ -64,7 +64,7 @@ def has_return(line: Line) -> bool:
 
 
 def bad_word(line: Line, _: list[str]) -> tuple[int, str]:
-    """The first word is none."""
+    """The first word isn't a verb."""
     word = line.verb
     if not word:
         return 0, "the line has spaces alone: an empty line has none"
@@ -142,7 +142,7 @@ def bad_number(line: Line, _: list[str]) -> tuple[int, str]:
 
 
 def unknown_actor(line: Line, nodes: list[str]) -> tuple[int, str]:
-    """The node where the line happens isn't in the configuration."""
+    """The line's node isn't in the configuration."""
     for place, (role, word) in enumerate(roles_in(line.words), 1):
         if role is Role.ACTOR and name_of(word) not in nodes:
             return offset_of(line, place), no_such("node", name_of(word), nodes)
@@ -150,7 +150,7 @@ def unknown_actor(line: Line, nodes: list[str]) -> tuple[int, str]:
 
 
 def no_such(what: str, name: str, names: list[str]) -> str:
-    """That the configuration has no such name, with the one that may be meant."""
+    """The configuration has no such name, but maybe a similar one."""
     meant = near_to(name, names)
     some = listed([shown(name) for name in names[:8]]) + (" and more" if len(names) > 8 else "")
     cure = f"is {shown(meant)} meant?" if meant else f"there are {some}" if len(names) > 1 else f"there is {some} alone"
@@ -169,12 +169,12 @@ def bad_hex(line: Line, _: list[str]) -> tuple[int, str]:
 
 
 def unknown_fault(_: Line, __: list[str]) -> tuple[int, str]:
-    """A fault that stands in docs/FORMATS.md alone."""
+    """A fault that only docs/FORMATS.md describes."""
     return 0, "see docs/FORMATS.md"
 
 
 def first_unfit(line: Line, roles: tuple[Role, ...]) -> tuple[int, Role, str]:
-    """The first word of some roles that can't be what it should be, with its number."""
+    """The first word of some roles that doesn't fit, with its number."""
     words = roles_in(line.words)
     for place, (role, word) in enumerate(words, 1):
         if role in roles and not fits(role, word):

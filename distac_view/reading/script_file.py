@@ -20,7 +20,7 @@ class Line(NamedTuple):
 
     @property
     def is_event(self) -> bool:
-        """Whether it does something: it is neither empty nor a comment."""
+        """Whether it is neither empty nor a comment."""
         return self.text != "" and not self.text.startswith("%")
 
     @property
@@ -41,7 +41,7 @@ class Line(NamedTuple):
 
 @dataclass(frozen=True)
 class Script:
-    """A file: all its bytes, the bytes before the line `--`, and the lines behind it."""
+    """A file: all its bytes, the bytes before the line `--`, and the lines after it."""
 
     source: bytes
     config: bytes
@@ -75,7 +75,7 @@ def script_of(source: bytes) -> Script | None:
 
 
 def read_bytes(path: str, most: int) -> bytes:
-    """The bytes of a file, or of standard input for a dash. One byte more than is allowed is enough of a long one."""
+    """The bytes of a file, or of standard input for a dash. Of a long one, one byte more than allowed suffices."""
     try:
         with open(0 if path == "-" else path, "rb", closefd=path != "-") as file:
             return read_most(file, most)
@@ -84,7 +84,7 @@ def read_bytes(path: str, most: int) -> bytes:
 
 
 def read_most(file: IO[bytes], most: int) -> bytes:
-    """What a file brings until it ends or has brought more than is allowed."""
+    """The contents of a file, up to its end or just past the allowed length."""
     parts, size = [], 0
     while size <= most:
         part = file.read(most + 1 - size)

@@ -1,4 +1,4 @@
-"""Where the sections of a file and their parameters stand, and which of them stand twice."""
+"""The places of a file's sections and their parameters, and which of them are repeated."""
 
 from __future__ import annotations
 
@@ -15,12 +15,13 @@ Name = TypeVar("Name")
 
 OPENING = frozenset(("[", "{", "(", "#{", "<<"))
 CLOSED = frozenset(("]", "}", ")", ">>"))
-# OTP takes two sections of a name for one in files of these names alone.
+# Only in files of these names OTP merges two sections of one name.
 SYS_CONFIG = ("sys.config", "sys.config.src")
 
 
 class Sections:
-    """The names of sections and of parameters with their places. A text that our own tokens don't tell has them up to there."""
+    """The names of sections and parameters with their places, up to the first token that our own reader doesn't
+    know."""
 
     def __init__(self, text: str) -> None:
         self.sections: list[tuple[str, int]] = []
@@ -32,7 +33,7 @@ class Sections:
             pass
 
     def find(self, text: str) -> None:
-        """Walks through the tokens. A section's name stands two brackets deep, that of a parameter four."""
+        """Walks through the tokens. A section's name is two brackets deep, that of a parameter four."""
         depth, before = 0, ""
         for token in tokens_of(text):
             if token.kind is Kind.MARK:
@@ -44,7 +45,7 @@ class Sections:
             before = token.written
 
     def add(self, depth: int, name: str, place: int) -> None:
-        """A name that stands behind an opening bracket."""
+        """Adds a name after an opening bracket."""
         if depth == 2:
             self.sections.append((name, place))
         elif self.sections:
@@ -60,29 +61,29 @@ class Sections:
         return max(found, default=0)
 
     def twice_sections(self) -> Iterator[tuple[str, int]]:
-        """The sections that were there before."""
+        """Repeated sections."""
         return again(self.sections)
 
     def twice_parameters(self) -> Iterator[tuple[str, int]]:
-        """The parameters that were there before in their section."""
+        """Parameters repeated in their section."""
         found = again(((number, name), place) for number, name, place in self.parameters)
         return ((name, place) for (_, name), place in found)
 
 
 def wrong_part(item: Term) -> Way:
-    """The way to what is wrong in what should be a section or a parameter: its name, what stands behind that, or all of it."""
+    """The way to the fault in a section or a parameter: its name, the part after that, or all of it."""
     if not isinstance(item, tuple) or len(item) != 2:
         return ()
     return (1,) if isinstance(item[0], Atom) else (0,)
 
 
 def name_in(token: Token) -> str:
-    """The name that an atom is, without quotes and escapes."""
+    """The name of an atom, without quotes and escapes."""
     return token.written if token.kind is Kind.ATOM else unescaped(token.written[1:-1], token.start + 1)
 
 
 def again(named: Iterable[tuple[Name, int]]) -> Iterator[tuple[Name, int]]:
-    """Of some names with their places those that stood before."""
+    """Of some names with their places, the repeated ones."""
     seen: set[Name] = set()
     for name, place in named:
         if name in seen:
@@ -91,7 +92,8 @@ def again(named: Iterable[tuple[Name, int]]) -> Iterator[tuple[Name, int]]:
 
 
 def twice_in(file: SourceFile, sections: Sections, about_parameter: str) -> Iterator[Remark]:
-    """Sections and parameters that stand twice in one file, with what is said of a parameter: OTP boots with no such file."""
+    """Sections and parameters repeated in one file, with a sentence on a parameter: OTP doesn't boot with such a
+    file."""
     for name, place in sections.twice_sections():
         if os.path.basename(file.path) not in SYS_CONFIG:
             sentence = f"the section {cut(shown(name), 60)} stands twice: OTP boots with that in sys.config alone; put both into one"

@@ -1,4 +1,4 @@
-"""A file of a node, with its text as it is read: variables are filled in, and what surrounds a remote shell's answer is blank."""
+"""A file of a node with its text: variables are filled in, and everything around a remote shell's answer is blank."""
 
 from __future__ import annotations
 
@@ -22,9 +22,9 @@ ANSWER_MARK = "%% distac-view: kernel of "
 
 @dataclass(frozen=True)
 class SourceFile:
-    """A file: its path, its bytes, and its text, in which all but a remote shell's answer is blank where there is one.
+    """A file: its path, its bytes, and its text, blank outside a remote shell's answer if it contains one.
 
-    Variables are filled in there, if any were given.
+    Variables are filled in, if any were given.
     """
 
     path: str
@@ -33,17 +33,17 @@ class SourceFile:
 
     @property
     def text(self) -> str:
-        """What is read of it."""
+        """Its text for reading."""
         return self.filled.text
 
     @property
     def has_arguments(self) -> bool:
-        """Whether it holds words of a command line, and no terms."""
+        """Whether it contains command-line words instead of terms."""
         return are_arguments(self.path, self.text)
 
     @property
     def answered_by(self) -> str:
-        """The node whose remote shell gave the answer that it holds, if it holds one."""
+        """The node whose remote shell gave the answer in it, if there is one."""
         _, _, behind = decoded(self.source).partition(ANSWER_MARK)
         return behind.split("\n")[0].strip()
 
@@ -59,12 +59,12 @@ class SourceFile:
         return Remark(place_of(self.source, offset), name, sentence)
 
     def fault(self, place: int, name: str, sentence: str) -> Faulty:
-        """What is raised for a fault at a character."""
+        """The fault at a character."""
         return Faulty(self.path, self.remark(place, name, sentence))
 
 
 def file_at(path: str, variables: Variables) -> SourceFile:
-    """A file by its path. As OTP does it, `.config` is added where the file isn't there without."""
+    """A file by its path. As in OTP, `.config` is added if the file doesn't exist without it."""
     if path != "-" and not os.path.exists(path) and os.path.exists(f"{path}.config"):
         path = f"{path}.config"
     source = read_bytes(path, MOST_INPUT)
@@ -79,7 +79,7 @@ def file_at(path: str, variables: Variables) -> SourceFile:
 
 
 def plain_file(path: str, source: bytes) -> SourceFile:
-    """A file as it is. Each byte that is no text is a character."""
+    """A file as it is, with invalid bytes as characters."""
     return SourceFile(path, source, Filled(decoded_anyway(source)))
 
 
@@ -93,7 +93,7 @@ def with_variables(file: SourceFile, variables: Variables) -> SourceFile:
 
 
 def answer_in(text: str) -> str:
-    """A text, or what a remote shell answered, with blanks in the place of all else so that lines stay where they are."""
+    """A text, or a remote shell's answer, with blanks instead of the rest so that lines keep their places."""
     start = text.find(ANSWER_MARK)
     if start < 0:
         return text

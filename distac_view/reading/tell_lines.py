@@ -1,8 +1,9 @@
-"""Lines `tell NODE NODE ..` written out as `ship` and `hear`, so that some nodes share among themselves alone.
+"""Lines `tell NODE NODE ..`, written out as `ship` and `hear`, so that only some nodes share.
 
-As in a share, nodes that are off are left out, and so are ships that are refused. The numbers of messages come of `distac`: a
-script is run under guesses of what each line ships, and each answer says whether its guess was right. All before the first wrong
-guess stays right when the guesses are mended and the script is run again. A line that is added at the end changes nothing before.
+As in a share, nodes that are off and ships that are refused are left out. The numbers of messages come from `distac`: a
+script runs with guesses of what each line ships, and each answer shows whether its guess was right. Everything before
+the first wrong guess stays right when the guesses are corrected and the script runs again, because later lines change
+nothing before them.
 """
 
 from __future__ import annotations
@@ -25,12 +26,12 @@ SHIPPED = re.compile(r"shipped (?P<number>\d+) ")
 HEARER_OFF = "refused 1 Off"
 SHARED = re.compile(r"shared (?P<count>\d+)\Z")
 
-# From lines to their answers, each the first output line alone.
+# From lines to the first output line of each.
 Run = Callable[["list[Line]"], "list[str]"]
 
 
 class Outcome(Enum):
-    """What a ship of a `tell` comes to: it is heard, it is refused, or the node that it is for is off and left out."""
+    """The outcome of a ship of a `tell`: it is heard, it is refused, or its receiver is off and left out."""
 
     HEARD = "heard"
     REFUSED = "refused"
@@ -39,33 +40,33 @@ class Outcome(Enum):
 
 @dataclass
 class Turn:
-    """A line of the script, with how many messages it is taken to ship."""
+    """A line of the script, with the number of messages that it is expected to ship."""
 
     line: Line
     count: int
 
     def tried(self, _: int) -> list[Line]:
-        """The lines that are run to see whether the guess is right."""
+        """The lines run to check the guess."""
         return [self.line]
 
     def written(self, _: int) -> list[Line]:
-        """The lines that stand in the script in the end."""
+        """The lines of the final script."""
         return [self.line]
 
     def mend(self, answers: list[str]) -> None:
-        """Takes what the tried lines were answered as the guess."""
+        """Takes the answers to the tried lines as the guess."""
         self.count = shipped_by(answers[0])
 
 
 @dataclass
 class Told(Turn):
-    """A ship of a `tell`, with the node that is to hear it, and what it is taken to come to."""
+    """A ship of a `tell`, with its receiver and its expected outcome."""
 
     hearer: str
     outcome: Outcome = Outcome.HEARD
 
     def tried(self, number: int) -> list[Line]:
-        """The ship and, where it is taken to be heard, its delivery. In place of what is left out stands a look at the node."""
+        """The ship and, if expected to be heard, its delivery. Omitted lines are replaced by a look at the node."""
         if self.outcome is Outcome.LEFT_OUT:
             return [Line(self.line.number, f"same {self.hearer} {self.hearer}")]
         return self.written(number) or [self.line]
@@ -77,7 +78,7 @@ class Told(Turn):
         return [self.line, Line(self.line.number, f"hear {self.hearer} {number}")]
 
     def mend(self, answers: list[str]) -> None:
-        """Takes what the tried lines were answered as the guess."""
+        """Takes the answers to the tried lines as the guess."""
         if self.outcome is Outcome.LEFT_OUT:
             is_left_out, is_shipped = answers[0] != "same", True
         else:
@@ -94,7 +95,7 @@ class Writing:
     turns: list[Turn] = field(default_factory=list)
 
     def lines(self, form: Callable[[Turn, int], list[Line]]) -> list[Line]:
-        """The script by the guesses as they are, each turn in a form that takes the number of the last message."""
+        """The script by the present guesses, with each turn as a function of the last message's number."""
         found, number = [], 0
         for turn in self.turns:
             number += turn.count
@@ -102,12 +103,12 @@ class Writing:
         return found
 
     def settle(self) -> None:
-        """Runs the script until each guess is what `distac` answers."""
+        """Runs the script until each guess agrees with `distac`."""
         while not self.mend(self.run(self.lines(lambda turn, number: turn.tried(number)))):
             pass
 
     def mend(self, answers: list[str]) -> bool:
-        """Takes the answers as the guesses. Whether all were right."""
+        """Takes the answers as the guesses, and returns whether all were right."""
         place, were_right = 0, True
         for turn in self.turns:
             end, guess = place + len(turn.tried(0)), copy(turn)
@@ -117,13 +118,13 @@ class Writing:
 
 
 def shipped_by(answer: str) -> int:
-    """How many messages a line shipped, by its answer."""
+    """The number of messages that a line shipped, by its answer."""
     shared = SHARED.match(answer)
     return int(shared["count"]) if shared else int(bool(SHIPPED.match(answer)))
 
 
 def written_out(lines: list[Line], run: Run) -> list[Line]:
-    """A script with each `tell` written out behind a comment that says it. All its lines have to be in order."""
+    """A script with each `tell` written out after a comment that contains it. All its lines must be correct."""
     writing = Writing(run)
     for line in lines:
         writing.turns += turns_of(line) if line.is_tell else [Turn(line, guess_of(line))]
@@ -132,12 +133,12 @@ def written_out(lines: list[Line], run: Run) -> list[Line]:
 
 
 def guess_of(line: Line) -> int:
-    """How many messages a line is first taken to ship."""
+    """The first guess of how many messages a line ships."""
     return 1 if line.is_event and line.verb == "ship" else 0
 
 
 def turns_of(line: Line) -> list[Turn]:
-    """The ships of a `tell` behind a comment: each of its nodes to each other one, in name order."""
+    """The ships of a `tell` after a comment: from each of its nodes to each other one, in name order."""
     names = sorted((name_of(word) for word in line.words[1:]), key=name_order)
     pairs = [(one, other) for one in names for other in names if one != other]
     comment = Turn(Line(line.number, f"% {line.text.strip()}"), 0)
@@ -146,7 +147,7 @@ def turns_of(line: Line) -> list[Turn]:
 
 
 def fault_in(line: Line, nodes: list[str]) -> Remark | None:
-    """What is wrong with a `tell`."""
+    """The fault of a `tell`."""
     if has_return(line):
         return remark_in_line(line, offset_of(line, len(line.words) - 1), "BadName", RETURN)
     if len(line.words) < 3:
@@ -160,7 +161,7 @@ def fault_in(line: Line, nodes: list[str]) -> Remark | None:
 
 
 def fault_of_name(word: str, earlier: list[str], nodes: list[str]) -> tuple[str, str] | None:
-    """The name and the sentence of what is wrong with a node of a `tell`."""
+    """The name and the sentence of the fault of a node in a `tell`."""
     if not is_name(word):
         name = cut(shown(word.strip("'")), 60)
         return "BadName", f"only a small letter followed by letters, digits, _ and @ needs no quotes: is '{name}' meant?"

@@ -1,4 +1,4 @@
-"""Templates of configuration files, as releases fill them in when they start."""
+"""Templates of configuration files, which releases fill in when they start."""
 
 from __future__ import annotations
 
@@ -18,7 +18,7 @@ COMMENT = r"(?<!\$)%.*"
 
 
 def template_in(text: str, comment: str = COMMENT) -> int | None:
-    """The first character of a `${NAME}` that stands in no comment."""
+    """The first character of a `${NAME}` outside comments."""
     for line in re.finditer(r"[^\n]+", text):
         found = TEMPLATE.search(re.sub(comment, "", line.group()))
         if found:
@@ -28,7 +28,8 @@ def template_in(text: str, comment: str = COMMENT) -> int | None:
 
 @dataclass(frozen=True)
 class Piece:
-    """A part of a text with its variables filled in: where it begins there and in the template, and whether it is a value."""
+    """A part of a text with its variables filled in: its beginning there and in the template, and whether it is a
+    value."""
 
     start: int
     source: int
@@ -37,7 +38,7 @@ class Piece:
 
 @dataclass(frozen=True)
 class Filled:
-    """A text with its variables filled in, and the parts that it is made of."""
+    """A text with its variables filled in, and its parts."""
 
     text: str
     pieces: tuple[Piece, ...] = ()
@@ -53,7 +54,7 @@ class Filled:
 
 
 def filled_in(text: str, values: Mapping[str, str], comment: str = COMMENT) -> Filled:
-    """A text with its variables filled in. One without a value raises this, unless it stands in a comment."""
+    """A text with its variables filled in. Raises this if one has no value, unless it is in a comment."""
     parts: list[str] = []
     pieces, names, length, behind = [Piece(0, 0, False)], [], 0, 0
     for found in TEMPLATE.finditer(text):
@@ -67,7 +68,7 @@ def filled_in(text: str, values: Mapping[str, str], comment: str = COMMENT) -> F
 
 
 def value_without(found: "re.Match[str]", text: str, comment: str, is_empty: bool) -> str:
-    """What stands for a variable that is empty or has no value: its default, if the template has one."""
+    """The replacement of a variable that is empty or has no value: its default, if the template has one."""
     if found["default"] is not None:
         if "{" in found["default"]:
             raise Misread(found.start(), "a release ends a default at its first }, so that it holds no tuple and no variable: give a value by --env")

@@ -1,4 +1,4 @@
-"""The values of variables that templates of configuration files hold, as `--env` and files of variables say them."""
+"""The values of the variables in templates of configuration files, from `--env` and files of variables."""
 
 from __future__ import annotations
 
@@ -19,22 +19,22 @@ ENDING = ".env"
 
 @dataclass(frozen=True)
 class Variables:
-    """Values by name. Where none were given nothing is filled in."""
+    """Values by name. If none were given, nothing is filled in."""
 
     pairs: tuple[tuple[str, str], ...] = ()
     are_given: bool = False
 
     def values(self) -> "dict[str, str]":
-        """The value of each name: a later one wins."""
+        """The value of each name; later ones override earlier ones."""
         return dict(self.pairs)
 
     def with_file(self, path: str) -> Variables:
-        """These, and those of a file, which win."""
+        """These, overridden by those of a file."""
         return Variables((*self.pairs, *pairs_of(path)), True)
 
 
 def variables_of(words: Iterable[str]) -> Variables:
-    """What `--env` says, by words NAME=VALUE and names of files. A later word wins."""
+    """The values from `--env`, given as NAME=VALUE or as file names. A later one overrides earlier ones."""
     found = Variables()
     for word in words:
         name, sign, value = word.partition("=")
@@ -48,7 +48,8 @@ def variables_of(words: Iterable[str]) -> Variables:
 
 
 def pairs_of(path: str) -> "list[tuple[str, str]]":
-    """The pairs of a file of lines NAME=VALUE. Empty lines and those that begin with # are skipped, and quotes around a value are taken off."""
+    """The pairs in a file of lines NAME=VALUE. Empty lines and those that begin with # are skipped, and quotes around a
+    value are removed."""
     source = read_bytes(path, MOST_INPUT)
     found, offset = [], 0
     for line in source.split(b"\n"):

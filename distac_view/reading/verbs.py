@@ -1,4 +1,4 @@
-"""The lines of scripts: their first words, and what each further word is."""
+"""The lines of scripts: their verbs, and the roles of their words."""
 
 from __future__ import annotations
 
@@ -11,7 +11,7 @@ MOST_NUMBER = 2**62
 
 
 class Role(Enum):
-    """What a word of a line is."""
+    """The role of a word in a line."""
 
     ACTOR = "NODE"
     ABOUT = "ABOUT"
@@ -54,24 +54,24 @@ HEX = re.compile(r"(?:[0-9a-f]{2})+\Z")
 
 
 def usage(verb: str) -> str:
-    """How a line of this verb is written."""
+    """The usage of this verb."""
     if verb == TELL:
         return "tell NODE NODE .."
     return " ".join((verb, *(role.value for role in VERBS[verb])))
 
 
 def words_of(line: str) -> list[str]:
-    """The words of a line, parted by spaces alone."""
+    """The words of a line, separated only by spaces."""
     return [word for word in line.split(" ") if word]
 
 
 def is_name(word: str) -> bool:
-    """Whether a word is a name, bare or between quotes."""
+    """Whether a word is a name, quoted or not."""
     return bool((BARE_NAME.match(word) and word != "fun") or QUOTED_NAME.match(word))
 
 
 def fits(role: Role, word: str) -> bool:
-    """Whether a word can be what its role says."""
+    """Whether a word fits its role."""
     if role in NAMES:
         return is_name(word)
     if role in NUMBERS:
@@ -80,7 +80,7 @@ def fits(role: Role, word: str) -> bool:
 
 
 def roles_in(words: list[str]) -> list[tuple[Role, str]]:
-    """The further words of a line with their roles, as many as there are of both."""
+    """The further words of a line with their roles, as far as there are both."""
     return list(zip(VERBS.get(words[0], ()), words[1:])) if words else []
 
 

@@ -1,4 +1,4 @@
-"""Files of arguments such as `vm.args`: their words as `erl -args_file` reads them, and the flags that say a node's configuration."""
+"""Argument files such as `vm.args`: their words as `erl -args_file` reads them, and the flags that configure a node."""
 
 from __future__ import annotations
 
@@ -15,7 +15,8 @@ BLANK = " \t\n\r\v\f"
 
 
 class Word(NamedTuple):
-    """A word of a file of arguments: its text without quotes, the file's path, its first character there, and where each sign stands."""
+    """A word of an argument file: its unquoted text, the file's path, its first character there, and the place of each
+    character."""
 
     text: str
     path: str
@@ -25,7 +26,8 @@ class Word(NamedTuple):
 
 @dataclass
 class Flags:
-    """What flags say: the configuration files, kernel's parameters with their values, and the node's name, of which the first counts."""
+    """The contents of flags: the configuration files, kernel's parameters with their values, and the node's name, of
+    which the first counts."""
 
     configs: list[Word] = field(default_factory=list)
     kernel: "list[tuple[Word, Word]]" = field(default_factory=list)
@@ -33,12 +35,12 @@ class Flags:
 
 
 def are_arguments(path: str, text: str) -> bool:
-    """Whether a file holds arguments: by its name, or because it begins with a flag."""
+    """Whether a file contains arguments: by its name, or because it begins with a flag."""
     return path.endswith(ENDINGS) or FIRST.match(text) is not None
 
 
 def words_of(path: str, text: str) -> list[Word]:
-    """The words of a file: quotes keep all that is in them, a backslash outside of them keeps the sign behind it."""
+    """The words of a file: quotes keep everything between them, and a backslash outside keeps the next character."""
     found, place = [], 0
     while place < len(text):
         if text[place] in BLANK:
@@ -53,7 +55,7 @@ def words_of(path: str, text: str) -> list[Word]:
 
 
 def signs_at(text: str, place: int) -> "tuple[list[int], int]":
-    """Where the signs of the word stand that begins at a character, and the character behind it."""
+    """The places of the characters of the word that begins at a character, and the character after it."""
     signs: list[int] = []
     while place < len(text) and text[place] not in BLANK + "#":
         sign = text[place]
@@ -79,7 +81,8 @@ def line_end(text: str, place: int) -> int:
 
 
 def flags_of(words: Iterable[Word]) -> Flags:
-    """The flags of some words, as a node reads them: a flag has all words up to the next one. Nothing behind `-extra` is a flag."""
+    """The flags of some words, as a node reads them: a flag has all words up to the next one. No flags follow
+    `-extra`."""
     flags = Flags()
     for flag, values in grouped(words):
         if flag == "-config":
@@ -92,7 +95,7 @@ def flags_of(words: Iterable[Word]) -> Flags:
 
 
 def grouped(words: Iterable[Word]) -> "list[tuple[str, list[Word]]]":
-    """Each flag with its values. An emulator's flag, which begins with a plus, has none here."""
+    """Each flag with its values. A flag of the emulator, which begins with a plus, has none here."""
     found: "list[tuple[str, list[Word]]]" = []
     for word in words:
         if word.text == "-extra":

@@ -11,7 +11,7 @@ from distac_view.common.texts import shown
 
 Cells = Tuple[str, ...]
 
-# Where a name may be parted: behind signs, and a part that is long also behind each few letters.
+# Places to break a name: after signs, and in a long part also after every few letters.
 WORDS = re.compile(r"[^ ]+")
 PARTS = re.compile(r"[^@,]*[@,]+|[^@,]+")
 LONG, SHORT = 24, 12
@@ -19,18 +19,18 @@ UNIT = re.compile(r"(?<=\d) (?=(?:ms|s|to)\b)|(?<=\bto) (?=\d)")
 
 
 def text_in(text: str) -> str:
-    """A text inside of an element."""
+    """A text in an element."""
     return escape(shown(text), quote=True)
 
 
 def wrapped(text: str) -> str:
-    """A text inside of an element that is narrow: a name may go on in another line, and a unit stands with its number."""
+    """A text in a narrow element: a name can break, and a unit stays with its number."""
     whole = UNIT.sub("\N{NO-BREAK SPACE}", text.replace("->", "\N{RIGHTWARDS ARROW}"))
     return WORDS.sub(lambda found: "<wbr>".join(text_in(piece) for piece in pieces_of(found.group())), whole)
 
 
 def pieces_of(word: str) -> Iterator[str]:
-    """The parts of a word that stay in one line each: up to an @ or a comma, and of a long part some letters."""
+    """The unbroken parts of a word: up to an @ or a comma, and of a long part some letters."""
     for part in PARTS.findall(word):
         size = SHORT if len(part) > LONG else len(part)
         yield from (part[place : place + size] for place in range(0, len(part), size))
@@ -48,20 +48,20 @@ def bullets(sentences: Iterable[str]) -> str:
 
 
 def section(heading: str, inside: str) -> str:
-    """A part of a page with its heading, if it has anything inside."""
+    """A part of a page with its heading, unless it is empty."""
     return f"<section><h2>{text_in(heading)}</h2>{inside}</section>" if inside else ""
 
 
 def region(kind: str, name: str, inside: str) -> str:
-    """A box that scrolls, and that a keyboard reaches."""
+    """A box that scrolls, also by keyboard."""
     return f'<div class="{kind}" role="region" aria-label="{text_in(name)}" tabindex="0">{inside}</div>'
 
 
 @dataclass(frozen=True)
 class Table:
-    """A table with a name, the heads of its columns, and rows. The last cell of a row that ends early takes what is left.
+    """A table with a name, the heads of its columns, and rows. The last cell of a short row fills the rest.
 
-    Its cells stand in one line each, but for those of the last column, unless all may be wrapped.
+    Cells don't wrap, except those of the last column, unless all may.
     """
 
     name: str
@@ -72,14 +72,14 @@ class Table:
 
     @property
     def text(self) -> str:
-        """The table in a box that scrolls where there is no room for it."""
+        """The table in a box that scrolls if it doesn't fit."""
         heads = "".join(f'<th scope="col"{self.kind(place)}>{wrapped(head)}</th>' for place, head in enumerate(self.heads))
         rows = "".join(f"<tr>{''.join(self.cells(row))}</tr>\n" for row in self.rows)
         table = f'<table aria-label="{text_in(self.name)}"><thead><tr>{heads}</tr></thead>\n<tbody>{rows}</tbody></table>'
         return region("wide wraps" if self.wraps else "wide", self.name, table)
 
     def kind(self, place: int) -> str:
-        """How the cells of a column are set."""
+        """The alignment of a column's cells."""
         return ' class="end"' if place in self.numbers else ""
 
     def cells(self, row: Cells) -> Iterator[str]:

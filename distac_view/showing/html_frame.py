@@ -1,4 +1,4 @@
-"""What all pages have: one file without a script, colors for light and dark, a style, and where the answer comes from."""
+"""The frame of all pages: one file without a script, colors for light and dark, a style, and the answer's origin."""
 
 from __future__ import annotations
 
@@ -61,12 +61,12 @@ dd { margin: 0; grid-column: 2; }
 }
 """.replace("PAPER", PAPER)
 
-# A browser that holds to this runs no script and fetches nothing, whatever stood in a file.
+# A browser that obeys this runs no script and fetches nothing, whatever a file contained.
 POLICY = "default-src 'none'; style-src 'unsafe-inline'"
 
 
 def page_of(title: str, asked: Asked, inside: str, more: str = "", style: str = "") -> str:
-    """A whole page: its title, when it was asked, further sentences, its parts, and how it was asked."""
+    """A whole page: its title, its time, further sentences, its parts, and its command."""
     metadata = '<meta charset="utf-8"><meta name="viewport" content="width=device-width, initial-scale=1">'
     metadata += f'<meta http-equiv="Content-Security-Policy" content="{POLICY}"><title>{text_in(title)}</title>'
     origin = f'<p class="origin">Asked at {text_in(asked.moment)}</p>'
@@ -78,7 +78,7 @@ def page_of(title: str, asked: Asked, inside: str, more: str = "", style: str = 
 
 
 def write_page(path: str, text: str, output: Output, inputs: Iterable[str]) -> None:
-    """Writes a page to a file, but over none that was read, or to standard output for a dash."""
+    """Writes a page to a file, except over an input, or to standard output for a dash."""
     data = text.encode("utf-8", "replace")
     if path == PIPE:
         output.raw(data)

@@ -27,14 +27,14 @@ LOADS = "Applications at each node"
 
 @dataclass(frozen=True)
 class Verdict:
-    """What an answer was held to by `--fail-on`, and what it fails for."""
+    """The requirements of `--fail-on` for an answer, and its failures."""
 
     words: list[str] = field(default_factory=list)
     failures: list[Failure] = field(default_factory=list)
 
     @property
     def section(self) -> str:
-        """The part of a page that tells it, if it was held to anything."""
+        """The part of a page about it, if there were requirements."""
         failed = "".join(f'<p class="no">{text_in(failure.what)}: {text_in(failure.text)}</p>' for failure in self.failures)
         passed = [word for word in self.words if word not in [failure.what for failure in self.failures]]
         fine = paragraphs([f"{listed(passed)}: nothing found"] if passed else [])
@@ -74,7 +74,7 @@ def changes_page(changes: Changes, notes: Iterable[Note], asked: Asked) -> str:
 
 
 def differing(heading: str, heads: tuple[str, ...], rows: Iterable[tuple[str, ...]]) -> str:
-    """What differs, if anything does: rows of the printed answer without the signs that begin them."""
+    """The differences, if any: rows of the printed answer without their first signs."""
     unsigned = [(row[0].partition(" ")[2], *row[1:]) for row in rows]
     return section(heading, Table(heading, heads, unsigned, wraps=True).text if unsigned else "")
 
@@ -106,7 +106,7 @@ def rolling_page(rolling: Rolling, verdict: Verdict, notes: Iterable[Note], aske
 
 
 def step_part(number: int, step: Step, configuration: Configuration) -> str:
-    """A step of a restart: what happens, by when."""
+    """A step of a restart: its events, with their causes."""
     pairs = "".join(f"<dt>{when}</dt>{''.join(f'<dd>{wrapped(each)}</dd>' for each in what)}" for when, what in parts_of(step))
     faults = "".join(f'<p class="no">{text_in(sentence)}</p>' for sentence in barred_by(step, configuration))
     return f'<div class="step"><h3>{number}. {text_in(bare_name(step.node))}</h3><dl>{pairs}</dl>{faults}</div>'

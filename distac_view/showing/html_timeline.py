@@ -1,4 +1,4 @@
-"""The page of a timeline: everything inside of one file."""
+"""The page of a timeline: everything in one file."""
 
 from __future__ import annotations
 
@@ -13,10 +13,10 @@ from distac_view.showing.provenance import Asked
 from distac_view.showing.svg_timeline import HEAD, LAST_GAP, ROW, ROWS_OF_PART, Drawing, color_of, moment_of
 from distac_view.showing.timeline import Timeline
 
-# What a printed page has room for, in pixels of the style, and how much smaller its pictures are than on a screen.
+# The room on a printed page, in pixels of the style, and the scale of its pictures relative to a screen.
 PAGE_HEIGHT, PAGE_WIDTH, PRINT_SCALE = 718, 1046, 0.85
 LEAST_ROWS = 8
-# How much of a window's width the edges of a page and a scroll bar take.
+# The part of a window's width that the edges of a page and a scroll bar take.
 SIDES = 48
 MOST_SIGNS = 400
 
@@ -119,7 +119,8 @@ def page_text(timeline: Timeline, left_out: str, asked: Asked) -> str:
 
 
 def first_rows(timeline: Timeline) -> int:
-    """How many rows fit on a printed page below the title, the claims and the legend. If few do, they begin a page of their own."""
+    """The number of rows that fit on a printed page below the title, the claims and the legend. If few do, they begin a
+    new page."""
     names = sum(len(name) + 6 for name in timeline.configuration.names)
     above = 240 + 25 * len(timeline.claims) + 26 * (7.5 * names // PAGE_WIDTH)
     rows = int((PAGE_HEIGHT - above) / (ROW * PRINT_SCALE) - (HEAD + LAST_GAP) / ROW)
@@ -127,7 +128,7 @@ def first_rows(timeline: Timeline) -> int:
 
 
 def legend(timeline: Timeline) -> str:
-    """What each shape stands for."""
+    """The meaning of each shape."""
     names = timeline.configuration.names
     apps = "".join(sample("bar", text_in(bare_name(name)), color_of(number, len(names))) for number, name in enumerate(names))
     states = sample("up", "up") + sample("off", "off") + sample("said", "said to be down") + sample("dead", "and has heard it")
@@ -177,13 +178,13 @@ def claim_rows(timeline: Timeline) -> Iterator[str]:
 
 
 def how_in(how: str) -> str:
-    """How a claim came about, with its node without quotes."""
+    """The kind of a claim, with its node without quotes."""
     words, _, node = how.rpartition(" ")
     return f"{words} {bare_name(node)}" if words else how
 
 
 def lines_table(timeline: Timeline) -> str:
-    """Each line with its node and its whole answer, for those who don't see the drawing."""
+    """Each line with its node and its whole answer, for readers who can't see the drawing."""
     rows = "\n".join(line_row(one) for one in timeline.rows)
     heads = "".join(f'<th scope="col">{head}</th>' for head in ("line", "node", "what is asked", "moment", "answer"))
     table = f"<table><thead><tr>{heads}</tr></thead><tbody>{rows}</tbody></table>"

@@ -1,6 +1,6 @@
-"""Answers as JSON, in the form that docs/FORMATS.md describes.
+"""Answers as JSON, in the form described in docs/FORMATS.md.
 
-It is an interface: within a version a field keeps its name and its meaning, and later programs add fields alone.
+It is an interface: within a version a field keeps its name and its meaning, and later programs only add fields.
 """
 
 from __future__ import annotations
@@ -20,7 +20,7 @@ Fields = Dict[str, object]
 
 
 def json_of(question: str, fields: Fields, notes: Iterable[Note]) -> str:
-    """A whole answer: the version, which question it answers, the fields that the question has, and the notes."""
+    """A whole answer: the version, its question, the question's fields, and the notes."""
     head: Fields = {"version": VERSION, "question": question}
     return json.dumps({**head, **fields, "notes": notes_fields(notes)}, indent=2)
 
@@ -36,7 +36,7 @@ def names_of(names: Iterable[str]) -> List[str]:
 
 
 def name_or_none(name: str | None) -> str | None:
-    """The name of a node without quotes, or none where there is no node."""
+    """The name of a node without quotes, or none."""
     return None if name is None else bare_name(name)
 
 

@@ -1,4 +1,4 @@
-"""The answers of `rolling`, `load` and `what-if --then` as JSON, in the form that docs/FORMATS.md describes."""
+"""The answers of `rolling`, `load` and `what-if --then` as JSON, in the form described in docs/FORMATS.md."""
 
 from __future__ import annotations
 
@@ -30,7 +30,7 @@ def rolling_answer(rolling: Rolling, failures: Iterable[Failure], notes: Iterabl
 
 
 def failed_fields(failures: Iterable[Failure]) -> list[Fields]:
-    """The fields of what an answer fails for."""
+    """The fields of an answer's failures."""
     return [{"what": failure.what, "text": failure.text} for failure in failures]
 
 
@@ -84,7 +84,7 @@ def change_fields(change: Change) -> Fields:
 
 
 def place_fields(answer: Answer) -> Fields:
-    """The fields of where an application is."""
+    """The fields of an application's place."""
     return {
         "node": name_or_none(answer.place),
         "milliseconds": answer.milliseconds,

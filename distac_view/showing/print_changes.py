@@ -1,4 +1,4 @@
-"""The answer of `what-if --then`: a line for each setting and each answer that changes, and what is to be said of rolling it out."""
+"""The answer of `what-if --then`: a line for each setting and each answer that changes, and advice for the rollout."""
 
 from __future__ import annotations
 
@@ -15,7 +15,7 @@ from distac_view.showing.print_what_if import lines_of_rows
 
 
 def lines_of(changes: Changes) -> Iterator[str]:
-    """The changes, and what is to be said of rolling them out."""
+    """The changes, and advice for their rollout."""
     rows = [*map(setting_row, changes.settings), *map(row_of, changes.changes)]
     yield from lines_of_rows([tuple(shown(cell) for cell in row) for row in rows])
     yield from alone_lines(changes)
@@ -24,7 +24,7 @@ def lines_of(changes: Changes) -> Iterator[str]:
 
 
 def alone_lines(changes: Changes) -> Iterator[str]:
-    """The applications, nodes and notes that one file alone has."""
+    """The applications, nodes and notes that only one file has."""
     for kind, (added, gone) in (("application", changes.apps), ("node", changes.nodes)):
         yield from (shown(f"+ {bare_name(name)} ({kind})") for name in added)
         yield from (shown(f"- {bare_name(name)} ({kind})") for name in gone)
@@ -33,7 +33,7 @@ def alone_lines(changes: Changes) -> Iterator[str]:
 
 
 def count_line(changes: Changes) -> str:
-    """How many answers change."""
+    """The number of answers that change."""
     return f"{len(changes.changes)} of {changes.compared} answers change"
 
 
@@ -50,7 +50,7 @@ def row_of(change: Change) -> tuple[str, ...]:
 
 
 def parts_of(old: Answer, new: Answer) -> Iterator[str]:
-    """What differs between two answers. Times are told of one place alone, and an outage where the wait is equal."""
+    """The differences of two answers. Times are given only for one place, and an outage only if the wait is equal."""
     if (old.place, old.waits) != (new.place, new.waits):
         yield " -> ".join("it waits" if answer.waits else named(answer.place) for answer in (old, new))
     elif old.milliseconds != new.milliseconds:
@@ -64,12 +64,12 @@ def parts_of(old: Answer, new: Answer) -> Iterator[str]:
 
 
 def named(place: str | None) -> str:
-    """Where an application is."""
+    """The place of an application."""
     return bare_name(place) if place else "nowhere"
 
 
 def timed(answer: Answer) -> str:
-    """Where an application is, and after how long it comes there, if it moves at all."""
+    """The place of an application, and the time until it gets there, if it moves at all."""
     return f"{named(answer.place)}, where it stays" if answer.milliseconds is None else f"{named(answer.place)} after {answer.milliseconds} ms"
 
 
@@ -79,7 +79,7 @@ def seconds(milliseconds: int | None) -> str:
 
 
 def notes_on(changes: Changes) -> Iterator[Note]:
-    """What is to be said of rolling a change out: of lists that differ, of times alone, and of applications that one file has."""
+    """Advice for a rollout: about different lists, about times alone, and about applications that one file has."""
     if any(setting.name in GATES for setting in changes.settings):
         text = "Whom a starting node waits for differs: --down A B --back B says whether B comes back while A is down."
         yield Note("OtherGates", text)

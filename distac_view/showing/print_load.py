@@ -1,4 +1,4 @@
-"""The answer of `load` as a table, and what a budget says of it."""
+"""The answer of `load` as a table, with violations of a budget."""
 
 from __future__ import annotations
 
@@ -15,7 +15,7 @@ MOST_COLUMNS = 8
 
 
 def table_of(load: Load, most: int | None) -> Iterator[str]:
-    """The table, and which applications are one loss from nothing."""
+    """The table, and the applications that one more loss would end."""
     rows = shown_rows(load, most)
     yield from lines_of_rows(wide_rows(load, rows) if is_wide(load) else narrow_rows(rows))
     yield from left_lines(load, rows)
@@ -31,21 +31,21 @@ def is_wide(load: Load) -> bool:
 
 
 def left_lines(load: Load, rows: list[Row]) -> Iterator[str]:
-    """How many pairs aren't shown, if any."""
+    """The number of pairs that aren't shown, if any."""
     left = len(load.rows) + 1 - len(rows)
     if left:
         yield f"+ {left} {'pair that loses' if left == 1 else 'pairs that lose'} nothing more than each node alone"
 
 
 def shown_rows(load: Load, most: int | None) -> list[Row]:
-    """The rows that are shown: of pairs only those that lose what neither node alone loses, or have too many at a node."""
+    """The rows shown: only those pairs that lose applications which neither node alone loses, or overload a node."""
     alone = {row.down[0]: row.lost for row in load.singles}
     pairs = [row for row in load.pairs if set(row.lost) - {app for node in row.down for app in alone[node]} or is_above(row, most)]
     return [load.start, *load.singles, *pairs]
 
 
 def is_above(row: Row, most: int | None) -> bool:
-    """Whether a node has more applications than it may have."""
+    """Whether a node has more applications than allowed."""
     return most is not None and row.most > most
 
 
@@ -72,12 +72,12 @@ def down_of(row: Row) -> str:
 
 
 def lost_of(row: Row) -> str:
-    """How many applications are lost, and some of them by name."""
+    """The number of lost applications, with some names."""
     return shown(f"{len(row.lost)}: {few_of(row.lost)}") if row.lost else "0"
 
 
 def last_lines(load: Load) -> Iterator[str]:
-    """Which applications run at the last node that can run them: one more loss, and they run nowhere."""
+    """The applications at the last node that can run them, which one more loss would end."""
     for row in (load.start, *load.singles):
         last = row.last if row is load.start else [app for app in row.last if app not in load.start.last]
         if last:
@@ -87,7 +87,7 @@ def last_lines(load: Load) -> Iterator[str]:
 
 
 def budget_faults(load: Load, fail_on: list[str], most: int | None) -> Iterator[Failure]:
-    """What a budget that stands in `--fail-on` doesn't allow, as sentences."""
+    """Violations of a budget in `--fail-on`, as sentences."""
     if "lost" in fail_on and load.nowhere:
         yield Failure("lost", shown(f"{few_of(load.nowhere)} {'runs' if len(load.nowhere) == 1 else 'run'} nowhere before any loss"))
     lost = [row for row in load.rows if row.lost] if "lost" in fail_on else []

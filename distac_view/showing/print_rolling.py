@@ -1,4 +1,4 @@
-"""The answer of `rolling`: the order, each step with its moves, and what bars it."""
+"""The answer of `rolling`: the order, each step with its moves, and obstacles."""
 
 from __future__ import annotations
 
@@ -14,7 +14,7 @@ from distac_view.showing.print_what_if import lasting
 
 
 def lines_of(rolling: Rolling) -> Iterator[str]:
-    """The order with what it costs, and its steps."""
+    """The order with its cost, and its steps."""
     yield shown(f"order {order_of(rolling)}: {cost_of(rolling)}")
     for number, step in enumerate(rolling.steps, 1):
         parts = "; ".join(f"{when}: {listed(what)}" for when, what in parts_of(step))
@@ -28,27 +28,27 @@ def order_of(rolling: Rolling) -> str:
 
 
 def cost_of(rolling: Rolling) -> str:
-    """What an order costs, how long restarts last, and how the order was found."""
+    """The cost of an order, the duration of restarts, and how the order was found."""
     lasts = f"restarts of {rolling.takes} ms" if rolling.takes is not None else f"restarts {lasting(None, rolling.configuration)}"
     return f"{counted(rolling.moves, 'move')}, {rolling.waits} ms of waits, {lasts}{found_how(rolling)}"
 
 
 def barred_by(step: Step, configuration: Configuration) -> Iterator[str]:
-    """The nodes that can't come back, and for whom they wait."""
+    """The nodes that can't come back, and the nodes that they wait for."""
     for waiter in step.waiters:
         wait = wait_of(waiter, configuration)
         yield shown(f"{bare_name(waiter.node)} can't come back: it waits {wait}, and ends. The restart can't go on.")
 
 
 def drain_notes(drains: bool) -> Iterator[Note]:
-    """What a drain is in OTP."""
+    """The equivalent of a drain in OTP."""
     if drains:
         text = "OTP has no drain: there it is permit(Application, false) at the node, for each application, before the restart."
         yield Note("NoDrain", text)
 
 
 def hang_faults(rolling: Rolling, fail_on: list[str]) -> Iterator[Failure]:
-    """What `--fail-on` doesn't allow."""
+    """Violations of `--fail-on`."""
     if "hang" in fail_on and rolling.hanging:
         count, first = len(rolling.hanging), bare_name(rolling.hanging[0].node)
         yield Failure("hang", shown(f"OTP may hang in {count} of {counted(len(rolling.steps), 'step')}, first {first}"))
@@ -64,7 +64,7 @@ def found_how(rolling: Rolling) -> str:
 
 
 def parts_of(step: Step) -> Iterator[tuple[str, list[str]]]:
-    """What happens in a step, by when or how."""
+    """The events of a step, with their causes."""
     if step.drained:
         yield "drained", [target_of(move) for move in step.drained]
     yield "down", [moved(move) for move in step.down] or ["nothing moves"]
@@ -83,10 +83,10 @@ def moved(move: Move) -> str:
 
 
 def target_of(move: Move) -> str:
-    """Where an application goes."""
+    """The destination of an application."""
     return f"{bare_name(move.app)} -> {bare_name(move.node)}"
 
 
 def counted(count: int, noun: str) -> str:
-    """So many of something."""
+    """A number with its noun."""
     return f"{count} {noun}" if count == 1 else f"{count} {noun}s"

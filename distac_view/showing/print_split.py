@@ -30,7 +30,8 @@ OVERLAPPING = (
 
 
 def lines_of(reply: SplitReply, notes: "list[Note]", shows_all: bool) -> Iterator[str]:
-    """How long the split lasts, what each side runs, what is healed, and notes. Rows that stay are left out, unless asked for."""
+    """The duration of the split, the applications of each side, the healed ones, and notes. Rows that stay are shown
+    only if requested."""
     yield f"the split lasts {lasting(None, reply.configuration)}"
     rows: "list[tuple[str, ...]]" = [HEADS]
     for part in reply.parts:
@@ -42,7 +43,8 @@ def lines_of(reply: SplitReply, notes: "list[Note]", shows_all: bool) -> Iterato
 
 
 def part_rows(part: Part, shows_all: bool) -> "Iterator[tuple[str, ...]]":
-    """The rows of a side: what comes to it, and what ran before and runs at another side alone. What it keeps is counted."""
+    """The rows of a side: applications that come to it, and those that ran before and now run only at another side.
+    Those that it keeps are counted."""
     side = " ".join(bare_names(part.nodes))
     shown_ones = [fate for fate in part.case.fates if shows_all or not is_kept(part, fate)]
     for fate in shown_ones:
@@ -67,7 +69,7 @@ def cells_of(part: Part, fate: Fate) -> "tuple[str, ...]":
 
 
 def healed_rows(reply: SplitReply, shows_all: bool) -> "Iterator[tuple[str, ...]]":
-    """A row for each application that runs twice, or isn't in the end where it was before. The others are counted."""
+    """A row for each application that runs twice, or doesn't end at its former place. The others are counted."""
     before = {fate.app: fate.now for part in reply.parts for fate in part.case.fates}
     shown_ones = [each for each in reply.healed if shows_all or len(each.copies) > 1 or each.back != before.get(each.app)]
     for each in shown_ones:
@@ -79,7 +81,7 @@ def healed_rows(reply: SplitReply, shows_all: bool) -> "Iterator[tuple[str, ...]
 
 
 def notes_on(reply: SplitReply) -> "list[Note]":
-    """What else is to be known of a split."""
+    """Further notes on a split."""
     fates = [fate for part in reply.parts for fate in part.case.fates]
     found = [*start_notes(reply.side, bool(reply.question.now)), *twice_notes(reply), *marks_notes(reply)]
     least, most = (seconds_of(each) for each in notice_range(reply.tick_time))
@@ -94,7 +96,7 @@ def notes_on(reply: SplitReply) -> "list[Note]":
 
 
 def twice_notes(reply: SplitReply) -> Iterator[Note]:
-    """What runs more than once, and what comes of it here and in OTP."""
+    """Applications that run more than once, and the result here and in OTP."""
     twice = [f"{bare_name(each.app)} at {listed(bare_names(each.copies))}" for each in reply.twice]
     if twice:
         yield Note("RunsTwice", shown(f"While the split lasts these run more than once: {'; '.join(twice)}."))
@@ -104,7 +106,7 @@ def twice_notes(reply: SplitReply) -> Iterator[Note]:
 
 
 def marks_notes(reply: SplitReply) -> Iterator[Note]:
-    """Why a side hasn't what ran before."""
+    """Why a side lacks applications that ran before."""
     for part in reply.parts:
         for fate in part.case.fates:
             if fate.then is None and fate.now is not None and fate.marks:

@@ -16,7 +16,7 @@ HEADS = ("down", "application", "now", "then", "how", "after", "outage", "back")
 
 
 def table_of(reply: Reply, shows_all: bool = False) -> Iterator[str]:
-    """How long nodes are down, a table for each side, and what is to be said of it. Rows that stay are left out, unless asked for."""
+    """The duration of the loss, a table for each side, and notes. Rows that stay are shown only if requested."""
     yield f"each loss lasts {lasting(reply.question.takes, reply.configuration)}"
     for number, answers in enumerate(reply.sides):
         if len(reply.sides) > 1:
@@ -30,7 +30,7 @@ def table_of(reply: Reply, shows_all: bool = False) -> Iterator[str]:
 
 
 def lasting(takes: int | None, configuration: Configuration) -> str:
-    """How long a restart takes, or is presumed to take."""
+    """The actual or presumed duration of a restart."""
     return f"longer than {max(configuration.timeouts.values())} ms" if takes is None else f"{takes} ms"
 
 
@@ -40,14 +40,15 @@ def side_table(reply: Reply, answers: Answers, shows_all: bool) -> Iterator[str]
 
 
 def rows_of_side(reply: Reply, answers: Answers, shows_all: bool) -> Iterator[tuple[str, ...]]:
-    """The rows of one side. What runs nowhere from the start on is told below them."""
+    """The rows of one side. Applications that run nowhere from the start are listed below them."""
     nowhere = [held.app for held in nowhere_at_first(answers.side)]
     for case in answers.cases:
         yield from case_rows(case, nowhere, reply.tick_time, shows_all)
 
 
 def case_rows(case: Case, nowhere: list[str], tick_time: int, shows_all: bool) -> Iterator[tuple[str, ...]]:
-    """The rows of a case: the applications that go anywhere, and how many stay. What runs nowhere all the time is in neither."""
+    """The rows of a case: the applications that move, and the number that stays, without those that run nowhere all the
+    time."""
     down, shown_ones = " ".join(bare_names(case.down)), case.fates if shows_all else [fate for fate in case.fates if not fate.stays]
     for fate in shown_ones:
         yield tuple(shown(text) for text in (down, *cells_of(fate, tick_time)))
@@ -69,7 +70,7 @@ def cells_of(fate: Fate, tick_time: int) -> tuple[str, ...]:
 
 
 def lines_of_rows(rows: Iterable[tuple[str, ...]]) -> Iterator[str]:
-    """Rows as lines with columns of equal width. A row may end early, and what it ends with widens no column."""
+    """Rows as lines with columns of equal width. A row can end early; its last cell widens no column."""
     all_rows = list(rows)
     count = max(map(len, all_rows), default=0)
     whole = [row for row in all_rows if len(row) == count]

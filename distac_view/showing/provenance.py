@@ -1,4 +1,4 @@
-"""What a page says of its origin: the command, the moment, the files with their sums, the version, and who answered."""
+"""The origin of a page: the command, the time, the files with their checksums, the version, and the program used."""
 
 from __future__ import annotations
 
@@ -14,13 +14,14 @@ from distac_view.common.version import version_line
 from distac_view.common.writing import PIPE
 from distac_view.showing.html_elements import section, text_in
 
-# The moment that a build gives its files, so that they are equal each time they are built.
+# The time that a build gives its files, so that repeated builds are equal.
 EPOCH = "SOURCE_DATE_EPOCH"
 
 
 @dataclass(frozen=True)
 class File:
-    """A file that was read: its name without folders, and the sum of what stands in it, unless it is a pipe, which is read once."""
+    """An input file: its name without folders, and the checksum of its contents, unless it is a pipe, which is read
+    once."""
 
     name: str
     mark: str
@@ -43,7 +44,7 @@ class Asked:
 
     @property
     def section(self) -> str:
-        """The part of a page that tells it."""
+        """The part of a page about it."""
         files = [(f"File {number}" if len(self.files) > 1 else "File", file.line) for number, file in enumerate(self.files, 1)]
         rows = [("Command", self.command), *files, ("When", self.moment), ("Version", self.version), ("Answered by", self.program)]
         pairs = "".join(f"<dt>{text_in(name)}</dt><dd>{text_in(value)}</dd>" for name, value in rows)
@@ -51,7 +52,7 @@ class Asked:
 
 
 def asked_by(words: argparse.Namespace, read: Iterable[str], program: str) -> Asked:
-    """The origin of a page by a command line and the files that it read."""
+    """The origin of a page, from a command line and its input files."""
     paths = list(read)
     named = [*paths, words.output, *([words.distac] if words.distac else [])]
     command = shlex.join(["distac-view", *(without_folders(word, named) for word in words.arguments)])
@@ -64,13 +65,13 @@ def file_name(path: str) -> str:
 
 
 def without_folders(word: str, paths: List[str]) -> str:
-    """A word of a command line in which a path has no folders, as in `--after=scripts/repair.distac`."""
+    """A word of a command line with paths reduced to file names, as in `--after=scripts/repair.distac`."""
     longest = max((path for path in paths if os.sep in path and word.endswith(path)), key=len, default="")
     return word[: len(word) - len(longest)] + os.path.basename(longest)
 
 
 def file_at(path: str) -> File:
-    """A file with its sum."""
+    """A file with its checksum."""
     if path == PIPE or not os.path.isfile(path):
         return File(file_name(path), "")
     try:
@@ -81,7 +82,7 @@ def file_at(path: str) -> File:
 
 
 def moment() -> str:
-    """The moment of the question, in UTC."""
+    """The time of the question, in UTC."""
     try:
         now = datetime.fromtimestamp(int(os.environ[EPOCH]), timezone.utc)
     except (KeyError, ValueError, OverflowError, OSError):

@@ -1,4 +1,4 @@
-"""Sentences on the refusals that scripts meet: why, and what to do."""
+"""Sentences on the refusals in scripts: the reason, and the remedy."""
 
 from __future__ import annotations
 
@@ -37,7 +37,7 @@ SENTENCES = {
 
 
 def explained(line: Line, answer: str) -> str | None:
-    """A sentence on an answer that refuses a line."""
+    """A sentence on a line's refusal."""
     missing = MISSING.match(answer)
     if missing:
         kind = "shipped" if missing["what"] == "message" else "issued"
@@ -50,7 +50,7 @@ def explained(line: Line, answer: str) -> str | None:
 
 
 def names_in(line: Line) -> dict[str, str]:
-    """The names that sentences speak of, as the line has them."""
+    """The names used in sentences, as written in the line."""
     roles = {"node": Role.ACTOR, "about": Role.ABOUT, "app": Role.APP, "now": Role.MOMENT}
     found = {name: word_of(line.words, role) for name, role in roles.items()}
     return {name: shown(word or OTHERWISE[name]) for name, word in found.items()}

@@ -1,4 +1,4 @@
-"""Scripts with each answer beside its line."""
+"""Scripts with the answer to each line."""
 
 from __future__ import annotations
 
@@ -22,14 +22,14 @@ EXPLAINS = "= "
 
 
 def answers_in(distac: Distac, loaded: Loaded, has_pages: bool) -> list[Answered]:
-    """What is shown of a script: its lines with their answers, and pages behind each share where they are asked for."""
+    """The lines of a script with their answers, and pages after each share if requested."""
     if not has_pages:
         return answers_of(distac, loaded)
     return list(merged(answers_of(distac, loaded, with_pages(loaded)), loaded.lines))
 
 
 def rows_of(each: list[Answered], explains: bool) -> Iterator[str]:
-    """What is printed for a script's lines. An empty last one is left out."""
+    """The output for a script's lines, without an empty last one."""
     ones = each[:-1] if each and not each[-1].line.text else each
     texts = (shown(one.line.text) for one in ones if one.line.is_event)
     columns = min(max((columns_of(text) for text in texts), default=0), MOST_COLUMNS)
@@ -47,7 +47,7 @@ class Layout:
 
     @property
     def start(self) -> int:
-        """How many columns stand before an answer."""
+        """The columns before an answer."""
         return self.digits + self.columns + 4
 
     def rows(self, one: Answered, explains: bool) -> Iterator[str]:
@@ -65,7 +65,7 @@ class Layout:
 
 
 def with_pages(loaded: Loaded) -> list[Line]:
-    """The lines with a page of each node behind each share and each written-out `tell`."""
+    """The lines with a page of each node after each share and each written-out `tell`."""
     nodes = [node for node in loaded.configuration.nodes if " " not in node]
     told = {line.number for line in loaded.script.lines if line.is_tell}
     found: list[Line] = []
@@ -104,14 +104,14 @@ def one_page_each(pages: list[Answered]) -> Iterator[Answered]:
 
 
 def unknown_names(each: list[Answered], configuration: Configuration) -> Iterator[Remark]:
-    """What is to be said of lines that are refused for a name that the configuration hasn't."""
+    """Remarks on lines refused for an unknown name."""
     for one in each:
         if one.first.endswith((" UnknownApp", " UnknownNode")):
             yield from unknown_in(one.line, one.first.rsplit(" ", 1)[1], configuration)
 
 
 def unknown_in(line: Line, refusal: str, configuration: Configuration) -> Iterator[Remark]:
-    """The name that a line is refused for."""
+    """The name for which a line is refused."""
     for place, (role, word) in enumerate(roles_in(line.words), 1):
         names = configuration.names if role is Role.APP else configuration.nodes
         is_meant = role in NAMES and (role is Role.APP) == (refusal == "UnknownApp")

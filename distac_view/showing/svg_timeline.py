@@ -1,7 +1,7 @@
 """A timeline as SVG: lines go down, and each node has a lane.
 
-It is drawn in parts of some rows each, one picture under the other, since a printer can't part a picture. A shape that goes on
-over several parts is drawn whole in each of them, and each shows its own rows.
+It is drawn in parts of some rows each, one picture below the other, because a printer can't divide a picture. A shape
+that extends over several parts is drawn whole in each of them, and each shows its own rows.
 """
 
 from __future__ import annotations
@@ -35,7 +35,7 @@ STATE_CLASSES = {State.OFF: "off", State.UP: "up", State.SAID_DOWN: "said", Stat
 
 @dataclass(frozen=True)
 class Lane:
-    """The lane of a node: where it begins and how wide it is."""
+    """The lane of a node: its left edge and its width."""
 
     node: str
     left: float
@@ -47,13 +47,13 @@ class Lane:
         return self.left + 14 + BAND / 2
 
     def bar_left(self, place: int) -> float:
-        """Where the bar of an application begins."""
+        """The left edge of an application's bar."""
         return self.left + 14 + BAND + GAP + place * (BAR + 3)
 
 
 @dataclass(frozen=True)
 class Part:
-    """Some rows that are one picture: from a first one on, up to one before another."""
+    """Rows in one picture: from the first one up to one before another."""
 
     start: int
     stop: int
@@ -73,7 +73,7 @@ class Part:
 
 
 class Drawing:
-    """The places of all that is drawn."""
+    """The positions of everything drawn."""
 
     def __init__(self, timeline: Timeline) -> None:
         self.timeline = timeline
@@ -89,7 +89,7 @@ class Drawing:
         self.width = self.answer_left + SIGN * MOST_ANSWER
 
     def moment_signs(self) -> int:
-        """How many signs the longest moment takes."""
+        """The length of the longest moment."""
         return max((len(moment_of(one)) for one in self.timeline.rows), default=0)
 
     def head(self) -> str:
@@ -105,7 +105,7 @@ class Drawing:
         return svg(self.width, HEAD, words + names, f"columns: line, moment, {', '.join(bare_names(self.lanes))}, answer")
 
     def parts(self, first: int) -> Iterator[str]:
-        """The pictures of all rows, from the first to the last: one of so many rows, and those behind it."""
+        """The pictures of all rows: one of so many rows, and those after it."""
         count = len(self.timeline.rows)
         starts = [0, *range(first, count, ROWS_OF_PART)] if count else []
         for start, stop in zip(starts, [*starts[1:], count]):
@@ -130,7 +130,7 @@ class Drawing:
         return svg(self.width, height, inside, label, top) + self.numbers(part, height, top)
 
     def numbers(self, part: Part, height: float, top: float) -> str:
-        """The numbers of some lines once more, which stay where they are while the picture scrolls sideways."""
+        """Some lines' numbers once more, which stay in place while the picture scrolls sideways."""
         stripes = "".join(f'<rect y="{row * ROW}" width="100%" height="{ROW}" class="stripe"/>' for row in part.rows if row % 2)
         numbers = "".join(
             f'<text x="{self.number_right:.0f}" y="{row * ROW + 15}" class="soft end">{self.timeline.rows[row].line.number}</text>'
@@ -141,7 +141,7 @@ class Drawing:
         return f'<svg class="numbers" width="{width:.0f}" height="{height}" {view} aria-hidden="true">{stripes}{numbers}</svg>'
 
     def rows(self, part: Part) -> Iterator[str]:
-        """The texts of some rows, on every other one a stripe."""
+        """The texts of some rows, with a stripe on every other one."""
         for row in part.rows:
             top = row * ROW
             if row % 2:
@@ -162,7 +162,7 @@ class Drawing:
         yield f'<text x="{self.answer_left:.0f}" y="{base}" class="{kind}">{answer}{title(self.story(one))}</text>'
 
     def note(self, row: int, one: Answered) -> str:
-        """A comment. Where it is long the lanes below it are dimmed."""
+        """A comment. If it is long, the lanes below it are dimmed."""
         words = cut(shown(one.line.text), int((self.width - self.script_left) / SIGN))
         end = self.script_left + SIGN * columns_of(words) + 6
         kind = "veil odd" if row % 2 else "veil"
@@ -196,7 +196,8 @@ class Drawing:
         return box(left, band.start * ROW + 4, width, (band.end - band.start) * ROW - 2, kind, words)
 
     def bar(self, bar: Bar, part: Part) -> str:
-        """An application that a node holds over some rows. Its term stands at the head, and below it its name if there are many."""
+        """An application that a node holds over some rows. Its term is at the head, and below it its name if there are
+        many."""
         lane, held = self.lanes[bar.node], bar.held
         place = apps_at(self.timeline.configuration, bar.node).index(held.app)
         names = self.timeline.configuration.names
@@ -212,7 +213,7 @@ class Drawing:
         return shape + term + (self.bar_name(bar, middle, head + 17, kept + again, color) if len(names) > len(HUES) else "")
 
     def bar_name(self, bar: Bar, middle: float, top: float, kind: str, color: str) -> str:
-        """The name of an application along its bar, as much of it as there is room for."""
+        """The name of an application along its bar, as far as it fits."""
         most = int((bar.end * ROW - top) / SMALL_SIGN)
         name = shown(bare_name(bar.held.app))
         if most < min(len(name), 3):
@@ -233,7 +234,7 @@ class Drawing:
         return f'<g class="share">{words}{line}{dots}</g>'
 
     def arrows(self, message: Message, part: Part) -> Iterator[str]:
-        """The arrows of a message in some rows: one for each delivery, or a short one where it was lost."""
+        """The arrows of a message in some rows: one for each delivery, or a short one if it was lost."""
         if not message.heard and message.row in part:
             yield self.arrow(message, message.receiver, message.row, "lost", "never heard")
         was_heard = False
@@ -289,7 +290,7 @@ def answer_text(one: Answered) -> str:
 
 
 def color_of(number: int, count: int) -> str:
-    """The color of an application, as a style: one of a few, or of as many as there are applications."""
+    """The color of an application, as a style: one of a few, or as many as there are applications."""
     if count <= len(HUES):
         return f"--hue:{HUES[number]}"
     return f"--hue:{(HUES[0] + 360 * number // count) % 360};--shade:{SHADES[number % len(SHADES)]}%"
@@ -303,11 +304,11 @@ def box(left: float, top: float, width: float, height: float, kind: str, inside:
 
 
 def title(text: str) -> str:
-    """What hovering shows."""
+    """The text shown by hovering."""
     return f"<title>{chr(10).join(text_in(line) for line in text.split(chr(10)))}</title>"
 
 
 def svg(width: float, height: float, inside: str, label: str, top: float = 0) -> str:
-    """A picture, with the words that stand for it where it can't be seen, and the height at which it begins."""
+    """A picture with its top and its alternative text."""
     view = f'viewBox="0 {top:.0f} {width:.0f} {height:.0f}"'
     return f'<svg width="{width:.0f}" height="{height:.0f}" {view} role="img" aria-label="{text_in(label)}">{inside}</svg>'

@@ -1,4 +1,4 @@
-"""What a script did, as bands, bars and arrows over its lines."""
+"""The course of a script, as bands, bars and arrows over its lines."""
 
 from __future__ import annotations
 
@@ -17,7 +17,7 @@ SHIPPED = re.compile(r"shipped (?P<number>\d+) (?P<kind>whole|interval|nothing)"
 
 
 class State(Enum):
-    """How a node stands."""
+    """The state of a node."""
 
     OFF = "off"
     UP = "up"
@@ -27,7 +27,7 @@ class State(Enum):
 
 @dataclass
 class Band:
-    """A state of a node from a row on, up to the row before the end."""
+    """A state of a node between two rows, without the last."""
 
     node: str
     state: State
@@ -38,7 +38,7 @@ class Band:
 
 @dataclass
 class Bar:
-    """An application that a node holds, by what the node itself knows, from a row on, up to the row before the end."""
+    """An application that a node holds, according to itself, between two rows, without the last."""
 
     node: str
     held: Held
@@ -48,7 +48,7 @@ class Bar:
 
 @dataclass
 class Message:
-    """A message: who shipped it to whom, in which row, what it brings, and the rows in which it was heard or refused."""
+    """A message: its sender, receiver, row and contents, and the rows in which it was heard or refused."""
 
     number: int
     sender: str
@@ -69,7 +69,7 @@ class Share:
 
 @dataclass(frozen=True)
 class Claimed:
-    """A claim: its row and moment, who claims, and how."""
+    """A claim: its row, moment, claimant and kind."""
 
     row: int
     moment: int
@@ -90,7 +90,7 @@ class Hand:
 
 @dataclass
 class Timeline:
-    """All that is drawn of a script."""
+    """Everything drawn of a script."""
 
     configuration: Configuration
     rows: list[Answered] = field(default_factory=list)
@@ -103,7 +103,7 @@ class Timeline:
 
 
 class Drafting:
-    """A timeline that is made row after row."""
+    """A timeline built row by row."""
 
     def __init__(self, configuration: Configuration) -> None:
         self.timeline = Timeline(configuration)
@@ -127,7 +127,7 @@ class Drafting:
             self.add_event(seen.answered, row)
 
     def go_on(self, node: str, row: int) -> None:
-        """Goes on with a node's band and bars, or begins new ones."""
+        """Continues a node's band and bars, or begins new ones."""
         page = self.pages[node]
         state = self.state_of(node, page)
         band = self.open_bands.get(node)
@@ -139,7 +139,7 @@ class Drafting:
             self.go_on_holding(node, page, app, row)
 
     def state_of(self, node: str, page: Page) -> State:
-        """How a node stands, by its own page and by what any page said of it."""
+        """The state of a node, from its own page and from any page about it."""
         if page.inc is None:
             return State.OFF
         if not page.can_act(node):
@@ -147,7 +147,7 @@ class Drafting:
         return State.SAID_DOWN if (node, page.inc) in self.said_down else State.UP
 
     def go_on_holding(self, node: str, page: Page, app: str, row: int) -> None:
-        """Goes on with the bar of an application at a node, ends it, or begins one."""
+        """Continues the bar of an application at a node, ends it, or begins one."""
         held, bar = page.held.get(app), self.open_bars.get((node, app))
         holds = held is not None and page.inc is not None and (held.holder, held.inc) == (node, page.inc)
         if bar and holds and held and what_shows(bar.held) == what_shows(held):
@@ -201,7 +201,7 @@ class Drafting:
                 self.timeline.claims.append(Claimed(row, moment, one.actor, claim["app"], int(claim["term"]), claim["how"]))
 
     def finished(self) -> Timeline:
-        """The whole timeline: what is still open ends behind the last row."""
+        """The whole timeline: everything still open ends after the last row."""
         for band in self.open_bands.values():
             self.close(band, len(self.timeline.rows))
         for bar in self.open_bars.values():
@@ -210,5 +210,5 @@ class Drafting:
 
 
 def what_shows(held: Held) -> tuple[int, str, bool]:
-    """What a bar shows of a holder: a change of it begins another bar."""
+    """The part of a holder that a bar shows: a change of it begins another bar."""
     return held.term, held.how, held.verdict == "kept"

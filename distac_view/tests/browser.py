@@ -1,4 +1,4 @@
-"""Chromium without a window, asked through its pipe for developers: what it measures of a page, pictures, and paper."""
+"""Chromium without a window, controlled by its developer pipe: measurements of a page, pictures, and prints."""
 
 from __future__ import annotations
 
@@ -16,7 +16,7 @@ from typing import Any, Dict, List, Optional
 NAMES = ("chromium", "chromium-browser", "google-chrome")
 MOST_SECONDS = 60
 WORDS = ("--headless", "--no-sandbox", "--disable-gpu", "--disable-dev-shm-usage", "--no-first-run", "--disable-extensions")
-# The browser reads what it is asked from its file 3, and answers to its file 4.
+# The browser reads commands from its file 3, and answers to its file 4.
 SHELL = 'in="$1" out="$2"; shift 2; eval "exec \\"\\$@\\" 3<&$in 4>&$out"'
 
 Fields = Dict[str, Any]
@@ -67,7 +67,7 @@ class Browser:
         self.room.cleanup()
 
     def ask(self, method: str, **parameters: Any) -> Fields:
-        """Asks for something, and waits for its answer."""
+        """Sends a command, and waits for its answer."""
         self.asked += 1
         question: Fields = {"id": self.asked, "method": method, "params": parameters}
         if self.session:
@@ -80,7 +80,7 @@ class Browser:
                 return dict(told["result"])
 
     def next_told(self) -> Fields:
-        """The next thing that the browser tells. An event is kept."""
+        """The browser's next message. An event is kept."""
         end = time.monotonic() + MOST_SECONDS
         while b"\0" not in self.rest:
             ready, _, _ = select.select([self.source], [], [], max(0.0, end - time.monotonic()))
@@ -106,7 +106,7 @@ class Browser:
             self.next_told()
 
     def told(self, method: str) -> List[Fields]:
-        """What the browser told of some kind of event since the page was opened."""
+        """The events of a kind since the page was opened."""
         return [event["params"] for event in self.events if event["method"] == method]
 
     def value(self, expression: str) -> Any:
@@ -116,7 +116,7 @@ class Browser:
         return found["result"].get("value")
 
     def names_of(self, role: str) -> List[str]:
-        """The names of all that a screen reader finds of a role."""
+        """The names of all elements of a role for a screen reader."""
         nodes = [node for node in self.ask("Accessibility.getFullAXTree")["nodes"] if not node["ignored"]]
         return [str(node.get("name", {}).get("value", "")) for node in nodes if node.get("role", {}).get("value") == role]
 
@@ -125,6 +125,6 @@ class Browser:
         return base64.b64decode(self.ask("Page.captureScreenshot")["data"])
 
     def paper(self) -> bytes:
-        """The printed page, as somebody prints it who has dark colors on the screen."""
+        """The printed page of a user with dark colors on the screen."""
         self.ask("Emulation.setEmulatedMedia", media="print", features=[{"name": "prefers-color-scheme", "value": "dark"}])
         return base64.b64decode(self.ask("Page.printToPDF", preferCSSPageSize=True, printBackground=False)["data"])

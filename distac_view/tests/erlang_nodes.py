@@ -1,6 +1,6 @@
-"""Real nodes of Erlang/OTP on the loopback interface, with a name server (epmd) of their own.
+"""Real nodes of Erlang/OTP on the loopback interface, with their own name server (epmd).
 
-Everything that is started here is ended here, by its process: also where a test fails or is interrupted. Nodes end by themselves
+Everything started here is ended here, by its process, even if a test fails or is interrupted. Nodes end by themselves
 once their standard input is closed.
 """
 
@@ -34,20 +34,20 @@ def release_of_otp() -> str:
 
 
 def free_port() -> int:
-    """A port of the loopback interface that nobody listens at."""
+    """A free port of the loopback interface."""
     with socket.socket() as trial:
         trial.bind((HOST, 0))
         return int(trial.getsockname()[1])
 
 
 def surroundings(port: int) -> dict[str, str]:
-    """What nodes find in their environment: the name server's port and address."""
+    """The environment of nodes: the name server's port and address."""
     kept = {name: value for name, value in os.environ.items() if not name.startswith("ERL_")}
     return {**kept, "ERL_EPMD_PORT": str(port), "ERL_EPMD_ADDRESS": HOST, "ERL_CRASH_DUMP_SECONDS": "0"}
 
 
 class Node:
-    """A node: its process, and what it tells line by line."""
+    """A node: its process, and its messages line by line."""
 
     def __init__(self, name: str, words: list[str], environment: dict[str, str], folder: Path) -> None:
         self.name = name
@@ -67,7 +67,7 @@ class Node:
         self.thread.start()
 
     def listen(self) -> None:
-        """Takes what the node prints: answers begin with a word of their own."""
+        """Reads the node's output: answers begin with a word of their own."""
         for line in self.process.stdout or ():
             if line.startswith("stage "):
                 self.told.put(line[len("stage ") :].rstrip("\n"))
@@ -84,7 +84,7 @@ class Node:
             pass
 
     def answer(self, word: str, seconds: float) -> list[str] | None:
-        """The words behind an answer's first one, or nothing where none comes in time."""
+        """The words after an answer's first one, or nothing if none comes in time."""
         end = time.monotonic() + seconds
         while True:
             try:
@@ -97,12 +97,12 @@ class Node:
                 return None
 
     def ask(self, text: str, seconds: float = 5.0) -> list[str] | None:
-        """The answer to an order that has the order's first word."""
+        """The answer to a command, with the command's first word."""
         self.order(text)
         return self.answer(text.split(" ")[0], seconds)
 
     def kill(self) -> None:
-        """The node goes down without a word."""
+        """The node goes down silently."""
         self.process.kill()
         self.process.wait()
         self.thread.join(5)
@@ -119,7 +119,7 @@ class Node:
 
 
 class Cluster:
-    """A name server, and nodes with their files in a folder. It is to be used in a `with`."""
+    """A name server, and nodes with their files in a folder, for use in a `with`."""
 
     def __init__(self, folder: Path, apps: dict[str, int]) -> None:
         self.folder = folder
@@ -146,7 +146,7 @@ class Cluster:
         self.name_server.wait()
 
     def wait_for_name_server(self) -> None:
-        """Until it takes connections."""
+        """Waits until it accepts connections."""
         for _ in range(100):
             try:
                 socket.create_connection((HOST, self.port), 1).close()
@@ -167,7 +167,7 @@ class Cluster:
         return [node for node in self.nodes.values() if node.is_up]
 
     def where(self, apps: list[str]) -> dict[str, list[str]]:
-        """At which nodes each application runs."""
+        """The nodes at which each application runs."""
         found: dict[str, list[str]] = {app: [] for app in apps}
         asked = self.up()
         for node in asked:

@@ -1,4 +1,4 @@
-"""Configuration files that nobody means: cut, nested, of odd bytes and of huge numbers."""
+"""Configuration files that nobody means: truncated, nested, with odd bytes and huge numbers."""
 
 from __future__ import annotations
 

@@ -1,9 +1,10 @@
 #!/usr/bin/env python3
-"""The JSON Schema of all answers, as the tables of docs/FORMATS.md say it, and a validator of what it uses.
+"""The JSON Schema of all answers, from the tables of docs/FORMATS.md, and a validator for its keywords.
 
-    python3 view/tests/json_schema.py --write     writes docs/distac-view.schema.json anew
+python3 distac_view/tests/json_schema.py --write     rewrites docs/distac-view.schema.json
 
-The schema lets further fields and ids pass, as later programs may add them. The tests let none pass that isn't described.
+The schema accepts further fields and ids, because later programs may add them. The tests accept none that isn't
+described.
 """
 
 from __future__ import annotations
@@ -36,7 +37,7 @@ def section() -> str:
 def described() -> Rule:
     """The schema of the documented tables: each object has fields, and each field a value of a kind.
 
-    A row may name several objects, and a row that names none is of those above it.
+    A row can name several objects; one that names none belongs to those above it.
     """
     text = section()
     objects: List[str] = []
@@ -59,7 +60,7 @@ def object_rule(fields: "Dict[str, tuple[str, str]]", objects: "set[str]") -> Ru
 
 
 def rule_of(kind: str, objects: "set[str]") -> Rule:
-    """The schema of a value of a kind: a list, an object, or one of some choices, parted by commas and by `or`."""
+    """The schema of a value of a kind: a list, an object, or one of some choices, separated by commas and by `or`."""
     if kind.startswith("list of "):
         return {"type": "array", "items": rule_of(kind[len("list of ") :], objects)}
     if kind in objects:
@@ -72,13 +73,13 @@ def rule_of(kind: str, objects: "set[str]") -> Rule:
 
 
 class Schema:
-    """A schema, against which answers are held."""
+    """A schema for answers."""
 
     def __init__(self, schema: Rule) -> None:
         self.schema = schema
 
     def faults_of(self, answer: str) -> List[str]:
-        """What is wrong with a whole answer: nothing, or a sentence for each fault."""
+        """The faults of a whole answer, as sentences."""
         value = json.loads(answer)
         question = value.get("question") if isinstance(value, dict) else None
         if {"$ref": f"#/$defs/{question}"} not in self.schema["anyOf"]:
@@ -105,7 +106,7 @@ class Schema:
             yield from self.faults_in_fields(value, rule, place)
 
     def faults_in_fields(self, value: Rule, rule: Rule, place: str) -> Iterator[str]:
-        """The faults of an object: its fields are those that are described, no more and no less."""
+        """The faults of an object, whose fields must be exactly the described ones."""
         if set(value) != set(rule["required"]):
             yield f"{place}: {value!r} hasn't the fields {sorted(rule['required'])}"
             return
@@ -114,7 +115,7 @@ class Schema:
 
 
 def documented() -> Schema:
-    """The schema that stands beside docs/FORMATS.md."""
+    """The schema stored next to docs/FORMATS.md."""
     return Schema(json.loads(SCHEMA.read_text(encoding="utf-8")))
 
 

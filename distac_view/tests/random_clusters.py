@@ -1,4 +1,4 @@
-"""Random clusters: one configuration, and the files of all its nodes that say the same in other words."""
+"""Random clusters: one configuration, and equivalent files of all its nodes in other spellings."""
 
 from __future__ import annotations
 
@@ -13,7 +13,8 @@ NAMES = ("n1@h", "n2@h", "'n-3@10.0.0.3'", "'N4@h'")
 
 @dataclass
 class RandomCluster:
-    """A configuration for all nodes: each application's time and groups, what is forbidden, and whom a starting node waits for."""
+    """A configuration for all nodes: each application's time and groups, forbidden nodes, and the nodes that a starting
+    node waits for."""
 
     random: Random
     nodes: list[str]
@@ -32,7 +33,8 @@ class RandomCluster:
         return "[{kernel,[%s]}]." % ",".join(parts)
 
     def files_of(self, node: str, folder: Path) -> "list[Path]":
-        """The files of a node: its parameters in other spellings, with what other applications have, over one file or several."""
+        """The files of a node: its parameters in other spellings, among those of other applications, in one file or
+        several."""
         parameters = self.parameters_of(node)
         self.random.shuffle(parameters)
         parts = [parameters]
@@ -43,7 +45,7 @@ class RandomCluster:
         return [self.file_of(node, number, part, folder) for number, part in enumerate(parts)]
 
     def file_of(self, node: str, number: int, parameters: "list[str]", folder: Path) -> Path:
-        """A file with some parameters, among what another application has."""
+        """A file with some parameters, among those of another application."""
         path = folder / "{}-{}.config".format(node.strip("'"), number)
         sections = ["{noise,[{p,%s}]}" % random_term(self.random, 3), "{kernel,[%s]}" % ",\n   ".join(parameters)]
         self.random.shuffle(sections)
@@ -93,11 +95,11 @@ def entry(name: str, time: str, groups: list[list[str]]) -> str:
 
 
 def turned(random: Random, groups: list[list[str]]) -> list[list[str]]:
-    """The same groups, with the nodes of each in another order."""
+    """Equal groups, each with its nodes in another order."""
     return [random.sample(group, len(group)) for group in groups]
 
 
 def spelled(random: Random, number: int) -> str:
-    """A number as Erlang may have it."""
+    """A number in one of Erlang's spellings."""
     ways = (str(number), f"16#{number:x}", f"+{number}", f"2#{number:b}", f"({number})", f"{number:_}")
     return random.choice(ways) if number else "0"

@@ -1,4 +1,4 @@
-"""Random texts of Erlang's term syntax, as configuration files may hold them."""
+"""Random texts of Erlang's term syntax, as in configuration files."""
 
 from __future__ import annotations
 
@@ -15,7 +15,7 @@ BLANKS = ("", "", " ", "\n", "\t", " % a comment with ] and \" and '\n", "\u00a0
 
 
 def random_term(random: Random, depth: int) -> str:
-    """A term as it may be written."""
+    """A term in a random spelling."""
     kind = random.randrange(12 if depth else 7)
     if kind < 7:
         return random.choice((NAMES, NUMBERS, STRINGS, BINARIES, FUNS, NAMES, NUMBERS)[kind])
@@ -31,7 +31,7 @@ def random_term(random: Random, depth: int) -> str:
 
 
 def spaced(random: Random, items: list[str]) -> str:
-    """Items with commas and blanks between them."""
+    """Items separated by commas and blanks."""
     return ",".join(f"{blank(random)}{item}{blank(random)}" for item in items)
 
 
@@ -41,7 +41,7 @@ def blank(random: Random) -> str:
 
 
 def random_file(random: Random) -> str:
-    """A configuration file that Erlang reads, with its placement among other things."""
+    """A configuration file that Erlang reads, with its placement among other parameters."""
     pairs = ["{p%d,%s}" % (number, random_term(random, 4)) for number in range(random.randrange(5))]
     pairs.insert(random.randrange(len(pairs) + 1), "{distributed,[{app,%s,[a@h,{b@h,c@h}]}]}" % random.choice(("5_000", "16#1388", "5000", "+5000")))
     sections = ["{kernel,[%s]}" % spaced(random, pairs), "{other,[{q,%s}]}" % random_term(random, 5)]
@@ -50,7 +50,7 @@ def random_file(random: Random) -> str:
 
 
 def changed(random: Random, text: str) -> str:
-    """A text with a few changes, which Erlang may read or not."""
+    """A text with a few changes, possibly unreadable for Erlang."""
     signs = list(text)
     for _ in range(random.randint(1, 3)):
         place = random.randrange(len(signs))

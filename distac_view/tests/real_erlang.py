@@ -1,11 +1,11 @@
 #!/usr/bin/env python3
 """Compares `gather`, `what-if`, `rolling` and warnings with three real nodes of Erlang/OTP on the loopback interface.
 
-    python3 view/tests/real_erlang.py [--only NAME ..] [--runs N] [--seconds N]
+python3 distac_view/tests/real_erlang.py [--only NAME ..] [--runs N] [--seconds N]
 
-It wants `erl`, `erlc` and `epmd` in PATH, as Debian's package erlang-base brings them, and asks the program that the environment
-variable DISTAC names, or the models where it names none. It is no part of the tests: it takes minutes, and its answers hang on the
-release of OTP. Each case has nodes of its own, which are started, killed and started again.
+It requires `erl`, `erlc` and `epmd` in PATH, as in Debian's package erlang-base, and runs the program that the
+environment variable DISTAC names, or else the models. It isn't part of the tests, because it takes minutes and depends
+on the release of OTP. Each case has its own nodes, which are started, killed and started again.
 """
 
 from __future__ import annotations
@@ -34,13 +34,14 @@ NODES = tuple(f"{name}@{HOST}" for name in ("cp1", "cp2", "cp3"))
 SINGLE = tuple((node,) for node in NODES)
 LATE_SECONDS = 4.0
 NEVER = 3_600_000
-# How long a node takes until it starts its applications, on a busy machine.
+# The time until a node starts its applications, on a busy machine.
 BOOT_SECONDS = 1.5
 
 
 @dataclass(frozen=True)
 class Scenario:
-    """Applications with their times and lists, how long their starts take, where they are forbidden, and which nodes go down."""
+    """Applications with their times and lists, the duration of their starts, where they are forbidden, and the nodes
+    that go down."""
 
     name: str
     apps: tuple[tuple[str, str, str], ...]
@@ -102,13 +103,13 @@ NODE_FILE = """\
 """
 
 
-# what `what-if --json` says of an application
+# the fields of an application in `what-if --json`
 Fate = Dict[str, Any]
 
 
 @dataclass
 class Score:
-    """What was counted, and what is told of it."""
+    """The counts, and the lines printed."""
 
     counts: Counter[str] = field(default_factory=Counter)
     differing: list[str] = field(default_factory=list)
@@ -122,7 +123,7 @@ class Score:
 
 @dataclass(frozen=True)
 class Case:
-    """A scenario in which some nodes go down, with its files in a folder, and what `what-if` answers."""
+    """A scenario in which some nodes go down, with its files in a folder, and the answer of `what-if`."""
 
     scenario: Scenario
     down: tuple[str, ...]
@@ -132,7 +133,7 @@ class Case:
 
 
 def write_files(scenario: Scenario, folder: Path) -> list[str]:
-    """A configuration file for each node, each with the other nodes in its sync list. The words of `gather`."""
+    """A configuration file for each node, each with the other nodes in its sync list. Returns the words of `gather`."""
     permissions = ",".join("{%s,false}" % app for app in scenario.forbidden)
     words = []
     for node in NODES:
@@ -157,7 +158,7 @@ def prepared(scenario: Scenario, down: tuple[str, ...], folder: Path, now: dict[
 
 
 def fates_by_what_if(config: Path, down: tuple[str, ...], now: dict[str, str]) -> list[Fate]:
-    """What `what-if` says of each application, in the order of the file. Where they run now is told to it if it takes that."""
+    """The answer of `what-if` for each application, in file order, from the present places if it accepts them."""
     words = ["what-if", str(config), "--json", "--down", *down]
     if now and "--now" in run_view("what-if", "--help").output:
         words += ["--now", *(f"{app}={node}" for app, node in now.items())]
@@ -174,18 +175,19 @@ def bare(name: str | None) -> str | None:
 
 
 def expected(fates: list[Fate], moment: str) -> dict[str, str | None]:
-    """Where each application is to be. One whose time is weeks isn't waited for."""
+    """The place of each application. One whose time is weeks isn't waited for."""
     is_never = {fate["application"]: moment == "then" and (fate["milliseconds"] or 0) >= NEVER for fate in fates}
     return {fate["application"]: None if is_never[fate["application"]] else bare(fate[moment]) for fate in fates}
 
 
 def seen(cluster: Cluster, names: list[str]) -> dict[str, str | None]:
-    """Where each application runs: nowhere, at a node, or at several."""
+    """The places of each application: none, one or several."""
     return {app: " and ".join(nodes) or None for app, nodes in cluster.where(names).items()}
 
 
 def wait_for(cluster: Cluster, wanted: dict[str, str | None], seconds: float) -> tuple[dict[str, str | None], dict[str, float]]:
-    """What is seen once it is as wanted for half a second, or when time is up, and at which moment each application first ran."""
+    """The places once they are as expected for half a second, or at the time limit, and the moment at which each
+    application first ran."""
     start = time.monotonic()
     since: float | None = None
     when: dict[str, float] = {}
@@ -201,7 +203,7 @@ def wait_for(cluster: Cluster, wanted: dict[str, str | None], seconds: float) ->
 
 
 def boot(cluster: Cluster, nodes: tuple[str, ...], names: list[str]) -> None:
-    """Nodes come up, and start all applications one after another, as a release does."""
+    """Nodes come up, and start all applications in turn, as a release does."""
     for node in nodes:
         cluster.boot(node, node).order("start " + " ".join(names))
     for node in nodes:
@@ -209,7 +211,7 @@ def boot(cluster: Cluster, nodes: tuple[str, ...], names: list[str]) -> None:
 
 
 def run_case(scenario: Scenario, down: tuple[str, ...], score: Score) -> None:
-    """One case with nodes of its own."""
+    """One case with its own nodes."""
     apps = {app: scenario.start_takes for app in scenario.names}
     with tempfile.TemporaryDirectory(prefix="distac-nodes-") as room, Cluster(Path(room), apps) as cluster:
         case = prepared(scenario, down, Path(room), {})
@@ -229,7 +231,7 @@ def run_case(scenario: Scenario, down: tuple[str, ...], score: Score) -> None:
 
 
 def tell_case(case: Case, observed: dict[str, dict[str, str | None]], outages: dict[str, float], score: Score) -> None:
-    """Counts what agrees, and prints a line."""
+    """Counts agreement, and prints a line."""
     head = f"{case.scenario.name}, without {' and '.join(node.split('@')[0] for node in case.down)}"
     kinds: Counter[str] = Counter()
     for app, moment in ((app, moment) for app in case.scenario.names for moment in observed):
@@ -244,12 +246,12 @@ def tell_case(case: Case, observed: dict[str, dict[str, str | None]], outages: d
 
 
 def is_moved(fate: Fate, outages: dict[str, float]) -> bool:
-    """Whether an application was expected to move, and came back."""
+    """Whether an application was expected to move and return."""
     return fate["milliseconds"] is not None and fate["application"] in outages
 
 
 def kind_of(case: Case, observed: dict[str, dict[str, str | None]], wanted: str | None, found: str | None, moment: str) -> str:
-    """What one observation is: it agrees, or the controllers hang and that was said, or applications were started elsewhere."""
+    """The kind of one observation: agreement, controllers that hang as predicted, or applications started elsewhere."""
     if wanted == found:
         return "agree"
     is_lost = any(place and not observed["then"][app] for app, place in expected(case.fates, "then").items())
@@ -274,12 +276,13 @@ ROLLED = (
     (SHARED.name, (2, 1, 0), 2_000),
     (HALF.name, (1, 0, 2), 4_000),
 )
-# what `rolling --json` says of a step, or of a move
+# the fields of a step, or of a move, in `rolling --json`
 Said = Dict[str, Any]
 
 
 def compare_rolling(score: Score) -> None:
-    """Nodes restart one after another, and each application is where each step of `rolling` has it. Skipped if there is no `rolling`."""
+    """Nodes restart in turn, and each application is at its place in each step of `rolling`. Skipped without
+    `rolling`."""
     if "rolling" not in run_view("--help").output:
         print("rolling isn't among the subcommands: it isn't compared")
         return
@@ -289,7 +292,7 @@ def compare_rolling(score: Score) -> None:
 
 
 def roll(scenario: Scenario, order: list[str], takes: int | None, score: Score) -> None:
-    """One rolling restart with nodes of its own. Each node is back after some milliseconds, or once all waits are over."""
+    """One rolling restart with its own nodes. Each node is back after its time, or once all waits are over."""
     head = f"{scenario.name}, rolling {' > '.join(node.split('@')[0] for node in order)}"
     with tempfile.TemporaryDirectory(prefix="distac-nodes-") as room, Cluster(Path(room), dict.fromkeys(scenario.names, 0)) as cluster:
         config = prepared(scenario, NODES[:1], Path(room), {}).folder / "cluster.config"
@@ -314,18 +317,18 @@ def roll(scenario: Scenario, order: list[str], takes: int | None, score: Score) 
 
 
 def moved(places: dict[str, str | None], moves: list[Said]) -> dict[str, str | None]:
-    """Where applications are after some moves."""
+    """The places of applications after some moves."""
     return {**places, **{move["application"]: move["to"] for move in moves}}
 
 
 def tell_step(head: str, found: dict[str, str | None], places: dict[str, str | None], score: Score) -> None:
-    """Counts where applications are in a step."""
+    """Counts agreement on the places in a step."""
     for app, place in places.items():
         score.add("agree" if found[app] == place else "differ", "" if found[app] == place else f"{head}: {app} {place}, and OTP has {found[app]}")
 
 
 def compare_answers(score: Score) -> None:
-    """The remote shell's answers of running nodes say the same to `gather` as their files do."""
+    """The remote shell's answers of running nodes are equivalent to their files for `gather`."""
     scenario = SCENARIOS[0]
     with tempfile.TemporaryDirectory(prefix="distac-nodes-") as room, Cluster(Path(room), {}) as cluster:
         files = write_files(scenario, Path(room))
@@ -354,7 +357,7 @@ BOOTS = (
 
 
 def compare_boots(score: Score) -> None:
-    """A node boots with a file if `gather --strict` has nothing against it but infinity, and else it doesn't."""
+    """A node boots with a file exactly if `gather --strict` has no objection to it other than infinity."""
     listed = ",".join(f"'{node}'" for node in NODES)
     for what, text, boots in BOOTS:
         with tempfile.TemporaryDirectory(prefix="distac-nodes-") as room, Cluster(Path(room), {}) as cluster:
@@ -379,7 +382,8 @@ MIXED_FILE = "[{kernel,[{distributed,[%s]},{sync_nodes_optional,[cp1,cp2]},{sync
 
 
 def compare_mixed(score: Score) -> None:
-    """Of two nodes with two files one ends if `what-if --then` says that lists differ, and what is added runs twice if it says so."""
+    """Of two nodes with different files one ends if `what-if --then` reports different lists, and added applications
+    run twice if it reports that."""
     for what, *entries in MIXED:
         with tempfile.TemporaryDirectory(prefix="distac-nodes-") as room, Cluster(Path(room), {"a1": 0, "a2": 0}) as cluster:
             paths = [Path(room) / f"{node}.config" for node in NODES[:2]]
@@ -401,7 +405,7 @@ def compare_mixed(score: Score) -> None:
 
 
 def words_of(arguments: list[str]) -> argparse.Namespace:
-    """The words of the command line."""
+    """The command line's arguments."""
     parser = argparse.ArgumentParser(description=(__doc__ or "").split("\n")[0])
     parser.add_argument("--only", metavar="NAME", nargs="+", default=[], help="the scenarios whose name begins so")
     parser.add_argument("--runs", metavar="N", type=int, default=1, help="how often each case is run, once if absent")

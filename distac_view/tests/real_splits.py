@@ -1,12 +1,12 @@
 #!/usr/bin/env python3
 """Compares `what-if --split` with four real nodes of Erlang/OTP on the loopback interface.
 
-    python3 view/tests/real_splits.py [--only NAME ..]
+python3 distac_view/tests/real_splits.py [--only NAME ..]
 
-It wants `erl`, `erlc` and `epmd` in PATH, and asks the program that the environment variable DISTAC names, or the models. It is no part
-of the tests. Nodes are cut off from each other by other cookies and erlang:disconnect_node/1, with the parameter
-prevent_overlapping_partitions false and true. Then the cookies are as before, and the nodes connect again. In the end the nodes of all
-sides but the first are restarted.
+It requires `erl`, `erlc` and `epmd` in PATH, and runs the program that the environment variable DISTAC names, or else
+the models. It isn't part of the tests. Nodes are separated by different cookies and erlang:disconnect_node/1, with the
+parameter prevent_overlapping_partitions false and true. Then the cookies are restored, and the nodes connect again. At
+the end the nodes of all sides but the first are restarted.
 """
 
 from __future__ import annotations
@@ -43,7 +43,7 @@ Places = Dict[str, List[str]]
 
 @dataclass(frozen=True)
 class Scenario:
-    """Applications with their times and lists, and the splits that are tried, each a word for each side."""
+    """Applications with their times and lists, and the splits to try, each a word per side."""
 
     name: str
     apps: "tuple[tuple[str, int, str], ...]"
@@ -65,7 +65,8 @@ def whole(nodes: str) -> str:
 
 @dataclass(frozen=True)
 class Way:
-    """How nodes are cut off: whether OTP prevents partitions that overlap, and whether all connections break at once."""
+    """How nodes are separated: whether OTP prevents overlapping partitions, and whether all connections break at
+    once."""
 
     name: str
     prevents: bool
@@ -83,7 +84,7 @@ SCENARIOS = (
 
 
 def expected_of(config: Path, sides: "tuple[str, ...]", now: Places) -> Any:
-    """The answer of `what-if --split`, from where the applications run now."""
+    """The answer of `what-if --split`, from the applications' present places."""
     words = [f"{app}={nodes[0]}" for app, nodes in now.items() if nodes]
     said = run_view("what-if", str(config), "--json", "--split", *" / ".join(sides).split(" "), "--now", *words)
     if said.status:
@@ -92,7 +93,7 @@ def expected_of(config: Path, sides: "tuple[str, ...]", now: Places) -> Any:
 
 
 def cut(cluster: Cluster, sides: "tuple[str, ...]", is_cut: bool, at_once: bool) -> None:
-    """Sides don't hear each other any more, or hear each other again: all connections at once, or one after another."""
+    """Separates or reconnects sides: all connections at once, or one after another."""
     others = {f"{name}@{HOST}": others_of(sides, side) for side in sides for name in side.split()}
     for node, away in others.items():
         cookie = f"'cut off at {node}'" if is_cut else f"'{cluster.cookie}'"
@@ -108,12 +109,12 @@ def cut(cluster: Cluster, sides: "tuple[str, ...]", is_cut: bool, at_once: bool)
 
 
 def others_of(sides: "tuple[str, ...]", side: str) -> str:
-    """The nodes of the other sides, as a list of Erlang."""
+    """The nodes of the other sides, as an Erlang list."""
     return "[%s]" % ",".join(f"'{name}@{HOST}'" for other in sides if other != side for name in other.split())
 
 
 def answered(cluster: Cluster, nodes: "list[str]") -> None:
-    """Nodes have done what they were told."""
+    """Nodes have done as they were told."""
     for node in nodes:
         cluster.nodes[node].answer("evaluated", 20.0)
 
@@ -128,7 +129,7 @@ def boot(cluster: Cluster, nodes: "list[str]", names: "list[str]") -> None:
 
 
 def run_split(scenario: Scenario, sides: "tuple[str, ...]", way: Way, counts: "Counter[str]") -> None:
-    """One split with nodes of its own."""
+    """One split with its own nodes."""
     names, longest = [app for app, _, _ in scenario.apps], max(milliseconds for _, milliseconds, _ in scenario.apps)
     with tempfile.TemporaryDirectory(prefix="distac-nodes-") as room, Cluster(Path(room), dict.fromkeys(names, 0)) as cluster:
         config = Path(room) / "cluster.config"
@@ -156,7 +157,7 @@ def run_split(scenario: Scenario, sides: "tuple[str, ...]", way: Way, counts: "C
 
 
 def hearing(cluster: Cluster) -> "dict[str, list[str]]":
-    """Which nodes each node hears, itself among them."""
+    """The nodes that each node hears, including itself."""
     found = {}
     for name, node in zip(SHORT, NODES):
         nodes = cluster.nodes[node].ask("nodes") or []
@@ -165,14 +166,15 @@ def hearing(cluster: Cluster) -> "dict[str, list[str]]":
 
 
 def sides_formed(heard: "dict[str, list[str]]") -> "tuple[str, ...]":
-    """The sides of a split as nodes hear each other. Each node of a side has to hear all others of it."""
+    """The sides of a split, as nodes hear each other. Each node of a side must hear all others of it."""
     if any(heard[other] != nodes for nodes in heard.values() for other in nodes):
         raise SystemExit(f"nodes hear each other in part: {heard}")
     return tuple(dict.fromkeys(" ".join(nodes) for nodes in heard.values()))
 
 
 def tell(way: Way, answer: Any, seen: "dict[str, Places]", counts: "Counter[str]") -> None:
-    """Counts what agrees, and prints a line for what doesn't. After the restart one copy is expected if one was left."""
+    """Counts agreement, and prints a line for each difference. After the restart one copy is expected if one was
+    left."""
     for each in answer["healed"]:
         app, left = each["application"], seen["healed"][each["application"]]
         wanted = {"during": sorted(each["copies"]), "healed": sorted(each["copies"]), "back": [each["back"]] if each["back"] else []}
@@ -189,7 +191,7 @@ def short(nodes: "list[str]") -> str:
 
 
 def main() -> int:
-    """Tries all splits, and counts what agrees."""
+    """Tries all splits, and counts agreement."""
     parser = argparse.ArgumentParser(description="Compares what-if --split with real nodes.")
     parser.add_argument("--only", nargs="*", default=[], help="the scenarios that are tried")
     words = parser.parse_args()

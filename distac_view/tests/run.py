@@ -1,8 +1,8 @@
 #!/usr/bin/env python3
 """Runs all tests of `distac-view`. The last line is `N passed, M failed`.
 
-They ask the program that the environment variable DISTAC names, or the models where it names none. SIGTERM and SIGHUP end them as
-Ctrl-C does, so that their temporary folders are removed.
+They run the program that the environment variable DISTAC names, or else the models. SIGTERM and SIGHUP end them like
+Ctrl-C, so that their temporary folders are removed.
 """
 
 import signal

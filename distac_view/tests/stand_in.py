@@ -1,5 +1,5 @@
 #!/usr/bin/env python3
-"""A stand-in for `distac`, made of the models: what the tests ask where the environment names no program."""
+"""A stand-in for `distac`, made of the models, for tests if the environment names no program."""
 
 import sys
 from pathlib import Path
@@ -16,7 +16,7 @@ MODELS: Dict[str, Callable[[bytes], Tuple[bytes, int]]] = {"check": check.check,
 
 
 def main() -> int:
-    """Answers one question."""
+    """Answers one call."""
     output, status = MODELS[sys.argv[1]](sys.stdin.buffer.read())
     sys.stdout.buffer.write(output)
     return status

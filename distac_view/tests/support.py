@@ -1,4 +1,4 @@
-"""What the tests share: the repository, `distac`, and `distac-view` run in this process or in one of its own."""
+"""Shared parts of the tests: the repository, `distac`, and `distac-view` run in this process or in its own."""
 
 from __future__ import annotations
 
@@ -25,7 +25,7 @@ from distac_view.cli import command_line
 
 @dataclass(frozen=True)
 class Said:
-    """What `distac-view` did: its exit status, and what it printed."""
+    """The result of `distac-view`: its exit status and output."""
 
     status: int
     output: str
@@ -42,7 +42,7 @@ def distac() -> Distac:
 
 
 def view(*words: str, program: str | None = None) -> Said:
-    """Runs `distac-view` in this process, and has it ask a program, or what the tests ask. A file has to be named."""
+    """Runs `distac-view` in this process with a program, by default that of the tests. A file must be named."""
     output, errors = io.TextIOWrapper(io.BytesIO()), io.TextIOWrapper(io.BytesIO())
     with mock.patch.object(sys, "stdout", output), mock.patch.object(sys, "stderr", errors):
         with mock.patch.object(command_line, "found_distac", lambda _: found_distac(program) if program else distac()):
@@ -51,7 +51,7 @@ def view(*words: str, program: str | None = None) -> Said:
 
 
 def status_of(words: list[str]) -> int:
-    """The exit status of `distac-view`, also where its command line ends it."""
+    """The exit status of `distac-view`, even if its command line ends it."""
     try:
         return int(command_line.run(words))
     except SystemExit as end:
@@ -59,7 +59,7 @@ def status_of(words: list[str]) -> int:
 
 
 def written(stream: io.TextIOWrapper) -> str:
-    """What was written to a stream in memory."""
+    """The text written to a stream in memory."""
     stream.flush()
     kept = stream.buffer
     assert isinstance(kept, io.BytesIO)
@@ -67,7 +67,7 @@ def written(stream: io.TextIOWrapper) -> str:
 
 
 def run_view(*words: str, source: bytes = b"", program: str = PROGRAM) -> Said:
-    """Runs `distac-view` in a process of its own."""
+    """Runs `distac-view` in its own process."""
     surroundings = {**os.environ, "DISTAC": program}
     done = subprocess.run([sys.executable, str(TOP / "distac-view"), *words], input=source, capture_output=True, env=surroundings)
     decoded = (stream.decode("utf-8", "surrogateescape") for stream in (done.stdout, done.stderr))

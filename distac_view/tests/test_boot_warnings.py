@@ -36,7 +36,7 @@ FINE = (
 
 
 class BootWarnings(unittest.TestCase):
-    """What OTP has against a file that `distac` takes."""
+    """OTP's objections to a file that `distac` accepts."""
 
     def setUp(self) -> None:
         self.room = tempfile.TemporaryDirectory()
@@ -68,7 +68,7 @@ class BootWarnings(unittest.TestCase):
             self.assertEqual(self.errors_on(WARNED[2][0], name), "")
 
     def test_parameters_of_other_applications(self) -> None:
-        """The caret stands under kernel's parameter, and not under one of the same name before it."""
+        """The caret is under kernel's parameter, and not under an earlier one of the same name."""
         rows = (
             ("{app,[{sync_nodes_timeout,7}]}," + PLACED % (SYNC % (ALL, "0")), "ZeroSyncTime", "{sync_nodes_timeout,0"),
             ("{app,[{sync_nodes_optional,[x@h]}]}," + PLACED % (SYNC % ("y@h,z@h", "5")), "OwnFile", "{sync_nodes_optional,[y@h"),
@@ -90,7 +90,7 @@ class BootWarnings(unittest.TestCase):
         self.assertIn("a1, b1 and c1 have the same time", errors)
 
     def test_names_without_quotes(self) -> None:
-        """A name has quotes where a cure says what to write, and nowhere else."""
+        """A name has quotes only in a cure that shows how to write it."""
         lists = "{'App-1',500,['x-1@h',{'x-2@h','y-1@h'}]},{'App-2',500,['x-1@h',{'x-2@h','y-1@h'}]},{'Lone',1,['x-1@h']}"
         rest = "{permissions,[{'App-3',true}]},{sync_nodes_mandatory,['x-1@h','x-3@h','q-1@far']},{sync_nodes_optional,['y-1@h']}"
         errors = self.errors_on("{kernel,[{distributed,[%s]},%s]}" % (lists, rest) + "].\n%% forbidden 'Lone' at 'x-2@h'\n%%")
@@ -102,7 +102,7 @@ class BootWarnings(unittest.TestCase):
         self.assertIn("x-3@h is in no application's list: is 'x-1@h' meant?", errors)
 
     def test_control_characters_in_names(self) -> None:
-        """The sentence is about the name, also where digits stand behind the character."""
+        """The sentence is about the name, even if digits follow the character."""
         path = Path(self.room.name) / "node.config"
         path.write_bytes((PLACED % "").replace("y@h", "'y@10\x0b5.2'", 1).join(("[", "].")).encode())
         said = view("check", str(path))

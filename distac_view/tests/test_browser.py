@@ -1,6 +1,6 @@
 """Each page in a real browser: nothing is wider than its window, no script runs, and a screen reader finds all of it.
 
-It wants chromium in PATH, as Debian's package of that name brings it. Without one these tests are skipped.
+It requires chromium in PATH, as in Debian's package of that name; without one these tests are skipped.
 """
 
 from __future__ import annotations
@@ -15,14 +15,14 @@ from browser import Browser, browser_here
 from support import EXAMPLES, view
 
 WIDTHS = (390, 1280)
-# A page of A4 in pixels of the style, without its edges.
+# An A4 page in pixels of the style, without its edges.
 PAPER_WIDTH, BROAD_PAPER_WIDTH = 688, 1046
 # In points, upright.
 A4 = (595, 842)
 HOSTILE = "'<img/src=x/onerror=hit=1><script>hit=1</script>'"
 MANY = "[{kernel,[{distributed,[%s]}]}].\n"
 
-# Elements that reach out of the window, but for those inside of a box that scrolls.
+# Elements that extend beyond the window, except those inside a scrolling box.
 TOO_WIDE = """
 [...document.querySelectorAll("body, body *")]
   .filter(each => !each.parentElement.closest(".wide, .claims, .drawing, .lines, svg"))
@@ -38,7 +38,7 @@ FACTS = """({
   small: [...document.querySelectorAll("p, td, th, li, dd, dt, summary, text:not(.term)")]
     .filter(each => parseFloat(getComputedStyle(each).fontSize) < 12).length
 })"""
-# Where the names of nodes and the first number of a line stand, before and after the box is scrolled.
+# The positions of the nodes' names and of a line's first number, before and after the box is scrolled.
 SCROLLED = """(() => {
   const box = document.querySelector(".drawing"), places = [];
   for (const [left, top] of [[0, 0], [200, 150]]) {
@@ -159,7 +159,7 @@ class InBrowser(unittest.TestCase):
 
     def test_rows_for_a_screen_reader(self) -> None:
         self.browser.open(self.pages["losses"], 390, 844)
-        # (a place where a name may be parted is a space in this list)
+        # (a possible break in a name is a space in this list)
         self.assertIn("node-00@ rack-0.example.org", self.browser.names_of("rowheader"))
         self.assertIn("application", self.browser.names_of("columnheader"))
         self.assertIn("Each loss", self.browser.names_of("region"))

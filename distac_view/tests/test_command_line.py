@@ -1,4 +1,4 @@
-"""The command line: exit statuses, help, files that aren't there, programs that fail, and readers that go away."""
+"""The command line: exit statuses, help, missing files, failing programs, and readers that go away."""
 
 from __future__ import annotations
 
@@ -27,10 +27,10 @@ COMMANDS = (
 
 
 class Statuses(unittest.TestCase):
-    """0 where all is well, 1 for a strict warning, 2 for a fault or wrong use."""
+    """0 for success, 1 for a strict warning, 2 for a fault or wrong use."""
 
     def expect(self, status: int, said: Said, error: str = "") -> None:
-        """A status, a part of what is said on standard error, and no traceback."""
+        """A status, a part of standard error, and no traceback."""
         self.assertEqual(said.status, status, said)
         self.assertIn(error, said.errors)
         self.assertNotIn("Traceback", said.errors + said.output)
@@ -132,7 +132,7 @@ class Statuses(unittest.TestCase):
 
 
 class Programs(unittest.TestCase):
-    """Programs in the place of `distac` that aren't there, or don't do what it does."""
+    """Programs in place of `distac` that don't exist, or behave differently."""
 
     def setUp(self) -> None:
         self.room = tempfile.TemporaryDirectory()
@@ -146,7 +146,7 @@ class Programs(unittest.TestCase):
         return str(path)
 
     def expect(self, program: str, error: str) -> None:
-        """A sentence in place of an answer."""
+        """A sentence instead of an answer."""
         said = view("check", MANUAL, program=program)
         self.assertEqual((said.status, said.output), (2, ""), said)
         self.assertIn(error, said.errors)

@@ -1,4 +1,4 @@
-"""Which pairs of applications are said to hang: the cases that were measured with three real nodes of OTP 25."""
+"""Pairs of applications that are reported to hang: the cases measured with three real nodes of OTP 25."""
 
 from __future__ import annotations
 
@@ -35,7 +35,7 @@ def configuration_of_two(entries: tuple[tuple[int, str], ...]) -> Configuration:
 
 
 class EqualTimes(unittest.TestCase):
-    """What hung is told, and what went well isn't."""
+    """Cases that hung are reported, and the others aren't."""
 
     def test_measured_cases(self) -> None:
         for entries in HUNG:

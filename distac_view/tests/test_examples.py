@@ -1,4 +1,4 @@
-"""The four subcommands on all examples."""
+"""`check`, `play`, `timeline` and `what-if` on all examples."""
 
 from __future__ import annotations
 
@@ -16,7 +16,7 @@ CONFIGS = sorted(EXAMPLES.glob("*.config"))
 
 
 class Shapes(HTMLParser):
-    """Counts the elements of a page, and notes what it takes from elsewhere."""
+    """Counts the elements of a page, and notes external references."""
 
     def __init__(self) -> None:
         super().__init__()
@@ -30,7 +30,7 @@ class Shapes(HTMLParser):
 
 
 class Examples(unittest.TestCase):
-    """What the examples show is what `distac` prints for them."""
+    """The subcommands show the output of `distac` for the examples."""
 
     def test_check_prints_the_canonical_text(self) -> None:
         for path in CONFIGS:
@@ -88,7 +88,7 @@ class Examples(unittest.TestCase):
 
 
 def answers_in(output: str, path: Path) -> list[str]:
-    """The answers that stand in the last column of what `play` printed."""
+    """The answers in the last column of `play`'s output."""
     loaded = load_script(distac(), str(path))
     events = [one.line.text for one in answers_of(distac(), loaded) if one.line.is_event]
     start = len(str(loaded.lines[-1].number)) + min(max(map(len, events)), 46) + 4

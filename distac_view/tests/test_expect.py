@@ -1,4 +1,4 @@
-"""`expect`: a folder of questions, held against stored answers."""
+"""`expect`: a folder of questions, compared with stored answers."""
 
 from __future__ import annotations
 
@@ -35,14 +35,14 @@ class Folder(unittest.TestCase):
         (self.folder / name).write_text(text)
 
     def ask(self, *words: str) -> Said:
-        """What `expect` says of the folder."""
+        """The output of `expect` for the folder."""
         before = os.getcwd()
         said = view("expect", str(self.folder), *words)
         self.assertEqual(os.getcwd(), before)
         return said
 
     def json(self, status: int, *words: str) -> Any:
-        """The same as JSON, which fits its schema."""
+        """The output as JSON, which fits its schema."""
         said = self.ask("--json", *words)
         self.assertEqual((said.status, documented().faults_of(said.output)), (status, []), said)
         return json.loads(said.output)["answers"]

@@ -1,7 +1,7 @@
-"""Changed inputs of each subcommand, names that look like markup among them, with open streams and with closed ones.
+"""Changed inputs of each subcommand, including names that look like markup, with open streams and with closed ones.
 
-Some run with the other tests. `DISTAC_VIEW_INPUTS=2000 python3 view/tests/test_fuzz.py` runs as many as are named, and
-`DISTAC_VIEW_SEED` chooses others. The same seed and number give the same input.
+Some run with the other tests. `DISTAC_VIEW_INPUTS=2000 python3 distac_view/tests/test_fuzz.py` runs that many, and
+`DISTAC_VIEW_SEED` chooses others. The same seed and number yield the same input.
 """
 
 from __future__ import annotations
@@ -71,7 +71,7 @@ TAGS = (
 
 
 def changed(random: Random, subcommand: str) -> bytes:
-    """A source with some changes: names put in place of others, pieces put in, and parts taken out, doubled or moved."""
+    """A source with some changes: names replaced by others, pieces inserted, and parts removed, doubled or moved."""
     fitting = SCRIPTS if subcommand in ("play", "timeline") else CONFIGS
     source = random.choice(random.choice((fitting, fitting, fitting, SCRIPTS, FAULTY)))
     if random.random() < 0.7:
@@ -91,7 +91,7 @@ def with_other_names(random: Random, source: bytes) -> bytes:
 
 
 class Elements(HTMLParser):
-    """The elements of a page that aren't of the program's making."""
+    """The elements of a page that the program didn't make."""
 
     def __init__(self, page: str) -> None:
         super().__init__()
@@ -106,7 +106,7 @@ class Elements(HTMLParser):
 
 
 class Fuzz(unittest.TestCase):
-    """Whatever the input, the answer is a status and text of the program's own making."""
+    """For every input, the answer is a status and text made by the program."""
 
     def setUp(self) -> None:
         room = tempfile.TemporaryDirectory()
@@ -126,11 +126,11 @@ class Fuzz(unittest.TestCase):
                 self.assertEqual(self.path.read_bytes(), source)
 
     def named(self, words: Tuple[str, ...]) -> List[str]:
-        """A command line with the name of the input in it."""
+        """A command line with the input's name."""
         return [word.replace(FILE, str(self.path)) for word in words]
 
     def check_answer(self, words: Tuple[str, ...], said: Said) -> None:
-        """What holds of each answer."""
+        """Checks the properties of every answer."""
         self.assertIn(said.status, (0, 1, 2))
         self.assertTrue(said.status == 0 or said.output + said.errors)
         if "--plain" not in words:

@@ -1,4 +1,5 @@
-"""`gather`: files of nodes become one configuration, equal to one that is written by hand, or a fault or a warning says why not."""
+"""`gather`: files of nodes become one configuration, equal to a handwritten one, or a fault or a warning explains why
+not."""
 
 from __future__ import annotations
 
@@ -43,7 +44,7 @@ ms = String.to_integer(System.fetch_env!("FAILOVER_MS"))
 config :kernel, distributed: [{:shop, ms, [:"a@h", :"b@h"]}], logger: [{:handler, :default, :logger_std_h, %{}}]
 """
 PLACEMENT = "{distributed,[{a,500,[x@h,{y@h,z@h}]},{b,700,[y@h,x@h]}]}"
-# A file, or a parameter of kernel, with ^ before the term at which the fault is told.
+# A file, or a parameter of kernel, with ^ before the term of the fault.
 WRONG_FILES = (
     ("[{sasl,[]},\n {kernel,[]}, ^other].", "BadSection"),
     ("[{sasl,[]}, ^{kernel}].", "BadSection"),
@@ -79,7 +80,7 @@ SYNC = ",{sync_nodes_mandatory,[%s]},{sync_nodes_optional,[%s]},{sync_nodes_time
 
 
 def gather(*words: str) -> Said:
-    """What `gather` says of files in the folder of this test's nodes."""
+    """The output of `gather` for files in the folder of this test's nodes."""
     here = os.getcwd()
     os.chdir(NODES)
     try:
@@ -89,7 +90,7 @@ def gather(*words: str) -> Said:
 
 
 def canonical(text: bytes) -> str:
-    """The configuration of a text that is in order."""
+    """The configuration of a correct text."""
     answer = distac().check(text)
     assert not answer.is_fault, answer.lines
     return answer.lines[0]
@@ -154,7 +155,7 @@ class FilesOfNodes(unittest.TestCase):
 
 
 class RandomClusters(unittest.TestCase):
-    """The files of all nodes are as good as one configuration for all."""
+    """The files of all nodes are equivalent to one configuration for all."""
 
     def compare(self, number: int, reader: str) -> None:
         """One cluster."""
@@ -182,7 +183,7 @@ class Differences(unittest.TestCase):
         self.addCleanup(self.room.cleanup)
 
     def gather(self, texts: "tuple[str, ...] | list[str]", *words: str, whole: bool = False) -> Said:
-        """What is said of the parameters of the nodes x@h, y@h and so on, or of their whole files."""
+        """The output for the parameters of the nodes x@h, y@h and so on, or for their whole files."""
         nodes = []
         for name, text in zip("xyzuv", texts):
             path = Path(self.room.name) / f"{name}.config"
@@ -302,7 +303,7 @@ class Differences(unittest.TestCase):
             self.told_at(text, name, "erl")
 
     def told_at(self, text: str, name: str, reader: str) -> None:
-        """A fault is told at the mark of a text, which is taken out."""
+        """A fault is reported at the mark of a text, which is removed."""
         before, mark, behind = text.partition("^")
         path = Path(self.room.name) / "x.config"
         path.write_text(before + behind)

@@ -1,4 +1,4 @@
-"""Inputs of any kind: each is answered by a sentence, and by the status 0, 1 or 2."""
+"""Inputs of any kind: each gets a sentence, and the status 0, 1 or 2."""
 
 from __future__ import annotations
 
@@ -35,7 +35,7 @@ WORDS = (
 
 
 class Hostile(unittest.TestCase):
-    """No input brings a traceback."""
+    """No input causes a traceback."""
 
     def setUp(self) -> None:
         self.room = tempfile.TemporaryDirectory()

@@ -1,4 +1,4 @@
-"""Answers as JSON have the form that docs/FORMATS.md describes."""
+"""Answers as JSON have the form described in docs/FORMATS.md."""
 
 from __future__ import annotations
 
@@ -32,7 +32,7 @@ class Answers(unittest.TestCase):
         return str(path)
 
     def expect(self, *words: str) -> dict[str, Any]:
-        """The answer to some words, which fits."""
+        """The answer to some words, which fits the schema."""
         said = view(*words, "--json")
         self.assertEqual(said.status, 0, said)
         self.assertEqual(self.schema.faults_of(said.output), [], said.output)
@@ -75,10 +75,10 @@ class Answers(unittest.TestCase):
 
 
 class Others(Answers):
-    """Answers of `check` and `gather`, and faults, which come with a status of their own."""
+    """Answers of `check` and `gather`, and faults, which have their own status."""
 
     def answer(self, status: int, *words: str) -> dict[str, Any]:
-        """The answer to some words with a status, which fits."""
+        """The answer to some words with a status, which fits the schema."""
         said = view(*words, "--json")
         self.assertEqual((said.status, self.schema.faults_of(said.output)), (status, []), said)
         answer: dict[str, Any] = json.loads(said.output)
@@ -113,7 +113,7 @@ class Others(Answers):
 
 
 class Validator(unittest.TestCase):
-    """The validator refuses what isn't described."""
+    """The validator refuses everything that isn't described."""
 
     def test_the_schema_is_that_of_the_tables(self) -> None:
         self.assertEqual(SCHEMA.read_text(encoding="utf-8"), text_of(described()), "python3 view/tests/json_schema.py --write")

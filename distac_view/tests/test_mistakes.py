@@ -1,6 +1,6 @@
-"""Mistakes that people made, and what they are told of each.
+"""Mistakes that people made, and the output for each.
 
-`python3 test_mistakes.py --write` writes what is said now to mistakes.txt, for a person to read.
+`python3 test_mistakes.py --write` writes the present output to mistakes.txt, for review.
 """
 
 from __future__ import annotations
@@ -14,7 +14,7 @@ EXPECTED = MISTAKES.with_suffix(".txt")
 
 
 def said_of_all() -> str:
-    """What is said of each mistake: a head with the exit status, and what is printed, the warnings last."""
+    """The output for each mistake, after a head with the exit status; warnings are last."""
     parts = []
     for path in sorted(MISTAKES.iterdir()):
         words = ["check"] if path.suffix == ".config" else ["play", "--explain"]
@@ -25,7 +25,7 @@ def said_of_all() -> str:
 
 
 class Mistakes(unittest.TestCase):
-    """Each mistake is told by its line and column, the rule and its cure."""
+    """Each mistake is reported with its line and column, the rule and its remedy."""
 
     maxDiff = None
 

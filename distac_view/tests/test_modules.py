@@ -1,4 +1,4 @@
-"""The parts of `distac_view`: which of them imports from which, and how modules are named."""
+"""The parts of `distac_view`: their imports from each other, and the names of modules."""
 
 from __future__ import annotations
 
@@ -12,7 +12,7 @@ from typing import Iterator
 from support import TOP
 
 PACKAGE = TOP / "distac_view"
-# A part imports from itself and from those before it. What isn't in a folder is made of all of them.
+# A part imports from itself and from earlier ones. Modules outside the folders can import all.
 PARTS = ("common", "reading", "asking", "answering", "showing", "cli")
 MODULES = {path.stem: path for part in ("", *PARTS) for path in sorted((PACKAGE / part).glob("*.py")) if path.stem != "__init__"}
 
@@ -33,7 +33,7 @@ def names_bound(tree: ast.Module) -> "Iterator[str]":
 
 
 class Modules(unittest.TestCase):
-    """All modules but the tests."""
+    """All modules except the tests."""
 
     def test_each_part_is_there(self) -> None:
         folders = {path.parent.name for path in PACKAGE.glob("*/__init__.py")}
@@ -59,7 +59,7 @@ class Modules(unittest.TestCase):
             self.assertFalse(other.startswith(one), (one, other))
 
     def test_each_test_runs_alone(self) -> None:
-        """A file of tests finds the package by the module support, so it imports that before anything of the package."""
+        """A test file finds the package by the module support, so it imports that before anything of the package."""
         for path in sorted((PACKAGE / "tests").glob("test_*.py")):
             modules = [str(node.module) for node in ast.parse(path.read_text("utf-8")).body if isinstance(node, ast.ImportFrom)]
             is_ours = [module.startswith("distac_view") for module in modules]

@@ -1,4 +1,4 @@
-"""The script `nightly` in a repository whose parts are made up: what it keeps of each part, and which table it prints."""
+"""The script `nightly` in a repository with made-up parts: its record of each part, and its table."""
 
 from __future__ import annotations
 
@@ -15,7 +15,7 @@ from support import TOP
 
 PARTS = ("examples", "races", "compare", "growths", "stacks", "mutants")
 SCRIPTS = (*(f"checks/{name}" for name in ("races", "growths", "stacks", "mutants", "fuzz")), "examples/check")
-# A crate that no program uses, and those that the programs are made of.
+# A crate that no program uses, and those of the programs.
 CRATES = "# all\nlow: core\nother: core\ndistac: low\ngrowths: low\n"
 # A launcher that has a program once it was asked to compile one.
 LAUNCHER = """cd "$(dirname "$0")"
@@ -61,11 +61,11 @@ class Nightly(unittest.TestCase):
         self.write(path, f"#!/bin/sh\n{text}\n").chmod(0o755)
 
     def toolchain(self, name: str) -> None:
-        """A toolchain of a name, beside the repository."""
+        """A toolchain of a name, outside the repository."""
         self.script("../bin/rt", f"echo {name}")
 
     def git(self, *words: str) -> str:
-        """What git says."""
+        """The output of git."""
         done = subprocess.run(["git", *words], cwd=self.top, stdout=subprocess.PIPE, text=True, check=True)
         return done.stdout.strip()
 
@@ -77,14 +77,14 @@ class Nightly(unittest.TestCase):
         return subprocess.Popen(line, env=surroundings, text=True, stdin=subprocess.DEVNULL, stdout=pipe, stderr=pipe)
 
     def run_it(self, *words: str) -> "tuple[int, list[str]]":
-        """The status of the script, and the lines that it prints."""
+        """The status of the script, and its output lines."""
         with self.start(*words) as started:
             output, errors = started.communicate(timeout=MOST_SECONDS)
         self.assertEqual(errors, "")
         return started.returncode, output.splitlines()
 
     def rows(self) -> "dict[str, list[str]]":
-        """The cells of each row of the record, by the part."""
+        """The cells of each row of the record, by part."""
         lines = self.run_it("--record")[1][4:]
         cells = [[cell.strip() for cell in line.replace("\\|", "!").strip("|").split("|")] for line in lines]
         return {row[0]: row[1:] for row in cells}
@@ -155,7 +155,7 @@ class Nightly(unittest.TestCase):
         self.assertEqual(self.older(), ["stacks"])
 
     def ended_by(self, number: int, begun: Path) -> int:
-        """The status of a run that a signal ends once its part has begun."""
+        """The status of a run that a signal ends after its part has begun."""
         with self.start("--only", "stacks", "examples") as started:
             until = time.monotonic() + MOST_SECONDS
             while not (begun.exists() and begun.read_text().endswith("\n")):

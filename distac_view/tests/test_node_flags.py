@@ -1,4 +1,4 @@
-"""`gather` before any node runs: variables of templates, files of arguments such as `vm.args`, and absolute names of files."""
+"""`gather` before any node runs: variables of templates, argument files such as `vm.args`, and absolute file names."""
 
 from __future__ import annotations
 
@@ -41,7 +41,7 @@ WAYS = (
 
 
 def gather(*words: str, folder: "Path | str" = FLAGS) -> Said:
-    """What `gather` says of files in a folder."""
+    """The output of `gather` for files in a folder."""
     here = os.getcwd()
     os.chdir(folder)
     try:
@@ -51,7 +51,7 @@ def gather(*words: str, folder: "Path | str" = FLAGS) -> Said:
 
 
 class Releases(unittest.TestCase):
-    """The files of a release as it ships them."""
+    """The files of a release as shipped."""
 
     def test_equal_to_what_is_written_by_hand(self) -> None:
         wanted = distac().check((HERE / "nodes" / "flags.by-hand.config").read_bytes()).lines[0]
@@ -113,7 +113,7 @@ class Releases(unittest.TestCase):
 
 
 class Faults(unittest.TestCase):
-    """What can't be read."""
+    """Unreadable inputs."""
 
     def setUp(self) -> None:
         self.room = tempfile.TemporaryDirectory()
@@ -125,13 +125,13 @@ class Faults(unittest.TestCase):
         (Path(self.room.name) / name).write_text(text)
 
     def expect(self, part: str, status: int, *words: str) -> None:
-        """A status, and a part of what is said."""
+        """A status, and a part of the output."""
         said = gather(*words, folder=self.room.name)
         self.assertEqual(said.status, status, said)
         self.assertIn(part, said.output + said.errors)
 
     def of_arguments(self, part: str, text: str, status: int = 2) -> None:
-        """What is said of a file of arguments."""
+        """The output for an argument file."""
         self.write("vm.args", text)
         self.expect(part, status, "x@h=sys.config,vm.args", "--reader", "own")
 
@@ -182,7 +182,7 @@ class Faults(unittest.TestCase):
 
 @unittest.skipUnless(has_erlang() and shutil.which("erl"), "Erlang isn't in PATH")
 class RealErlang(unittest.TestCase):
-    """Files of arguments as Erlang reads them."""
+    """Argument files as Erlang reads them."""
 
     def setUp(self) -> None:
         self.room = tempfile.TemporaryDirectory()
@@ -190,7 +190,7 @@ class RealErlang(unittest.TestCase):
         self.environment = {name: value for name, value in os.environ.items() if not name.startswith("ERL_")}
 
     def erl(self, *words: str) -> str:
-        """What `erl` prints."""
+        """The output of `erl`."""
         done = subprocess.run(["erl", *words], cwd=self.room.name, env=self.environment, capture_output=True, timeout=60, check=True)
         return done.stdout.decode()
 
@@ -207,7 +207,7 @@ class RealErlang(unittest.TestCase):
             self.assertEqual(printed, "".join(f"{word}\n" for word in [*words, "--", "--"]), (number, text))
 
     def test_flags(self) -> None:
-        """The flags and sections are those of another application, because kernel would begin to wait for nodes."""
+        """The flags and sections are those of another application, because kernel would start waiting for nodes."""
         room = Path(self.room.name)
         (room / "placed.config").write_text(PLACED)
         texts = {
@@ -229,7 +229,7 @@ class RealErlang(unittest.TestCase):
 
 
 def kept(said: Said) -> "list[str]":
-    """The configuration, and the time of ticks where it isn't that of every node."""
+    """The configuration, and net_ticktime if it isn't that of every node."""
     return [line for line in said.output.splitlines() if not line.startswith("%% ") or "net_ticktime 9" in line]
 
 

@@ -1,4 +1,4 @@
-"""The commands at the top that check the program: what they refuse, and before which work."""
+"""The commands at the top that check the program: what they refuse, before any work."""
 
 from __future__ import annotations
 
@@ -21,7 +21,7 @@ MOST_SECONDS = 60
 
 
 def say(*words: str, folder: Path = TOP, **variables: str) -> "tuple[int, str, str]":
-    """The status of a command in a folder, and what it prints. One that would work for long is a failure."""
+    """The status and output of a command in a folder. One that would take long is a failure."""
     python = [sys.executable] if words[0].endswith(".py") else []
     line = [*python, str(folder / words[0]), *words[1:]]
     pipe, null, surroundings = subprocess.PIPE, subprocess.DEVNULL, {**os.environ, **variables}
@@ -31,7 +31,7 @@ def say(*words: str, folder: Path = TOP, **variables: str) -> "tuple[int, str, s
     return done.returncode, done.stdout, done.stderr
 
 
-# Words that a command doesn't take, and a part of what it says.
+# Words that a command refuses, and a part of its message.
 REFUSED = (
     (("checks/growths", "nosuch"), "no call and no example begins with nosuch"),
     (("checks/growths", "State", "nosuch"), "no call and no example begins with nosuch"),
@@ -63,30 +63,30 @@ class Waiting(unittest.TestCase):
         self.addCleanup(room.cleanup)
         time.sleep(60)
 """
-# Those whose first comment is their help.
+# Those that print their first comment as help.
 COMMENTED = tuple(f"checks/{name}" for name in ("growths", "mutants", "races", "fuzz", "stacks", "nightly"))
 HELPED = ("tests", "examples/check", "checks/check-documents", *COMMENTED)
 
-# Those that a reader runs first. A Python that is too old prints a sentence, so it has to be able to read them.
+# Those that a user runs first. A Python that is too old prints a sentence, so it must be able to read them.
 PLAIN = ("believe", "checks/check-documents", "models/sim.py")
 OLD_PYTHONS = ("python2", "python2.7", "python3.5", "python3.6", "python3.7")
-# What such a Python can't read.
+# Syntax that such a Python can't read.
 NEWER = (ast.AnnAssign, ast.AsyncFunctionDef, ast.FunctionDef, ast.JoinedStr, ast.NamedExpr, ast.Starred)
 VERSION = "import sys; sys.stdout.write('%d.%d' % sys.version_info[:2])"
 PRETENDS = "import sys; sys.version_info = (3, 7, 16); exec(compile(open(sys.argv[1]).read(), sys.argv[1], 'exec'))"
 
 
 def said_by_python(*words: str) -> "tuple[int, str, str]":
-    """The status of a Python, and what it prints. It gets no input."""
+    """The status and output of a Python without input."""
     done = subprocess.run(words, stdin=subprocess.DEVNULL, capture_output=True, text=True, timeout=MOST_SECONDS, check=False)
     return done.returncode, done.stdout, done.stderr
 
 
 class OldPythons(unittest.TestCase):
-    """What is run first says that a Python is too old."""
+    """The commands that are run first report a Python that is too old."""
 
     def expect(self, script: str, version: str, *words: str) -> None:
-        """A sentence with the version, and nothing else."""
+        """Only a sentence with the version."""
         sentence = f"{script.rpartition('/')[2]}: this is Python {version}, and 3.8 or later is needed\n"
         self.assertEqual(said_by_python(*words, str(TOP / script)), (2, "", sentence), words)
 
@@ -108,7 +108,7 @@ class OldPythons(unittest.TestCase):
 
 
 class OwnCommands(unittest.TestCase):
-    """What is refused, and what help says."""
+    """Refused words, and help."""
 
     def test_unknown_words_are_refused_before_anything_is_done(self) -> None:
         for words, said in REFUSED:

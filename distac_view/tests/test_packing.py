@@ -1,4 +1,4 @@
-"""One file to take along, what an older Python says of it, and what bash completes."""
+"""A single file to copy, the message of an older Python, and completion by bash."""
 
 from __future__ import annotations
 
@@ -27,7 +27,7 @@ OLDER = "import sys\nsys.version_info = (3, 7, 16, 'final', 0)\nexec(compile(ope
 
 
 def ran(*words: str, **more: object) -> "subprocess.CompletedProcess[bytes]":
-    """Runs a program of Python with `distac` in its surroundings."""
+    """Runs a Python program with `distac` in its environment."""
     surroundings = {**os.environ, "DISTAC": PROGRAM}
     return subprocess.run([sys.executable, *words], capture_output=True, env=surroundings, **more)  # type: ignore[call-overload,no-any-return]
 
@@ -82,7 +82,7 @@ class Packed(unittest.TestCase):
 
 
 class Pythons(unittest.TestCase):
-    """Python 3.8 or later, and a sentence from an older one."""
+    """Python 3.8 or later runs it, and an older one prints a sentence."""
 
     def test_an_older_python(self) -> None:
         done = ran("-c", OLDER, str(TOP / "distac-view"))
@@ -101,7 +101,7 @@ class Pythons(unittest.TestCase):
 
 
 def newer_types(tree: ast.Module) -> Iterator[ast.AST]:
-    """Types that Python 3.8 doesn't know where they are computed: outside of annotations and of texts."""
+    """Types that Python 3.8 can't evaluate, outside annotations and strings."""
     for statement in tree.body:
         for node in ast.walk(statement) if isinstance(statement, ast.Assign) else ():
             if isinstance(node, ast.Subscript) and isinstance(node.value, ast.Name) and node.value.id in BUILT_IN:
@@ -112,7 +112,7 @@ def newer_types(tree: ast.Module) -> Iterator[ast.AST]:
 
 
 class Helps(unittest.TestCase):
-    """Each subcommand has an example, and each example is right."""
+    """Each subcommand has an example, and each example is valid."""
 
     def test_each_subcommand_has_examples(self) -> None:
         for name, _, _, _ in SUBCOMMANDS:
@@ -129,10 +129,10 @@ class Helps(unittest.TestCase):
 
 @unittest.skipUnless(shutil.which("bash"), "bash isn't here")
 class Completion(unittest.TestCase):
-    """Bash completes what the parser knows."""
+    """Bash completes the words of the parser."""
 
     def offered(self, *words: str) -> List[str]:
-        """What is offered for the last of some words."""
+        """The completions of the last of some words."""
         script = view("--print-completion", "bash").output
         line = " ".join(shlex.quote(word) for word in ("distac-view", *words))
         ask = f'COMP_WORDS=({line})\nCOMP_CWORD={len(words)}\n_distac_view\nprintf "%s\\n" "${{COMPREPLY[@]}}"\n'

@@ -1,4 +1,5 @@
-"""The pages of `what-if`, `rolling` and `load`: what they say, where they are written, and that they have all of the printed answer."""
+"""The pages of `what-if`, `rolling` and `load`: their contents, their places, and that they contain the whole printed
+answer."""
 
 from __future__ import annotations
 
@@ -38,7 +39,7 @@ NOON = str(1_800_000_000)
 
 
 class Text(HTMLParser):
-    """What stands on a page: its headings, the cells of its tables by rows, and all of its text."""
+    """The contents of a page: its headings, the cells of its tables by rows, and all of its text."""
 
     def __init__(self, page: str) -> None:
         super().__init__()
@@ -74,7 +75,7 @@ class Text(HTMLParser):
 
 
 class Pages(unittest.TestCase):
-    """What each page says."""
+    """The contents of each page."""
 
     def setUp(self) -> None:
         room = tempfile.TemporaryDirectory()
@@ -84,7 +85,7 @@ class Pages(unittest.TestCase):
         (self.room / "other.config").write_text(FLEET.replace("8000", "9000").replace("audit", "mirror").replace("c@h,'shop-1", "'shop-1"))
 
     def words(self, words: Tuple[str, ...]) -> List[str]:
-        """A command line with the names of files in it."""
+        """A command line with file names."""
         names = {"FLEET": str(self.room / "fleet.config"), "OTHER": str(self.room / "other.config")}
         return [names.get(word, word) for word in words]
 

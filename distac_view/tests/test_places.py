@@ -13,13 +13,13 @@ assert support.TOP
 
 
 def place(source: bytes, sign: bytes) -> tuple[int, int]:
-    """The line and column of the first place of a sign."""
+    """The line and column of a sign's first occurrence."""
     found = place_of(source, source.index(sign))
     return found.line, found.column
 
 
 class Places(unittest.TestCase):
-    """Tabs, carriage returns, UTF-8 and bytes that are none."""
+    """Tabs, carriage returns, UTF-8 and invalid bytes."""
 
     def test_lines_and_columns(self) -> None:
         rows = (
@@ -57,7 +57,7 @@ class Places(unittest.TestCase):
 
 
 class NearNames(unittest.TestCase):
-    """Names with one change, and names with other numbers."""
+    """Names with one change, and names with different numbers."""
 
     def test_one_change(self) -> None:
         for one, other in (("start", "strat"), ("myapp", "myap"), ("a", "b"), ("abc", "abcd"), ("xabc", "abc")):

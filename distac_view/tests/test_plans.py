@@ -1,4 +1,4 @@
-"""`load`, `rolling` and `what-if --then`, each compared with other plays of the same questions."""
+"""`load`, `rolling` and `what-if --then`, each compared with other plays of their questions."""
 
 from __future__ import annotations
 
@@ -44,7 +44,7 @@ GATED_SHOP = SHOP.replace("]}]}].", f"]}},{SYNC}]}}].")
 
 
 def random_side(random: Random) -> Side:
-    """A random cluster that just came up, or one with applications where they run."""
+    """A random cluster that just came up, or one with applications at given places."""
     checked = checked_of(random_config(random))
     if random.random() < 0.5:
         return opened(distac(), checked, [])
@@ -132,7 +132,7 @@ class Loads(Files):
 
 
 def wide_side(random: Random, count: int = 7) -> Side:
-    """A cluster with more nodes than each application has, so that some pairs of losses have nothing to do with each other."""
+    """A cluster with more nodes than each application has, so that some pairs of losses are independent."""
     nodes = [f"n{number:02d}@h" for number in range(count)]
     entries = []
     for number in range(random.randint(2, 5)):
@@ -145,7 +145,7 @@ def wide_side(random: Random, count: int = 7) -> Side:
 
 
 class Hangs(Files):
-    """Where OTP may fail to restart applications: told by each question that asks about the loss."""
+    """Applications that OTP may fail to restart, reported by each question about the loss."""
 
     def test_each_question_says_it(self) -> None:
         fleet, cured = self.path("fleet.config", FLEET), self.path("cured.config", FLEET.replace("b,5000", "b,6000"))
@@ -224,7 +224,7 @@ class Rolls(Files):
             self.assertEqual(view("rolling", self.shop, "--takes", word).status, 2)
 
     def test_a_restart_of_a_later_node(self) -> None:
-        """OTP 25 does it so: the node that is back waits for the one before it, whose wait counts from the loss."""
+        """As in OTP 25: the node that is back waits for the one before it, whose wait counts from the loss."""
         now = ("--now", "billing=shop2@h", "mail=shop2@h", "reports=shop3@h", "audit=shop1@h")
         lines = view("rolling", self.shop, "--takes", "2500", "--order", "shop2@h", *now).output.splitlines()
         self.assertEqual(lines[0], "order shop2@h: 1 move, 5500 ms of waits, restarts of 2500 ms")
@@ -255,14 +255,14 @@ class Rolls(Files):
 
 
 def cost_of(side: Side, order: "tuple[str, ...]") -> "tuple[int, ...]":
-    """What an order costs, played as a whole. Nodes behind a step that can't go on count as faults too."""
+    """The cost of an order, played as a whole. Nodes after a step that can't go on also count as faults."""
     steps, _ = play_order(Planner(distac(), False), Standing(side.cluster, side.page), order)
     total = [sum(parts) for parts in zip(*(step.cost for step in steps))] or [0, 0, 0, 0]
     return (total[0] + len(order) - len(steps), *total[1:])
 
 
 class Changed(Files):
-    """What a new configuration changes."""
+    """The changes by a new configuration."""
 
     def test_against_two_replies(self) -> None:
         for number in range(COUNT):
@@ -332,29 +332,30 @@ class Changed(Files):
 
 
 def fates_of(reply: Reply) -> "dict[tuple[str, ...], Fate]":
-    """What becomes of each application under each loss."""
+    """The effect of each loss on each application."""
     return {(fate.app, *case.down): fate for case in reply.cases for fate in case.fates}
 
 
 def what_follows(fate: Fate) -> "tuple[object, ...]":
-    """What a loss does to an application. All random files have one net_ticktime, so an outage is as long as its wait."""
+    """The effect of a loss on an application. All random files have one net_ticktime, so an outage is as long as its
+    wait."""
     able = {node for node, mark in marks_in(fate.marks) if mark == "ok"}
     return fate.then, fate.milliseconds, fate.how == "failover", fate.back, fate.then is not None and able <= {fate.then}
 
 
 def moved_now(before: "dict[tuple[str, ...], Fate]", behind: "dict[tuple[str, ...], Fate]") -> "set[str]":
-    """The applications of both answers that are elsewhere before any loss."""
+    """The applications of both answers that have different places before any loss."""
     both = {key[0] for key in before} & {key[0] for key in behind}
     return {app for app in both if now_of(before, app) != now_of(behind, app)}
 
 
 def now_of(fates: "dict[tuple[str, ...], Fate]", app: str) -> "str | None":
-    """Where an application is before any loss."""
+    """The place of an application before any loss."""
     return next(fate.now for key, fate in fates.items() if key[0] == app)
 
 
 class Json(Files):
-    """Answers as JSON have the form that docs/FORMATS.md describes."""
+    """Answers as JSON have the form described in docs/FORMATS.md."""
 
     def test_answers(self) -> None:
         schema = documented()
@@ -378,7 +379,7 @@ class Json(Files):
 
 
 class Now(Files):
-    """Where applications run, by a file or by words."""
+    """The places of applications, from a file or from words."""
 
     def test_words_that_do_not_fit(self) -> None:
         rows = (

@@ -1,4 +1,4 @@
-"""What the program itself does if its output can't be written or memory is short. Where models stand in for it, nothing is tried."""
+"""The program's behavior if its output can't be written or memory is short. Skipped if the models replace it."""
 
 from __future__ import annotations
 
@@ -20,7 +20,7 @@ class Program(unittest.TestCase):
     """Each command, on an example."""
 
     def ended(self, line: str, command: str) -> "tuple[int, str]":
-        """The status of a shell's line, in which $0 is the program, and what is said on standard error."""
+        """The status of a shell's line, in which $0 is the program, and its standard error."""
         with Path(EXAMPLES, INPUTS[command]).open("rb") as source:
             done = subprocess.run(["/bin/sh", "-c", line, PROGRAM, command], stdin=source, capture_output=True, text=True, check=False)
         return done.returncode, done.stderr

@@ -1,4 +1,4 @@
-"""The two readers of configuration files: what each reads, and that they agree where Erlang is installed."""
+"""The two readers of configuration files: their results, and their agreement if Erlang is installed."""
 
 from __future__ import annotations
 
@@ -45,7 +45,7 @@ MISREAD = (
 
 
 class ByteTokens(unittest.TestCase):
-    """The tokens that `distac` reads too, with bytes as places."""
+    """The tokens that `distac` also reads, with bytes as places."""
 
     def test_places(self) -> None:
         rows = (
@@ -62,7 +62,7 @@ class ByteTokens(unittest.TestCase):
 
 
 class OwnReader(unittest.TestCase):
-    """The reader of our own."""
+    """Our own reader."""
 
     def test_what_is_read(self) -> None:
         for text, term in (*READ, *NEWER):
@@ -93,10 +93,10 @@ class OwnReader(unittest.TestCase):
 
 @unittest.skipUnless(has_erlang(), "Erlang isn't installed")
 class Agreement(unittest.TestCase):
-    """Both readers say the same."""
+    """Both readers agree."""
 
     def compare(self, texts: list[str]) -> None:
-        """Each text is read by both, or by none, and to one term."""
+        """Each text is read by both, or by none, as one term."""
         for text, own, erlang in zip(texts, read_by_own(texts), read_by_erlang(texts)):
             with self.subTest(text=text[:200]):
                 if isinstance(own, Misread) and isinstance(erlang, Misread):
@@ -134,7 +134,7 @@ class Agreement(unittest.TestCase):
 
 
 class ErlangThatFails(unittest.TestCase):
-    """An Erlang that isn't there, or doesn't answer."""
+    """An Erlang that is missing, or doesn't answer."""
 
     def test_none(self) -> None:
         with mock.patch.dict(os.environ, {"PATH": "/no/such/folder"}):

@@ -1,4 +1,5 @@
-"""A release: what is in its folder, when none is made, which commit it says, and the script for CI, run with Python alone."""
+"""A release: the contents of its folder, the conditions for making it, its commit, and the script for CI, with only
+Python."""
 
 from __future__ import annotations
 
@@ -33,13 +34,13 @@ BLOCK = re.compile(r"^```\n(.*?)^```$", re.DOTALL | re.MULTILINE)
 
 
 def said(*words: str, cwd: Path, path: str = os.environ["PATH"], **more: str) -> "subprocess.CompletedProcess[str]":
-    """What a command says, with these surroundings alone."""
+    """The output of a command in only this environment."""
     surroundings = {"PATH": path, "HOME": str(cwd), **more}
     return subprocess.run(words, cwd=cwd, env=surroundings, stdin=subprocess.DEVNULL, capture_output=True, text=True, timeout=120)
 
 
 def git(folder: Path, *words: str) -> str:
-    """What git says in a folder."""
+    """The output of git in a folder."""
     person = ("-c", "user.name=Somebody", "-c", "user.email=somebody@example.org")
     done = said("git", *person, *words, cwd=folder)
     assert done.returncode == 0, done
@@ -57,7 +58,7 @@ class Room(unittest.TestCase):
         self.programs.mkdir()
 
     def program(self, path: Path, text: str) -> Path:
-        """A script that runs."""
+        """An executable script."""
         path.write_text(text)
         path.chmod(0o755)
         return path
@@ -85,23 +86,23 @@ class Release(Room):
         self.folder = self.room / "release"
 
     def committed(self) -> str:
-        """Commits what is there. The commit."""
+        """Commits everything, and returns the commit."""
         git(self.top, "add", "-A")
         git(self.top, "commit", "-q", "-m", "all")
         return git(self.top, "rev-parse", "HEAD")
 
     def made(self, *words: str, has_rt: bool = True) -> "subprocess.CompletedProcess[str]":
-        """What the command says that makes a release."""
+        """The output of the command that makes a release."""
         path = f"{self.programs}{os.pathsep}{os.environ['PATH']}" if has_rt else f"{self.room}{os.pathsep}/usr/bin{os.pathsep}/bin"
         return said(sys.executable, str(self.top / "distac_view" / "release.py"), *words, str(self.folder), cwd=self.room, path=path)
 
     def facts(self) -> Dict[str, str]:
-        """What RELEASE says."""
+        """The contents of RELEASE."""
         lines = (self.folder / "RELEASE").read_text().splitlines()
         return dict(line.split(": ", 1) for line in lines)
 
     def refused(self, sentence: str, *words: str, has_rt: bool = True) -> None:
-        """No release is made, and nothing is left of it."""
+        """No release is made, and nothing of it is left."""
         before = sorted(self.room.iterdir())
         done = self.made(*words, has_rt=has_rt)
         self.assertEqual((done.returncode, done.stdout), (2, ""), done)
@@ -193,7 +194,7 @@ class Release(Room):
 
 
 class InCI(Room):
-    """The script that docs/OPERATORS.md gives, in a folder with two nodes' files and the packed program, and Python alone."""
+    """The script in docs/OPERATORS.md, in a folder with two nodes' files and the packed program, with only Python."""
 
     def setUp(self) -> None:
         super().setUp()
@@ -210,14 +211,14 @@ class InCI(Room):
             self.change("", "", node)
 
     def change(self, old: str, new: str, *nodes: str) -> None:
-        """Writes the files of some nodes, or of all, with something in them changed."""
+        """Writes the files of some nodes, or of all, with a change in them."""
         for node in nodes or OTHERS:
             self.assertIn(old, OWN_CONFIG)
             text = OWN_CONFIG.replace(old, new) if old else OWN_CONFIG
             (self.folder / node / "sys.config").write_text(text.replace("OTHER", OTHERS[node]))
 
     def ran(self) -> "subprocess.CompletedProcess[str]":
-        """The script, as the workflow runs it, with a shell and Python."""
+        """The script, run like the workflow, with a shell and Python."""
         runs = re.findall(r"^ *- run: (.*)$", self.workflow, re.MULTILINE)
         self.assertEqual(runs, ["sh ci/failover.sh"])
         shell = shutil.which("sh")
@@ -225,7 +226,7 @@ class InCI(Room):
         return said(str(shell), *runs[0].split()[1:], cwd=self.folder, path=str(self.programs))
 
     def names(self) -> List[str]:
-        """The pages that are there."""
+        """The existing pages."""
         return sorted(path.name for path in self.folder.glob("*.html"))
 
     def test_a_change(self) -> None:
@@ -269,7 +270,7 @@ class InCI(Room):
 
 
 class Version(unittest.TestCase):
-    """What --version says of this checkout, or of what was unpacked."""
+    """The output of --version for this checkout, or for an unpacked one."""
 
     def test_version(self) -> None:
         self.assertEqual(view("--version").output, f"{VERSION}, commit {commit_of(TOP) or UNKNOWN}\n")

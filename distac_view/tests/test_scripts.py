@@ -21,7 +21,7 @@ COUNT = 150 if IS_STAND_IN else 400
 
 
 def random_source(number: int) -> bytes:
-    """A random input of `distac sim`, at times with a fault."""
+    """A random input of `distac sim`, sometimes with a fault."""
     random = Random(f"view {number}")
     text = random.choice(CONFIGS)
     maker = ScriptMaker(random, read_config(text))
@@ -34,7 +34,7 @@ def random_source(number: int) -> bytes:
 
 
 class Scripts(unittest.TestCase):
-    """The answers that are shown are those of `distac`, each beside its line."""
+    """The answers shown are those of `distac`, each with its line."""
 
     def test_each_answer_stands_beside_its_line(self) -> None:
         for number in range(COUNT):
@@ -47,7 +47,7 @@ class Scripts(unittest.TestCase):
                     self.compare_fault(source, text_of(printed))
 
     def compare_fault(self, source: bytes, printed: str) -> None:
-        """A fault is told at the line that `distac` names, and has its name."""
+        """A fault is reported at the line and with the name that `distac` gives."""
         fault = fault_of(printed.rstrip("\n"))
         script = script_of(source) if len(source) <= MOST_INPUT else None
         if script is None:
@@ -68,7 +68,7 @@ def script_in(source: bytes) -> Script:
 
 
 def shown_answers(source: bytes) -> list[str]:
-    """The answers as the rows of `play` show them."""
+    """The answers in the rows of `play`."""
     script = script_in(source)
     checked = check_config(distac(), "x", script.config)
     lines = checked_lines(distac(), "x", script, checked.configuration)
@@ -127,7 +127,7 @@ def told_lines(config: bytes, script: bytes) -> list[Line]:
 
 
 def told_answers(config: bytes, script: bytes) -> list[str]:
-    """What is answered to all but ships, deliveries and shares. Numbers of messages are left out."""
+    """The answers to all lines except ships, deliveries and shares, without numbers of messages."""
     made = script_in(config + b"--\n" + script)
     checked = check_config(distac(), "x", config)
     lines = checked_lines(distac(), "x", made, checked.configuration)
@@ -136,7 +136,7 @@ def told_answers(config: bytes, script: bytes) -> list[str]:
 
 
 class Guesses(unittest.TestCase):
-    """Whatever the answers are, writing out ends."""
+    """Writing out ends whatever the answers are."""
 
     def test_ships_that_are_all_refused(self) -> None:
         lines = [Line(1, "tell a b c"), Line(2, "boot a 0")]

@@ -1,4 +1,4 @@
-"""`what-if --split`: what each side of a split runs, and what is left once it is healed."""
+"""`what-if --split`: the applications of each side of a split, and the rest once it is healed."""
 
 from __future__ import annotations
 
@@ -33,17 +33,17 @@ class Splits(unittest.TestCase):
         self.config.write_text(FOUR)
 
     def ask(self, split: str, *words: str) -> Said:
-        """What is said of a split."""
+        """The output for a split."""
         return view("what-if", str(self.config), "--split", *split.split(), *words)
 
     def json(self, split: str, *words: str) -> Any:
-        """The same as JSON, which fits its schema."""
+        """The output as JSON, which fits its schema."""
         said = self.ask(split, "--json", *words)
         self.assertEqual((said.status, documented().faults_of(said.output)), (0, []), said)
         return json.loads(said.output)
 
     def places(self, split: str, *words: str) -> "list[dict[str, str | None]]":
-        """Where each side has each application."""
+        """The place of each application on each side."""
         return [{fate["application"]: fate["then"] for fate in part["applications"]} for part in self.json(split, *words)["parts"]]
 
     def test_two_sides(self) -> None:
@@ -140,7 +140,7 @@ def opening() -> Iterator[str]:
 
 
 def split_lines(split: str) -> Iterator[str]:
-    """Each side says of all others that they are down, and waits. Then the split is healed."""
+    """Each side declares all others down, and waits. Then the split is healed."""
     sides = [[f"{name}@h" for name in side.split()] for side in split.split(" / ")]
     for side in sides:
         yield from (f"down {side[0]} {node}" for node in NODES if node not in side)
@@ -150,7 +150,7 @@ def split_lines(split: str) -> Iterator[str]:
 
 
 def way_out(healed: "list[dict[str, Any]]") -> Iterator[str]:
-    """What docs/OPERATORS.md says under "After a split"."""
+    """The procedure of docs/OPERATORS.md, "After a split"."""
     for node in NODES:
         yield from [f"crash {node}", f"boot {node} 1000", "share", "share"]
     for each in healed:

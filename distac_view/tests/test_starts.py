@@ -1,6 +1,7 @@
-"""How questions begin and end: start gates, splits, nodes that were declared down, and applications where they run now.
+"""The beginnings and ends of questions: start gates, splits, nodes declared down, and applications at their present
+places.
 
-A case that is written in one go is compared with the same case played step by step.
+A case written in one go is compared with the case played step by step.
 """
 
 from __future__ import annotations
@@ -31,7 +32,7 @@ from distac_view.reading.configuration import Checked
 from distac_view.reading.forbidden import comment_of, forbidden_in
 
 COUNT = 60 if IS_STAND_IN else 300
-# In this random case two rounds are needed at the moment at which the waits of a return are over.
+# This random case needs two rounds at the moment at which the waits of a return end.
 TWO_ROUNDS = 5209
 GATED = (
     "[{kernel,[{distributed,[{myapp,5000,[cp1@cave,{cp2@cave,cp3@cave}]}]},"
@@ -49,12 +50,12 @@ WITHOUT_CP3 = "share\ncrash cp3@cave\ndown cp1@cave cp3@cave\nshare\n"
 
 
 def checked_of(text: str) -> Checked:
-    """A configuration that has no fault."""
+    """A configuration without faults."""
     return check_config(distac(), "x", text.encode())
 
 
 class Asked(unittest.TestCase):
-    """Questions behind scripts."""
+    """Questions after scripts."""
 
     def setUp(self) -> None:
         room = tempfile.TemporaryDirectory()
@@ -62,7 +63,7 @@ class Asked(unittest.TestCase):
         self.path = Path(room.name) / "script"
 
     def reply(self, config: str, script: str, *down: str) -> Reply:
-        """The reply to a question behind a script."""
+        """The reply to a question after a script."""
         self.path.write_text(config + "--\n" + script)
         return reply_on(distac(), checked_of(config), Question("x", list(down), after=str(self.path)))
 
@@ -144,7 +145,7 @@ class Splits(Asked):
 
 
 def some_sides(random: Random, path: Path) -> list[Side]:
-    """The sides of a random start: all came up, or applications run somewhere, or a script went before."""
+    """The sides of a random start: all came up, or applications have given places, or after a script."""
     kind = random.choice(("up", "now", "after"))
     if kind == "after":
         text = random.choice([config for config in CONFIGS if b" " not in config.replace(b", ", b"")])
@@ -162,7 +163,7 @@ def some_sides(random: Random, path: Path) -> list[Side]:
 
 
 def random_places(random: Random, checked: Checked) -> Placed:
-    """Some nodes that are up, and applications at random ones of them."""
+    """Some nodes that are up, with applications at random ones of them."""
     up = [node for node in checked.configuration.nodes if random.random() < 0.8] or checked.configuration.nodes
     places = {}
     for each in checked.configuration.applications:
@@ -173,14 +174,14 @@ def random_places(random: Random, checked: Checked) -> Placed:
 
 
 class Forbidden(Asked):
-    """Permissions of single nodes, as comments above a configuration say them."""
+    """Permissions of single nodes, as in comments above a configuration."""
 
     def setUp(self) -> None:
         super().setUp()
         self.path.write_text(FORBIDDEN)
 
     def fates(self, *words: str) -> "list[tuple[object, ...]]":
-        """Where each application is now, then and back."""
+        """The places of each application: now, then and back."""
         answer = json.loads(view("what-if", str(self.path), "--json", *words).output)
         return [(fate["now"], fate["then"], fate["back"]) for fate in answer["cases"][0]["applications"]]
 
@@ -266,7 +267,7 @@ class Courses(Asked):
         return Loss(sorted(down), sorted(back), not_started, random.choice((None, None, 1, 2000, 4000)))
 
     def compare(self, side: Side, loss: Loss) -> bool:
-        """Compares a case that is written in one go with the same one step by step. Whether there is one."""
+        """Compares a case written in one go with the case played step by step. Returns whether there is one."""
         careful = careful_course(distac(), side.cluster, loss)
         self.no_living_holder_is_missed(careful)
         try:
@@ -282,7 +283,8 @@ class Courses(Asked):
         return quick_ones[0] is not None
 
     def no_living_holder_is_missed(self, course: Course) -> None:
-        """What is nowhere in the end is held by no node that runs, by what any running node of the side knows once all was told."""
+        """An application that is nowhere at the end has no running holder, according to any running node of the side
+        once all was told."""
         cluster = course.cluster.copy()
         share_all(distac(), cluster)
         pages = {one.actor: page_of(one.answer) for one in cluster.story.play(distac(), *(f"page {node}" for node in cluster.nodes))}
@@ -293,14 +295,14 @@ class Courses(Asked):
 
 
 def what_counts(course: Course) -> tuple[object, ...]:
-    """All that is shown of a case."""
+    """Everything shown of a case."""
     pages = (course.at_once, course.then, course.back)
     held = [{name: (each.runs_at, each.verdict, each.marks) for name, each in page.held.items()} for page in pages]
     return (*held, course.claims, course.claims_back)
 
 
 class EqualTimes(unittest.TestCase):
-    """A note where OTP may fail to restart applications that wait equally long."""
+    """A note if OTP may fail to restart applications with equal waits."""
 
     def ids_of(self, times: "tuple[int, int]", lists: str, *down: str) -> "list[str]":
         """The ids of all notes on two applications with these times."""
@@ -334,12 +336,12 @@ class Outages(unittest.TestCase):
 
 
 def counted(done: int) -> tuple[int, int]:
-    """How many of three cases are done."""
+    """The number of finished ones of three cases."""
     return done, 3
 
 
 class Progressing(unittest.TestCase):
-    """What the progress says."""
+    """The output of the progress."""
 
     def test_it_counts_cases(self) -> None:
         progress = Progress()

@@ -1,4 +1,5 @@
-"""Standard streams that are closed or can't be written, and files that are written: nothing is lost, nothing is a traceback."""
+"""Standard streams that are closed or can't be written, and written files: nothing is lost, and nothing is a
+traceback."""
 
 from __future__ import annotations
 
@@ -30,7 +31,7 @@ def redirected(streams: str, *words: str, program: str = PROGRAM) -> Said:
 
 
 class Streams(unittest.TestCase):
-    """A closed stream is a sentence or a status."""
+    """A closed stream leads to a sentence or a status."""
 
     def setUp(self) -> None:
         room = tempfile.TemporaryDirectory()
@@ -90,7 +91,7 @@ class Files(unittest.TestCase):
         self.script.write_bytes(Path(FAILOVER).read_bytes())
 
     def names(self) -> List[str]:
-        """What is in the folder."""
+        """The contents of the folder."""
         return sorted(path.name for path in self.room.iterdir())
 
     def test_no_input_is_written_over(self) -> None:

@@ -1,4 +1,4 @@
-"""The page of a timeline: what is drawn, on a screen, on paper, and for people who don't see it or see no colors."""
+"""The page of a timeline: its drawing on a screen, on paper, and for readers who can't see it or its colors."""
 
 from __future__ import annotations
 
@@ -38,7 +38,7 @@ def pictures(page: str) -> List[ElementTree.Element]:
 
 
 def many_applications(count: int) -> str:
-    """A script in which many applications run at one node, and then at another one."""
+    """A script in which many applications run at one node, and later at another one."""
     entries = ",".join("{app%02d,[a@h,b@h]}" % number for number in range(count))
     starts = "".join(f"start {node} app{number:02d} {node}\n" for node in ("a@h", "b@h") for number in range(count))
     rest = "share\ntick a@h 1\n" + "share\n" * 50 + "crash a@h\ndown b@h a@h\ntick b@h 2\nshare\nshare\nshare\n"
@@ -58,12 +58,12 @@ class Elements(HTMLParser):
         self.found.append((tag, {name: value or "" for name, value in attrs}))
 
     def place(self, tag: str, **attributes: str) -> int:
-        """Where the first element of a kind stands among all."""
+        """The position of the first element of a kind."""
         return next(place for place, (name, its) in enumerate(self.found) if name == tag and attributes.items() <= its.items())
 
 
 class Pages(unittest.TestCase):
-    """What each page has."""
+    """The contents of each page."""
 
     def setUp(self) -> None:
         room = tempfile.TemporaryDirectory()
@@ -133,7 +133,7 @@ class Pages(unittest.TestCase):
 
 
 class Colors(unittest.TestCase):
-    """Nothing is told by a color alone."""
+    """Nothing is shown by color alone."""
 
     def test_each_application_has_a_color_of_its_own(self) -> None:
         for count in (1, 6, 7, 16, 64):
@@ -163,13 +163,13 @@ class Colors(unittest.TestCase):
 
 
 def contrast(one: str, other: str) -> float:
-    """The contrast of two colors, as the guidelines for accessible pages count it."""
+    """The contrast of two colors, by the web accessibility guidelines."""
     darker, lighter = sorted((brightness(one), brightness(other)))
     return (lighter + 0.05) / (darker + 0.05)
 
 
 def brightness(color: str) -> float:
-    """How bright a color is, from 0 to 1."""
+    """The brightness of a color, from 0 to 1."""
     parts = [int(color[place : place + 2], 16) / 255 for place in (1, 3, 5)]
     red, green, blue = (part / 12.92 if part <= 0.03928 else ((part + 0.055) / 1.055) ** 2.4 for part in parts)
     return float(0.2126 * red + 0.7152 * green + 0.0722 * blue)
@@ -195,7 +195,7 @@ class Paper(unittest.TestCase):
 
 
 class Words(unittest.TestCase):
-    """What is refused in a sentence."""
+    """Refusals with a sentence."""
 
     def test_counts(self) -> None:
         for option in ("--lines", "--from"):

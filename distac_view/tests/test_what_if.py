@@ -1,6 +1,7 @@
-"""`what-if` on random configurations, compared with the models by a computation of its own.
+"""`what-if` on random configurations, compared with a separate computation by the models.
 
-Here nothing is printed or read: worlds of the models are copied, and what their nodes know is asked for by the models' functions.
+Nothing is printed or read here: worlds of the models are copied, and the models' functions return their nodes'
+knowledge.
 """
 
 from __future__ import annotations
@@ -21,7 +22,7 @@ from distac_view.asking.inputs import check_config
 COUNT = 500
 PENDING = (placement.START, placement.FAILOVER, placement.MOVE, placement.TAKEOVER)
 NODES = ("a@h", "b@h", "c@h", "d@h")
-# where an application is, where it is then, how, after how many milliseconds, and where in the end
+# the present place of an application, the next one, how it moves, after how many milliseconds, and the final place
 Fate = Tuple[Optional[int], Optional[int], str, Optional[int], Optional[int]]
 
 
@@ -51,7 +52,7 @@ def random_entry(random: Random, name: str, nodes: tuple[str, ...]) -> str:
 
 
 class Oracle:
-    """What becomes of each application, by worlds of the models."""
+    """The course of each application, by worlds of the models."""
 
     def __init__(self, config: Config, not_started: set[int]) -> None:
         self.config = config
@@ -100,7 +101,7 @@ class Oracle:
         return [placement.verdict(self.config, world.state(node), app) for app in self.apps]
 
     def terms(self, world: World) -> list[int]:
-        """The term of the greatest claim of each application that a running node knows of."""
+        """The term of each application's greatest claim that a running node knows."""
         found = []
         for app in self.apps:
             states = [world.state(node) for node in range(len(self.config.nodes)) if world.is_on(node)]
@@ -108,11 +109,12 @@ class Oracle:
         return found
 
     def places(self, world: World) -> list[int | None]:
-        """The node where each application is at rest."""
+        """The resting node of each application."""
         return [found.node if found.what in (placement.KEPT, placement.HALTED) else None for found in self.verdicts(world)]
 
     def fates(self, down: list[int], takes: int | None) -> list[Fate]:
-        """For each application: where it is, then, how, after how long, and where in the end. Nodes are back after some milliseconds."""
+        """For each application: its place, the next one, how, after how long, and the final one. Nodes are back after
+        some milliseconds."""
         last = self.longest if takes is None else min(self.longest, takes - 1)
         world = self.opened()
         begin = 10 * self.longest + 10
@@ -138,12 +140,12 @@ class Oracle:
         return list(zip(now, then, hows, after, self.places(world)))
 
     def wait(self, world: World, begin: int, milliseconds: int) -> None:
-        """The nodes that are left tick at each moment up to some milliseconds at which a wait may be over."""
+        """The remaining nodes tick at each moment, up to some milliseconds, at which a wait may end."""
         for moment in sorted({0, milliseconds, *(app.timeout for app in self.config.apps if app.timeout <= milliseconds)}):
             self.ticks(world, begin + moment, len(self.apps) + 1)
 
     def first_claim(self, world: World, app: int, begin: int, last: int) -> int | None:
-        """The least number of milliseconds, of at most so many, after which an application is claimed, found by trying."""
+        """The least milliseconds, up to a limit, after which an application is claimed, found by trying."""
         moments = {moment for each in self.config.apps for moment in (0, max(0, each.timeout - 1), each.timeout) if moment <= last}
         for milliseconds in sorted(moments):
             world.cached.clear()
@@ -155,7 +157,7 @@ class Oracle:
 
 
 class WhatIf(unittest.TestCase):
-    """The answers are those of the models."""
+    """The answers agree with the models."""
 
     def test_random_configurations(self) -> None:
         for number in range(COUNT):
@@ -170,7 +172,7 @@ class WhatIf(unittest.TestCase):
                 self.compare(config, text, down, not_started, takes)
 
     def compare(self, config: Config, text: str, down: list[str], not_started: list[str], takes: int | None) -> None:
-        """Compares the two answers to one question."""
+        """Compares the two answers to a question."""
         names = [name.decode() for name in config.nodes]
         oracle = Oracle(config, {names.index(node) for node in not_started})
         fates = oracle.fates(sorted(names.index(node) for node in down), takes)

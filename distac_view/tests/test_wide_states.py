@@ -1,4 +1,4 @@
-"""States of more lives than their bytes can count are told."""
+"""States with more lives than their format can count are reported."""
 
 from __future__ import annotations
 
@@ -16,12 +16,12 @@ HEAD = "[{kernel,[{distributed,[{a,[x,y]}]}]}].\n--\n"
 
 
 def booted(count: int) -> List[Answered]:
-    """So many boots of a node."""
+    """Repeated boots of a node."""
     return [Answered(Line(number, "boot x 0"), [f"booted {number} op {number}"]) for number in range(1, count + 1)]
 
 
 class WideStates(unittest.TestCase):
-    """A line that may print such a state is warned of."""
+    """A line that may print such a state gets a warning."""
 
     def test_which_lines(self) -> None:
         lines = ("state x", "bytes 1", "page x", "% state x", "")

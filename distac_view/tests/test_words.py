@@ -1,4 +1,4 @@
-"""The words of the program's own command line, where no test of a crate can give them."""
+"""Words of the program's own command line that no test of a crate can pass."""
 
 from __future__ import annotations
 
@@ -12,7 +12,7 @@ SENTENCE = b"error: a word of the command line isn't UTF-8\n\nFor more informati
 
 @unittest.skipIf(IS_STAND_IN, "the models have no command line")
 class Words(unittest.TestCase):
-    """A word that is no text."""
+    """A word that isn't text."""
 
     def test_word_that_is_not_utf_8(self) -> None:
         for words in ([b"caf\xe9"], [b"check", b"\xff"], [b"\xc0\xaf", b"sim"]):

@@ -205,6 +205,7 @@ fn join_part<K: MapKey, S: DotStore>(
         (joined_at S.nothing S.is_empty S.join how.now.mine.now how.now.theirs.now)
         part.now built.old theirs.old built.new theirs.new) }
 {
+    built.close()?;
     built.make_room(part.len().saturating_add(theirs.at_hand()))?;
     for entry in part {
         put_below(how, built, theirs, entry.0)?;

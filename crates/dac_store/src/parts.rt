@@ -151,6 +151,18 @@ impl<K: MapKey, S: DotStore> Parts<K, S> {
         Ok(())
     }
 
+    /// Makes a block of the last entries, if they suffice for one, so that the entries of a following part aren't split
+    /// again. After [`NoMemory`] the entries can have changed.
+    pub(crate) fn close(&mut self) -> Result<(), NoMemory>
+        ensures { OnOk result (self.new ≡ self.old) }
+    {
+        if self.last.len() < LEAST {
+            return Ok(());
+        }
+        seal_all(&mut self.blocks, &mut self.last)?;
+        Ok(())
+    }
+
     /// Reserves room for `more` entries, but for no more than [`MOST`] in no block.
     pub(crate) fn make_room(&mut self, more: usize) -> Result<(), NoMemory>
         ensures { self.new ≡ self.old }

@@ -1,4 +1,4 @@
-//! Command lines, and what is printed for those that ask for help or for nothing that there is.
+//! Command lines, and the text printed for help and for errors.
 use dac_program::{Request, read_request, run};
 use std::alloc::Global;
 use std::fmt::Display;
@@ -7,7 +7,7 @@ use std::io::{Eprint, ErrorKind, Print};
 use std::sync::{Mutex, Wait};
 use std::thread::Threads;
 
-/// Words, whether what is printed for them is an error, and its text.
+/// Words, whether they are an error, and the text printed.
 const REFUSED: &[(&[&str], bool, &str)] = &[
     (
         &["distac"],
@@ -238,7 +238,7 @@ Documents:
     ),
 ];
 
-/// A runtime that keeps what is printed on the standard output and on the standard error.
+/// A runtime that captures standard output and standard error.
 #[derive(Drop)]
 struct Streams<'a, T: Wait> {
     rt: &'a T,
@@ -250,7 +250,7 @@ impl<T: Wait> Wait for Streams<'_, T> {}
 
 impl<T: Threads + Wait> Threads for Streams<'_, T> {}
 
-/// Puts the text of a value behind what a stream has.
+/// Appends the text of a value to a stream.
 fn add<T: Wait, D: Display + Drop>(rt: &T, stream: &Mutex<String>, value: D) -> io::Result<()> {
     let mut held = stream.lock(rt);
     let text = &mut *held;
@@ -267,7 +267,7 @@ impl<T: Wait> Print for Streams<'_, T> {
         add(self.rt, &self.output, format_args!("{value}\n"))
     }
 
-    /// The program prints text alone.
+    /// The program prints only text.
     fn write_all(&self, _bytes: &[u8]) -> io::Result<()> {
         Err(io::Error::from(ErrorKind::Unsupported))
     }
@@ -283,8 +283,7 @@ impl<T: Wait> Eprint for Streams<'_, T> {
     }
 }
 
-/// Whether this is the status for the words, and these are then on the standard output and on the standard error.
-/// Nothing is written to the output.
+/// Whether the words yield this status, these texts on standard output and standard error, and nothing on the output.
 fn answers<T: Threads + Wait + Sync>(
     rt: &T,
     alloc: Global,
@@ -311,7 +310,7 @@ fn answers<T: Threads + Wait + Sync>(
         && error.into_inner().as_str() == said
 }
 
-/// Whether this text alone is printed for the words, as an error or not.
+/// Whether the words print only this text, on standard error if `is_error`.
 fn is_refused<T: Threads + Wait + Sync>(
     rt: &T,
     alloc: Global,
@@ -336,7 +335,7 @@ fn says_what_is_wrong_with_words(rt: HostRuntime) {
     }
 }
 
-/// Whether the words ask for this.
+/// Whether the words are this request.
 fn asks_for(alloc: Global, words: &[&str], request: Request) -> bool {
     match read_request(alloc, words) {
         Ok(asked) => asked == Some(request),

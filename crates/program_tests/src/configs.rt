@@ -1,8 +1,8 @@
-//! Worked configurations, each with the output of `distac check`. `examples/rows` has them by name, and all others.
+//! Worked configurations, each with the output of `distac check`. They and all others are files in `examples/rows`.
 
-/// Configurations and their canonical texts.
+/// Configurations with their canonical texts.
 pub const CANONICAL_TEXTS: &[(&str, &str)] = &[
-    // `canonical-of-example`: the example with a comment, and its tuple the other way round.
+    // `canonical-of-example`: the example with a comment, and with its tuple reversed.
     (
         r#"%% cp1.config
 [{kernel,
@@ -22,7 +22,7 @@ pub const CANONICAL_TEXTS: &[(&str, &str)] = &[
     ),
 ];
 
-/// Configurations that are refused, each with its fault.
+/// Refused configurations with their faults.
 pub const CONFIG_REFUSALS: &[(&str, &str)] = &[
     (
         "[{kernel,[{distributed,[{a,[b@h,{c@h,b@h}]}]}]}].",

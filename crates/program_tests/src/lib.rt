@@ -1,7 +1,7 @@
-//! Tests of the program `distac` over readers and writers in memory: command lines, failing and slow streams, large and long
-//! inputs, recorded runs, and the worked configurations and scripts.
+//! Tests of the program `distac` over readers and writers in memory: command lines, failing and slow streams, large and
+//! long inputs, recorded runs, and the worked configurations and scripts.
 //!
-//! All other inputs, each with its output and status, are files in `examples/rows`, on which `examples/check` runs the program.
+//! All other inputs, with their outputs and statuses, are files in `examples/rows`, which `examples/check` runs.
 #![tactic(auto)]
 
 #[cfg(test)]

@@ -1,4 +1,4 @@
-//! Readers and writers that fail, are interrupted, or give and take one byte at a time.
+//! Readers and writers that fail, are interrupted, or transfer one byte at a time.
 use crate::running::{input_of, status_of};
 use crate::scripts::EXAMPLE;
 use std::alloc::Global;
@@ -17,7 +17,7 @@ impl Read for Broken {
     }
 }
 
-/// A reader of spaces without an end.
+/// An endless reader of spaces.
 #[derive(Drop)]
 struct Endless;
 
@@ -30,7 +30,7 @@ impl Read for Endless {
     }
 }
 
-/// A reader of one byte a read, of which one read fails once.
+/// A reader of one byte per read. One read fails.
 #[derive(Drop)]
 struct Slow<'a> {
     rest: &'a [u8],
@@ -50,7 +50,7 @@ impl Read for Slow<'_> {
     }
 }
 
-/// Whether `distac sim` prints this on what a reader gives, and answers this status.
+/// Whether `distac sim` prints this for a reader's input, and returns this status.
 fn prints<T: Print + Eprint + Threads + Wait + Sync, R: Read>(
     rt: &T,
     alloc: Global,
@@ -66,8 +66,8 @@ fn prints<T: Print + Eprint + Threads + Wait + Sync, R: Read>(
 /// A script of one line.
 const LINE: &str = "boot cp1@cave 0";
 
-/// Whether `distac sim` prints this of a script of one line and answers this status. The script is read byte by byte,
-/// and a read fails once with so many bytes left.
+/// Whether `distac sim` prints this for a script of one line, read byte by byte, and returns this status. One read
+/// fails, with `left` bytes left.
 fn reads<T: Print + Eprint + Threads + Wait + Sync>(
     rt: &T,
     alloc: Global,
@@ -85,7 +85,7 @@ fn reads<T: Print + Eprint + Threads + Wait + Sync>(
     }
 }
 
-/// Which read fails and how, the status, and what is printed.
+/// The fault of a read, the bytes left then, the status, and the output.
 const READS: &[(Option<ErrorKind>, usize, u8, &str)] = &[
     (None, 0, 0, "booted 1 op 1\n"),
     (Some(ErrorKind::Interrupted), 9, 0, "booted 1 op 1\n"),
@@ -131,7 +131,7 @@ fn gives_up_what_has_no_end(rt: HostRuntime) {
     assert!(rt; prints(&rt, rt.alloc(), &mut Endless, 1, "input fault 1 TooLong\n"));
 }
 
-/// A writer of one byte a write, of which one write or one flush fails once.
+/// A writer of one byte per write. One write fails, or every flush.
 #[derive(Drop)]
 struct Narrow {
     fault: Option<ErrorKind>,
@@ -159,7 +159,7 @@ impl Write for Narrow {
     }
 }
 
-/// Whether a script of one line answers this status, where a write fails so after so many bytes.
+/// Whether a script of one line returns this status if a write fails after `room` bytes, or every flush fails.
 fn writes<T: Print + Eprint + Threads + Wait + Sync>(
     rt: &T,
     alloc: Global,
@@ -181,7 +181,7 @@ fn writes<T: Print + Eprint + Threads + Wait + Sync>(
     }
 }
 
-/// Which write fails and how, whether flushes are done, and the status.
+/// The fault of a write, the bytes before it, whether flushes succeed, and the status.
 const WRITES: &[(Option<ErrorKind>, usize, bool, u8)] = &[
     (None, 0, true, 0),
     (Some(ErrorKind::Interrupted), 5, true, 0),

@@ -9,7 +9,7 @@ use std::io::{Eprint, Print, Read, Write};
 use std::sync::Wait;
 use std::thread::Threads;
 
-/// The status of `distac` with one word more, on what a reader gives.
+/// The status of `distac WORD` on a reader's input.
 pub fn status_of<T: Print + Eprint + Threads + Wait + Sync, R: Read, W: Write>(
     rt: &T,
     alloc: Global,
@@ -20,7 +20,7 @@ pub fn status_of<T: Print + Eprint + Threads + Wait + Sync, R: Read, W: Write>(
     run(rt, alloc, &["distac", word], input, output)
 }
 
-/// The status and the output of `distac` with one word more, on an input.
+/// The status and output of `distac WORD` on an input.
 fn ran<T: Print + Eprint + Threads + Wait + Sync>(
     rt: &T,
     alloc: Global,
@@ -33,7 +33,7 @@ fn ran<T: Print + Eprint + Threads + Wait + Sync>(
     (status, output)
 }
 
-/// Whether `distac` with one word more prints this on an input, and answers this status.
+/// Whether `distac WORD` prints this on an input, and returns this status.
 fn prints<T: Print + Eprint + Threads + Wait + Sync>(
     rt: &T,
     alloc: Global,
@@ -68,7 +68,7 @@ fn plays<T: Print + Eprint + Threads + Wait + Sync>(
     }
 }
 
-/// Whether `distac live` prints this for a configuration and a script, and answers this status.
+/// Whether `distac live` prints this for a configuration and a script, and returns this status.
 pub fn lives<T: Print + Eprint + Threads + Wait + Sync>(
     rt: &T,
     alloc: Global,
@@ -83,7 +83,7 @@ pub fn lives<T: Print + Eprint + Threads + Wait + Sync>(
     }
 }
 
-/// Whether what `distac record` prints for a configuration and a script is taken by `distac sim`, and this is printed last.
+/// Whether `distac sim` accepts the script that `distac record` prints, and its output ends with `last`.
 fn plays_again<T: Print + Eprint + Threads + Wait + Sync>(
     rt: &T,
     alloc: Global,
@@ -135,8 +135,7 @@ fn plays_scripts_of_placements(rt: HostRuntime) {
     }
 }
 
-/// A configuration behind others of these bytes. These are so many opening brackets and as many closing ones in a
-/// section, and so many spaces in front.
+/// A configuration after `spaces` spaces and a section with `lists` nested lists.
 fn large(alloc: Global, lists: usize, spaces: usize) -> Result<Vec<u8>, AllocError> {
     let mut text = vec![in alloc; b' '; spaces]?;
     text.extend_from_slice(b"[{x,[")?;
@@ -146,7 +145,7 @@ fn large(alloc: Global, lists: usize, spaces: usize) -> Result<Vec<u8>, AllocErr
     Ok(text)
 }
 
-/// Whether `distac check` prints this for such a configuration, and answers this status.
+/// Whether `distac check` prints this for a large configuration, and returns this status.
 fn checks<T: Print + Eprint + Threads + Wait + Sync>(
     rt: &T,
     alloc: Global,
@@ -161,8 +160,8 @@ fn checks<T: Print + Eprint + Threads + Wait + Sync>(
     }
 }
 
-/// Lists and spaces of large configurations, the status and what is printed. They are brackets that are 64 deep and
-/// 65, and texts of 65,536 bytes and 65,537.
+/// Lists and spaces of large configurations, status and output: brackets 64 and 65 deep, texts of 65,536 and 65,537
+/// bytes.
 const LARGE: &[(usize, usize, u8, &str)] = &[
     (61, 0, 0, PRINTED),
     (62, 0, 1, "config fault 3 Unsupported at 66\n"),

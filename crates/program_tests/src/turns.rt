@@ -1,4 +1,4 @@
-//! Runs of which one read or one write fails, each in turn.
+//! Runs in which one read or write fails, each in turn.
 use crate::lives::{PHASES, PHASES_PRINTED};
 use crate::placements::STARTING;
 use crate::running::{input_of, status_of};
@@ -9,16 +9,16 @@ use std::io::{Eprint, ErrorKind, Print, Read, Write};
 use std::sync::Wait;
 use std::thread::Threads;
 
-/// A reader of a few bytes a read, of which one read fails.
+/// A reader of a few bytes per read. One read fails.
 #[derive(Drop)]
 struct Faulty<'a> {
     rest: &'a [u8],
-    /// How many reads are well.
+    /// How many reads precede the failure.
     well: usize,
     failed: bool,
 }
 
-/// How many bytes a read gives at most.
+/// The most bytes per read or write.
 const WIDTH: usize = 50;
 
 impl Read for Faulty<'_> {
@@ -33,11 +33,11 @@ impl Read for Faulty<'_> {
     }
 }
 
-/// A writer that takes a few bytes a write. One write fails.
+/// A writer of a few bytes per write. One write fails.
 #[derive(Drop)]
 struct Full {
     taken: Vec<u8>,
-    /// How many writes are well.
+    /// How many writes precede the failure.
     well: usize,
     failed: bool,
 }
@@ -58,23 +58,23 @@ impl Write for Full {
     }
 }
 
-/// Whether an output has these bytes, or begins it.
+/// Whether the bytes are a prefix of the output.
 fn is_beginning(taken: &[u8], printed: &str) -> bool {
     printed.as_bytes().starts_with(taken)
 }
 
-/// What comes of a run of which one read or write fails.
+/// The result of a run in which one read or write fails.
 #[derive(Clone, Copy, Debug, PartialEq, Eq)]
 enum Came {
-    /// It failed, and the run ended as it is to.
+    /// The run failed as expected.
     Failed,
-    /// There was no such read or write, and all was printed with status 0.
+    /// No read or write failed, and the output is complete, with status 0.
     Well,
     /// Anything else.
     Wrong,
 }
 
-/// What comes of a run whose read after so many fails. Then the fault alone is printed.
+/// The result of a run whose read fails after `well` others. Then only the fault is printed.
 fn reads<T: Print + Eprint + Threads + Wait + Sync>(
     rt: &T,
     alloc: Global,
@@ -100,7 +100,7 @@ fn reads<T: Print + Eprint + Threads + Wait + Sync>(
     }
 }
 
-/// What comes of a run whose write after so many fails. Then what was printed is a beginning of all.
+/// The result of a run whose write fails after `well` others. Then a prefix of the output is printed.
 fn writes<T: Print + Eprint + Threads + Wait + Sync>(
     rt: &T,
     alloc: Global,
@@ -126,10 +126,10 @@ fn writes<T: Print + Eprint + Threads + Wait + Sync>(
     }
 }
 
-/// How many reads or writes there are at most.
+/// The most reads or writes of a run.
 const MOST: usize = 1_000;
 
-/// How many reads of a run were made to fail, each in turn, before all is well. `None` where one came otherwise.
+/// The number of reads of a run, each failed in turn, or `None` if a result was wrong.
 fn reads_in_turn<T: Print + Eprint + Threads + Wait + Sync>(
     rt: &T,
     alloc: Global,
@@ -147,7 +147,7 @@ fn reads_in_turn<T: Print + Eprint + Threads + Wait + Sync>(
     None
 }
 
-/// The same of writes.
+/// The number of writes of a run, each failed in turn, or `None` if a result was wrong.
 fn writes_in_turn<T: Print + Eprint + Threads + Wait + Sync>(
     rt: &T,
     alloc: Global,
@@ -165,7 +165,7 @@ fn writes_in_turn<T: Print + Eprint + Threads + Wait + Sync>(
     None
 }
 
-/// The word of the command line, and a configuration, a script and what is printed.
+/// The command, with a configuration, a script and the output.
 type Row = (&'static str, (&'static str, &'static str, &'static str));
 
 const ROWS: [Row; 4] = [
@@ -175,7 +175,7 @@ const ROWS: [Row; 4] = [
     ("live", (EXAMPLE, PHASES, PHASES_PRINTED)),
 ];
 
-/// Whether each read of a run fails in turn as it is to, and each write, and there are some of both.
+/// Whether each read and each write of a run fails as expected, and there are enough of both.
 fn all_fail_in_turn<T: Print + Eprint + Threads + Wait + Sync>(
     rt: &T,
     alloc: Global,

@@ -1,4 +1,4 @@
-//! The hearings of a run, as its gate counts them.
+//! The hearings of a run, counted by its gate.
 use crate::runs::{EXAMPLE, ran, three_phases};
 use dac_base::NodeId;
 use dac_live::{Closed, Gate, Record};
@@ -9,16 +9,16 @@ use std::sync::atomic::{AtomicU64, Ordering};
 use std::test::Fail;
 use std::thread::Threads;
 
-/// The hearings of a link, by the numbers that they have.
+/// The numbered hearings of a link.
 #[derive(Drop)]
 struct Hearings {
     from: NodeId,
     to: NodeId,
-    /// The one that began last.
+    /// The last one begun.
     begun: AtomicU64,
-    /// The one that ended last.
+    /// The last one ended.
     ended: AtomicU64,
-    /// Whether one came out of turn: 1 if so.
+    /// 1 if one was out of order.
     odd: AtomicU64,
 }
 
@@ -33,7 +33,7 @@ impl Hearings {
         }
     }
 
-    /// A hearing begins. It has the next number, and the one before has ended.
+    /// Begins hearing `k`, which must follow the previous one after its end.
     fn begin(&self, k: u64) {
         let before = self.begun.load(Ordering::SeqCst);
         let ended = self.ended.load(Ordering::SeqCst);
@@ -43,7 +43,7 @@ impl Hearings {
         self.begun.store(k, Ordering::SeqCst);
     }
 
-    /// A hearing ends: the one that began last, for the first time.
+    /// Ends hearing `k`, which must be the last one begun and not ended yet.
     fn end(&self, k: u64) {
         let begun = self.begun.load(Ordering::SeqCst);
         let ended = self.ended.load(Ordering::SeqCst);
@@ -53,7 +53,7 @@ impl Hearings {
         self.ended.store(k, Ordering::SeqCst);
     }
 
-    /// How many there were, if all came in turn and have ended.
+    /// The number of hearings, or `None` if one was out of order or hasn't ended.
     fn count(&self) -> Option<u64> {
         let begun = self.begun.load(Ordering::SeqCst);
         let ended = self.ended.load(Ordering::SeqCst);
@@ -64,13 +64,13 @@ impl Hearings {
     }
 }
 
-/// A gate that holds nobody, and counts the hearings of each link.
+/// A gate that never blocks, and counts the hearings of each link.
 #[derive(Drop)]
 struct Counting {
     links: Vec<Hearings>,
 }
 
-/// Such a gate, for the links between three nodes.
+/// A counting gate for three nodes.
 fn gate_of_three(alloc: Global) -> Option<Counting> {
     let mut links = Vec::new(alloc);
     for (from, to) in LINKS {
@@ -99,7 +99,7 @@ impl Gate for Counting {
     }
 }
 
-/// Whether the event is a message of this node.
+/// Whether the event hears a message from `from`.
 fn is_of(event: &Event, from: NodeId) -> bool {
     match event {
         Event::Hear(message) => message.from.node == from,
@@ -107,7 +107,7 @@ fn is_of(event: &Event, from: NodeId) -> bool {
     }
 }
 
-/// How many records hear a message of this node.
+/// The number of records that hear a message from `from`.
 fn hears(records: &[Record], from: NodeId) -> u64 {
     let mut count = 0u64;
     for i in 0..records.len() {
@@ -119,20 +119,20 @@ fn hears(records: &[Record], from: NodeId) -> u64 {
     count
 }
 
-/// How many hearings of the link stand in the journal of the node that hears.
+/// The number of a link's hearings in the receiver's journal.
 fn recorded(closed: &[Closed], link: &Hearings) -> Option<u64> {
     let one = closed.get(usize::from(link.to.0))?;
     Some(hears(one.records(), link.from))
 }
 
-/// Whether as many hearings of each link were counted as there are records of them.
+/// Whether the gate counted as many hearings of each link as the journals record.
 fn are_recorded(links: &[Hearings], closed: &[Closed]) -> bool {
     links
         .iter()
         .all(|link| link.count() == recorded(closed, link))
 }
 
-/// Whether a gate counts the hearings of a run so.
+/// Whether the gate's counts agree with the journals of a run.
 fn are_counted<R: Threads + Wait + Sync>(rt: &R, alloc: Global) -> Option<bool> {
     let gate = gate_of_three(alloc)?;
     let phases = three_phases(alloc)?;

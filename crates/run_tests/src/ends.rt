@@ -1,4 +1,4 @@
-//! Links by themselves: ends that are gone, letters that are no messages, and room.
+//! Links alone: missing ends, letters without a message, capacity.
 ghost use Rattle.dac_workers.specs.Sites.{IsBlankOf};
 
 use crate::runs::Open;
@@ -18,43 +18,41 @@ use std::test::Fail;
 
 const TWO: &[u8] = b"[{kernel,[{distributed,[{a,[a@h,b@h]}]}]}].";
 
-/// What the first node's shipper says of a lost link to the second one.
+/// The shipper's fault if the link from the first node to the second is lost.
 const LOST_OUT: RunFault = RunFault::LinkLost {
     from: NodeId(0),
     to: NodeId(1),
 };
 
-/// What its link worker says of a lost link from there.
+/// The link worker's fault if the opposite link is lost.
 const LOST_IN: RunFault = RunFault::LinkLost {
     from: NodeId(1),
     to: NodeId(0),
 };
 
-/// What the first node's shipper says of a link with no receiver, and its link worker of one with no sender.
+/// The faults of a shipper without a receiver, and of a link worker without a sender.
 #[derive(Clone, Copy, Debug, PartialEq, Eq)]
 struct Lost {
     shipper: Option<RunFault>,
     worker: Option<RunFault>,
 }
 
-/// The same, and how many records its site's journal then has: the boot, and the ship whose letter is lost.
+/// The faults, and the number of journal records: the boot, and the ship whose letter is lost.
 type Ended = (Lost, usize);
 
-/// A link with its sender alone.
 fn sender_alone(alloc: Global) -> Option<LinkSender> {
     let (out, into) = link(alloc, 64).ok()?;
     drop(into);
     Some(out)
 }
 
-/// A link with its receiver alone.
 fn receiver_alone(alloc: Global) -> Option<LinkReceiver> {
     let (out, into) = link(alloc, 64).ok()?;
     drop(out);
     Some(into)
 }
 
-/// Boots the node, and runs both workers over links with one end.
+/// Boots the node, and runs both workers over links with a missing end.
 fn both_lost<L: SiteName, R: Wait>(
     rt: &R,
     alloc: Global,
@@ -71,7 +69,7 @@ fn both_lost<L: SiteName, R: Wait>(
     Some(Lost { shipper, worker })
 }
 
-/// Opens a site with one seat, and closes it.
+/// Runs `both_lost` at a new site with one seat.
 fn open_and_close<L: SiteName, R: Wait>(
     rt: &R,
     alloc: Global,
@@ -105,16 +103,16 @@ fn links_with_one_end_are_lost(rt: HostRuntime) -> Result<(), Fail> {
     Ok(())
 }
 
-/// What is in a letter that is no message.
+/// The content of a letter without a message.
 #[derive(Clone, Copy)]
 enum NoMessage {
-    /// Bytes that are no packet.
+    /// Bytes that aren't a packet.
     Bytes,
-    /// An operation alone.
+    /// A single operation.
     Operation,
 }
 
-/// The bytes of such a letter. The operation is that of a boot.
+/// The bytes of a letter without a message. Its operation is the boot.
 fn bytes_of(alloc: Global, config: &Config, what: NoMessage, booted: Reply) -> Option<Vec<u8>> {
     if let NoMessage::Bytes = what {
         let mut bytes = Vec::new(alloc);
@@ -127,7 +125,7 @@ fn bytes_of(alloc: Global, config: &Config, what: NoMessage, booted: Reply) -> O
     }
 }
 
-/// A link that holds a letter with these bytes, and then the end letter.
+/// A link that contains these bytes as a letter, then the end letter.
 fn link_with<R: Wait>(rt: &R, alloc: Global, bytes: Vec<u8>) -> Option<(LinkSender, LinkReceiver)> {
     let (mut out, into) = link(alloc, 64).ok()?;
     out.put(rt, Letter::of(bytes)).ok()?;
@@ -135,7 +133,7 @@ fn link_with<R: Wait>(rt: &R, alloc: Global, bytes: Vec<u8>) -> Option<(LinkSend
     Some((out, into))
 }
 
-/// Boots the node, and has its link worker hear such a letter.
+/// Boots the node, whose link worker then receives a letter without a message.
 fn hear_no_message<L: SiteName, R: Wait>(
     rt: &R,
     alloc: Global,
@@ -151,7 +149,7 @@ fn hear_no_message<L: SiteName, R: Wait>(
     hear_link(rt, alloc, config, other, me, site, seat, &mut into, &Open).err()
 }
 
-/// Opens a site with one seat for that, and closes it: the fault, and how many records the journal then has.
+/// Runs `hear_no_message` at a new site with one seat: the fault, and the number of journal records.
 fn hear_and_close<L: SiteName, R: Wait>(
     rt: &R,
     alloc: Global,
@@ -194,7 +192,7 @@ fn a_link_with_an_operation_is_lost(rt: HostRuntime) -> Result<(), Fail> {
     Ok(())
 }
 
-/// Puts 64 letters into a link with room for them, and takes none out.
+/// Fills a link with letters up to its capacity.
 fn fill<R: Wait>(rt: &R, alloc: Global) -> Option<()> {
     let (mut out, _into) = link(alloc, 64).ok()?;
     for _count in 0..64u32 {

@@ -1,4 +1,4 @@
-//! Pages behind receipts: fresh ones, and stale ones.
+//! Pages read with a receipt: fresh and stale ones.
 ghost use Rattle.dac_workers.specs.Sites.{IsBlankOf};
 
 use dac_base::NodeId;
@@ -13,12 +13,10 @@ use std::marker::Brand;
 use std::sync::Wait;
 use std::test::Fail;
 
-/// What was read, in short: the place of a page.
+/// A reading, reduced to the page's place.
 #[derive(Clone, Copy, Debug, PartialEq, Eq)]
 enum Read {
-    /// It was fresh.
     Fresh(u64),
-    /// It was stale.
     Stale(Option<u64>),
 }
 
@@ -30,7 +28,7 @@ fn in_short(reading: Reading) -> Read {
     }
 }
 
-/// What a caller reads without a receipt, behind that of a boot, and behind one whose place was set to a later one.
+/// Reads without a receipt, with a boot's receipt, and with one for a later place than the page's.
 fn three_readings<L: SiteName, R: Wait>(
     rt: &R,
     site: &Site<L>,
@@ -48,7 +46,7 @@ fn three_readings<L: SiteName, R: Wait>(
     Some([first, second, third])
 }
 
-/// The same at a site with one seat and one reader, and how many records the closed journal has.
+/// Runs `three_readings` at a new site with one seat and one reader; also the number of journal records.
 fn read_at<L: SiteName, R: Wait>(rt: &R, blank: SiteBlank) -> Option<([Read; 3], usize)>
     requires { IsBlankOf blank L.name L.parts L.seats L.beginning }
 {
@@ -74,7 +72,7 @@ fn a_page_before_the_place_of_a_receipt_is_stale(rt: HostRuntime) -> Result<(), 
     Ok(())
 }
 
-/// What is read of a site that was closed, behind the receipt of a boot, and without one.
+/// Reads the page of a closed site with a boot's receipt, and without one.
 fn read_behind<L: SiteName, R: Wait>(rt: &R, blank: SiteBlank) -> Option<[Read; 2]>
     requires { IsBlankOf blank L.name L.parts L.seats L.beginning }
 {

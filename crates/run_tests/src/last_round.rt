@@ -1,4 +1,4 @@
-//! The round behind a phase, in which the links ship once more, by name.
+//! The round after a phase, in which the links ship once more, in name order.
 use crate::runs::{EXAMPLE, Open, ran, two_phases};
 use dac_base::NodeId;
 use dac_live::{Closed, Record};
@@ -8,7 +8,7 @@ use std::sync::Wait;
 use std::test::Fail;
 use std::thread::Threads;
 
-/// Whether the event ships to this node.
+/// Whether the event ships to `node`.
 fn is_ship(event: &Event, node: NodeId) -> bool {
     match event {
         Event::Ship { to } => *to == node,
@@ -16,7 +16,7 @@ fn is_ship(event: &Event, node: NodeId) -> bool {
     }
 }
 
-/// Where the last record stands that ships to this node.
+/// The position of the last ship to `node`.
 fn last_ship(records: &[Record], node: u8) -> Option<usize> {
     let mut last = None;
     for i in 0..records.len() {
@@ -28,7 +28,7 @@ fn last_ship(records: &[Record], node: u8) -> Option<usize> {
     last
 }
 
-/// Whether the last ship to one node stands before the last one to another.
+/// Whether the last ship to `node` precedes the last one to `other`.
 fn is_before(records: &[Record], node: u8, other: u8) -> bool {
     match (last_ship(records, node), last_ship(records, other)) {
         (Some(place), Some(other_place)) => place < other_place,
@@ -36,10 +36,10 @@ fn is_before(records: &[Record], node: u8, other: u8) -> bool {
     }
 }
 
-/// Of each of three nodes the two others, by name.
+/// For each of three nodes the two others, in name order.
 const OTHERS: [(u8, u8); 3] = [(1, 2), (0, 2), (0, 1)];
 
-/// Whether each journal's last ships are to the two other nodes, by name.
+/// Whether each node's last ships to the two others are in name order.
 fn are_by_name(closed: &[Closed]) -> bool {
     closed.len() == 3
         && closed.iter().zip(OTHERS.iter()).all(|(one, others)| is_before(
@@ -49,7 +49,7 @@ fn are_by_name(closed: &[Closed]) -> bool {
         ))
 }
 
-/// The same of the journals of a run.
+/// Whether the last ships of a run are in name order.
 fn ends_by_name<R: Threads + Wait + Sync>(rt: &R, alloc: Global) -> Option<bool> {
     let phases = two_phases(alloc)?;
     let report = ran(rt, alloc, EXAMPLE, phases.as_slice(), &Open)?.ok()?;

@@ -1,5 +1,6 @@
-//! Tests of runs: workers of two links at once, callers beside links, the turns of the last round, hearings that a gate counts, five nodes, a full journal, and what a run reports. Of links by
-//! themselves: ends that are gone, letters that are no messages, and room. And of pages that are stale behind a receipt.
+//! Tests of runs (concurrent link workers, callers interleaved with links, the order of the last round, counted
+//! hearings, five nodes, full journals, pages of callers' lines, reports), of links alone (missing ends, letters
+//! without a message, capacity), and of stale pages.
 #![tactic(auto)]
 
 #[cfg(test)]
@@ -12,6 +13,8 @@ mod fresh;
 mod full;
 #[cfg(test)]
 mod last_round;
+#[cfg(test)]
+mod own_reads;
 #[cfg(test)]
 mod runs;
 #[cfg(test)]

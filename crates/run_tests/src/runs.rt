@@ -13,20 +13,19 @@ use std::test::Fail;
 use std::thread;
 use std::thread::Threads;
 
-/// The documented example: three nodes.
+/// OTP's documented example, with three nodes.
 pub(crate) const EXAMPLE: &[u8] =
     b"[{kernel, [{distributed, [{myapp, 5000, [cp1@cave, {cp2@cave, cp3@cave}]}]}, {sync_nodes_mandatory, [cp2@cave, cp3@cave]}, {sync_nodes_timeout, 5000}]}].";
 
-/// Four nodes, and none waits for another one.
+/// Four nodes without sync lists, so none waits for another.
 const FOUR: &[u8] = b"[{kernel,[{distributed,[{a,[a@h,b@h,c@h,d@h]}]}]}].";
 
-/// Five nodes.
 const FIVE: &[u8] = b"[{kernel,[{distributed,[{a,[a@h,b@h,c@h,d@h,e@h]}]}]}].";
 
-/// How often a hearing yields while it is held.
+/// The most yields of a held hearing.
 const TURNS: u32 = 1_000_000;
 
-/// Holds the hearings of two links, each from one node to another, until both are inside at once.
+/// Holds the hearings of two links, each a sender and a receiver, until both are held at once.
 #[derive(Drop)]
 struct Both {
     one: (u8, u8),
@@ -81,7 +80,7 @@ impl Gate for Both {
     }
 }
 
-/// A gate that holds nobody.
+/// A gate that never blocks.
 #[derive(Drop)]
 pub(crate) struct Open;
 
@@ -91,7 +90,7 @@ impl Gate for Open {
     fn after(&self, _from: NodeId, _to: NodeId, _k: u64) {}
 }
 
-/// A phase, line by line: the node, the caller, and what is asked.
+/// A phase of lines, each a node, a caller and a request.
 fn phase_of<const N: usize>(alloc: Global, lines: [(u8, u8, Ask); N]) -> Option<Phase> {
     let mut all = Vec::new(alloc);
     for (node, caller, what) in Vec::from_array(alloc, lines).ok()? {
@@ -124,7 +123,7 @@ fn start(node: u8) -> Ask {
     }))
 }
 
-fn permit(node: u8, value: bool) -> Ask {
+pub(crate) fn permit(node: u8, value: bool) -> Ask {
     ask(Event::Command(Command::Permit {
         app: AppId(0),
         node: NodeId(node),
@@ -132,7 +131,7 @@ fn permit(node: u8, value: bool) -> Ask {
     }))
 }
 
-/// Runs phases under a configuration.
+/// Runs phases, or returns `None` if they aren't runnable under the configuration.
 pub(crate) fn ran<G: Gate, R: Threads + Wait + Sync>(
     rt: &R,
     alloc: Global,
@@ -147,7 +146,7 @@ pub(crate) fn ran<G: Gate, R: Threads + Wait + Sync>(
     Some(run_live(rt, alloc, &config, phases, gate))
 }
 
-/// Two phases: a boot and a tick of the first node.
+/// The first node boots, and ticks in a second phase.
 pub(crate) fn two_phases(alloc: Global) -> Option<Vec<Phase>> {
     let mut phases = Vec::new(alloc);
     phases.push(phase_of(alloc, [(0, 1, boot(0))])?).ok()?;
@@ -155,7 +154,7 @@ pub(crate) fn two_phases(alloc: Global) -> Option<Vec<Phase>> {
     Some(phases)
 }
 
-/// How many records the journals of three nodes have.
+/// The number of records of each of three journals.
 fn record_counts(report: &LiveReport) -> Option<[usize; 3]> {
     match report.closed.as_slice() {
         [a, b, c] => Some([a.records().len(), b.records().len(), c.records().len()]),
@@ -163,8 +162,8 @@ fn record_counts(report: &LiveReport) -> Option<[usize; 3]> {
     }
 }
 
-/// Whether the hearings of two links were held at once. The first node has its two calls and five ships to each other node
-/// a phase.
+/// Whether the hearings of two links were held at once. The first node records its two calls, and five ships to each
+/// other node per phase.
 fn meets<R: Threads + Wait + Sync>(rt: &R, alloc: Global) -> Option<bool> {
     let gate = Both::new((0, 1), (0, 2));
     let phases = two_phases(alloc)?;
@@ -179,7 +178,8 @@ fn workers_of_two_links_meet(rt: HostRuntime) -> Result<(), Fail> {
     Ok(())
 }
 
-/// Whether the hearings of the two links to the last of three nodes were held at once: each link has a worker of its own.
+/// Whether the hearings of both links to the last of three nodes were held at once, because each link has its own
+/// worker.
 fn meets_at_one_node<R: Threads + Wait + Sync>(rt: &R, alloc: Global) -> Option<bool> {
     let gate = Both::new((0, 2), (1, 2));
     let phases = three_phases(alloc)?;
@@ -207,7 +207,6 @@ fn five_nodes_are_too_many(rt: HostRuntime) -> Result<(), Fail> {
     Ok(())
 }
 
-/// Four nodes boot.
 fn four_boots(alloc: Global) -> Option<Phase> {
     phase_of(
         alloc,
@@ -220,7 +219,7 @@ fn four_boots(alloc: Global) -> Option<Phase> {
     )
 }
 
-/// Each caller of each of four nodes asks for something.
+/// One line for each caller of four nodes.
 fn all_ask(alloc: Global, now: u64) -> Option<Phase> {
     let mut lines = Vec::new(alloc);
     for node in 0..4u8 {
@@ -242,7 +241,7 @@ fn all_ask(alloc: Global, now: u64) -> Option<Phase> {
     Some(Phase { lines })
 }
 
-/// Twenty phases: four nodes boot, and then all callers of all of them ask.
+/// Four nodes boot; in each of 19 further phases all their callers have a line.
 fn twenty_phases(alloc: Global) -> Option<Vec<Phase>> {
     let mut phases = Vec::new(alloc);
     phases.push(four_boots(alloc)?).ok()?;
@@ -252,7 +251,7 @@ fn twenty_phases(alloc: Global) -> Option<Vec<Phase>> {
     Some(phases)
 }
 
-/// Whether each line was answered without a refusal, and each page that was read was fresh.
+/// Whether no line was refused, and every page read was fresh.
 fn are_well(answers: &[AnswerList]) -> bool {
     answers.iter().all(|lines| {
         lines.as_slice().iter().all(|line| match line {
@@ -262,7 +261,7 @@ fn are_well(answers: &[AnswerList]) -> bool {
     })
 }
 
-/// Whether all lines are answered, and each journal has at least its callers' 58 records and its shippers' 300.
+/// Whether every line succeeded, and each journal has at least 58 records of callers and 300 of shippers.
 fn twenty_are_well<R: Threads + Wait + Sync>(rt: &R, alloc: Global) -> Option<bool> {
     let phases = twenty_phases(alloc)?;
     let report = ran(rt, alloc, FOUR, phases.as_slice(), &Open)?.ok()?;
@@ -278,7 +277,7 @@ fn four_nodes_run_twenty_phases(rt: HostRuntime) -> Result<(), Fail> {
     Ok(())
 }
 
-/// Three phases of three nodes: they boot; each is started, and one forbidden; two tick.
+/// Three nodes boot; each is started and one is forbidden; two tick.
 pub(crate) fn three_phases(alloc: Global) -> Option<Vec<Phase>> {
     let mut phases = Vec::new(alloc);
     let boots = phase_of(alloc, [(0, 1, boot(0)), (1, 1, boot(0)), (2, 1, boot(0))])?;
@@ -300,7 +299,7 @@ pub(crate) fn three_phases(alloc: Global) -> Option<Vec<Phase>> {
     Some(phases)
 }
 
-/// Whether two reports have the same final pages, but for their places.
+/// Whether two reports have equal final pages, places aside.
 fn are_alike(one: &LiveReport, other: &LiveReport) -> bool {
     let pages = one.pages.as_slice();
     let others = other.pages.as_slice();
@@ -309,7 +308,7 @@ fn are_alike(one: &LiveReport, other: &LiveReport) -> bool {
             && left.summary == right.summary)
 }
 
-/// Whether so many further runs end as the first one.
+/// Whether `times` further runs end as the first one does.
 fn all_alike<R: Threads + Wait + Sync>(rt: &R, alloc: Global, times: u32) -> Option<bool> {
     let phases = three_phases(alloc)?;
     let first = ran(rt, alloc, EXAMPLE, phases.as_slice(), &Open)?.ok()?;

@@ -1,5 +1,5 @@
-//! Who takes turns: the links of the last round in their order, and callers and links beside each other.
-use crate::runs::{EXAMPLE, Open, boot, ran, three_phases, tick};
+//! The order of the links in the last round, and the interleaving of callers and links.
+use crate::runs::{EXAMPLE, Open, boot, permit, ran, tick};
 use dac_base::NodeId;
 use dac_live::{Closed, Gate, Line, Phase, Record};
 use dac_messages::Event;
@@ -9,10 +9,13 @@ use std::sync::atomic::{AtomicU64, Ordering};
 use std::test::Fail;
 use std::thread::Threads;
 
-/// The links of three nodes, by name.
+/// The links of three nodes, in name order.
 const LINKS: [(u8, u8); 6] = [(0, 1), (0, 2), (1, 0), (1, 2), (2, 0), (2, 1)];
 
-/// Counts all hearings of a run, and keeps the last one of each link.
+/// The number of operations of a caller in a phase.
+const OPERATIONS: u32 = 50;
+
+/// Counts all hearings, and records the last one of each link.
 #[derive(Drop)]
 struct Turns {
     all: AtomicU64,
@@ -34,17 +37,19 @@ impl Turns {
         }
     }
 
-    /// Whether the last hearings of all were those of the links, by name.
-    fn are_in_order(&self) -> bool {
+    /// Whether the last hearings are those of the links that shipped in the last round, in name order.
+    fn are_in_order(&self, closed: &[Closed]) -> bool {
         let all = self.all.load(Ordering::SeqCst);
-        let mut left = 6u64;
-        for last in &self.last {
-            left = left.saturating_sub(1);
-            if last.load(Ordering::SeqCst).checked_add(left) != Some(all) {
-                return false;
+        let mut turn = all.saturating_sub(count_in_round(closed));
+        for (link, last) in LINKS.iter().zip(self.last.iter()) {
+            if ships_in_round(closed, link.0, link.1) {
+                turn = turn.saturating_add(1);
+                if last.load(Ordering::SeqCst) != turn {
+                    return false;
+                }
             }
         }
-        true
+        turn == all
     }
 }
 
@@ -61,7 +66,7 @@ impl Gate for Turns {
     fn after(&self, _from: NodeId, _to: NodeId, _k: u64) {}
 }
 
-/// Where the last record stands that hears from this node.
+/// The position of the last hearing from `node`.
 fn last_hearing(records: &[Record], node: u8) -> Option<usize> {
     let mut last = None;
     for i in 0..records.len() {
@@ -73,7 +78,7 @@ fn last_hearing(records: &[Record], node: u8) -> Option<usize> {
     last
 }
 
-/// Where the last record stands that ships to this node.
+/// The position of the last ship to `node`.
 fn last_ship(records: &[Record], node: u8) -> Option<usize> {
     let mut last = None;
     for i in 0..records.len() {
@@ -85,7 +90,33 @@ fn last_ship(records: &[Record], node: u8) -> Option<usize> {
     last
 }
 
-/// Whether the last hearing from a node of a lesser name stands before the last ship to it.
+/// Whether the link shipped a message in the last round. A node without news for another one refuses to ship.
+fn ships_in_round(closed: &[Closed], from: u8, to: u8) -> bool {
+    let Some(one) = closed.get(usize::from(from)) else {
+        return false;
+    };
+    let records = one.records();
+    let Some(place) = last_ship(records, to) else {
+        return false;
+    };
+    match records.get(place) {
+        Some(record) => record.answer.is_ok(),
+        None => false,
+    }
+}
+
+/// The number of links that shipped a message in the last round.
+fn count_in_round(closed: &[Closed]) -> u64 {
+    let mut count = 0u64;
+    for (from, to) in LINKS {
+        if ships_in_round(closed, from, to) {
+            count = count.saturating_add(1);
+        }
+    }
+    count
+}
+
+/// Whether the last hearing from `other` precedes the last ship to it.
 fn is_heard_first(closed: &[Closed], node: usize, other: u8) -> bool {
     let Some(one) = closed.get(node) else {
         return false;
@@ -95,30 +126,75 @@ fn is_heard_first(closed: &[Closed], node: usize, other: u8) -> bool {
         last_ship(one.records(), other),
     ) {
         (Some(hears), Some(ships)) => hears < ships,
+        (None, ships) => ships.is_some(),
         _ => false,
     }
 }
 
-/// Whether the links of a run's last round took turns by name: each shipped and was heard before the next one shipped.
-fn take_turns<R: Threads + Wait + Sync>(rt: &R, alloc: Global) -> Option<bool> {
+/// Three nodes boot. A caller of each then makes so many operations that most remain to be shipped in the last round.
+fn many_operations(alloc: Global) -> Option<Vec<Phase>> {
+    let mut boots = Vec::new(alloc);
+    let mut permits = Vec::new(alloc);
+    for node in 0..3u8 {
+        boots
+            .push(Line {
+                node: NodeId(node),
+                caller: 1,
+                what: boot(0),
+            })
+            .ok()?;
+        for time in 0..OPERATIONS {
+            permits
+                .push(Line {
+                    node: NodeId(node),
+                    caller: 1,
+                    what: permit(node, time % 2 == 0),
+                })
+                .ok()?;
+        }
+    }
+    let mut phases = Vec::new(alloc);
+    phases.push(Phase { lines: boots }).ok()?;
+    phases.push(Phase { lines: permits }).ok()?;
+    Some(phases)
+}
+
+/// Whether the links of a run's last round took turns in name order, each shipping and being heard before the next, and
+/// the number of links that shipped a message.
+fn take_turns<R: Threads + Wait + Sync>(rt: &R, alloc: Global) -> Option<(bool, u64)> {
     let gate = Turns::new();
-    let phases = three_phases(alloc)?;
+    let phases = many_operations(alloc)?;
     let report = ran(rt, alloc, EXAMPLE, phases.as_slice(), &gate)?.ok()?;
     let closed = report.closed.as_slice();
     let heard = is_heard_first(closed, 1, 0) && is_heard_first(closed, 2, 0);
-    Some(gate.are_in_order() && heard && is_heard_first(closed, 2, 1))
+    let in_order = gate.are_in_order(closed) && heard && is_heard_first(closed, 2, 1);
+    Some((in_order, count_in_round(closed)))
+}
+
+/// Whether the links take turns in name order in each run, until in one of at most `times` runs each link ships in the
+/// last round. Threads decide how many do: a node may learn before the round that another one lacks nothing.
+fn all_take_turns<R: Threads + Wait + Sync>(rt: &R, alloc: Global, times: u32) -> Option<bool> {
+    for _time in 0..times {
+        let (in_order, links) = take_turns(rt, alloc)?;
+        if !in_order {
+            return Some(false);
+        }
+        if links == 6 {
+            return Some(true);
+        }
+    }
+    Some(false)
 }
 
 #[test]
 fn links_take_turns_by_name(rt: HostRuntime) -> Result<(), Fail> {
-    assert_eq!(rt; take_turns(&rt, rt.alloc()), Some(true));
+    assert_eq!(rt; all_take_turns(&rt, rt.alloc(), 100), Some(true));
     Ok(())
 }
 
-/// Two nodes.
 const TWO: &[u8] = b"[{kernel,[{distributed,[{a,[a@h,b@h]}]}]}].";
 
-/// So often each of two callers of each node ticks.
+/// The number of ticks of each caller.
 const TICKS: u32 = 500;
 
 /// Two nodes boot, and then two callers of each tick.
@@ -151,7 +227,7 @@ fn ticking(alloc: Global) -> Option<Vec<Phase>> {
     Some(phases)
 }
 
-/// Whether the record is a tick of this caller.
+/// Whether the record is a tick of `caller`.
 fn is_tick(one: &Record, caller: u16) -> bool {
     match &one.event {
         Event::Tick { now: _ } => one.seat == caller,
@@ -159,7 +235,6 @@ fn is_tick(one: &Record, caller: u16) -> bool {
     }
 }
 
-/// Whether the record hears a message.
 fn is_hearing(one: &Record) -> bool {
     match &one.event {
         Event::Hear(_) => true,
@@ -167,7 +242,7 @@ fn is_hearing(one: &Record) -> bool {
     }
 }
 
-/// Whether the first caller ticks before and behind a tick of the second one, or before and behind a hearing.
+/// Whether caller 1 ticks both before and after a tick of caller 2, or a hearing.
 fn are_mixed(records: &[Record], hearing: bool) -> bool {
     let mut began = false;
     let mut other = false;
@@ -191,12 +266,12 @@ fn are_mixed(records: &[Record], hearing: bool) -> bool {
     false
 }
 
-/// Whether some journal is mixed so.
+/// Whether some journal is mixed.
 fn some_are_mixed(closed: &[Closed], hearing: bool) -> bool {
     closed.iter().any(|one| are_mixed(one.records(), hearing))
 }
 
-/// Whether one of so many runs has callers beside each other, and one has a caller beside a link.
+/// Whether callers interleave in one of `times` runs, and a caller and a link in one.
 fn run_beside<R: Threads + Wait + Sync>(rt: &R, alloc: Global, times: u32) -> Option<bool> {
     let phases = ticking(alloc)?;
     let mut callers = false;

@@ -25,4 +25,4 @@ returns g c xs =
     let f = joined_at s.nothing s.is_empty s.join c.args.how.now.mine.now c.args.how.now.theirs.now in
     ap (λ l. c.loop-entry.built ++ merge_entries g.K.Ord.cmp f (l ++ xs) c.loop-entry.theirs) (sym (drop_all c.loop-entry.entry-index c.args.part.now c.loop-entry-test.false))
     ∙ c.loop-entry.invariant xs
-    ∙ ap (λ l. l ++ merge_entries g.K.Ord.cmp f (c.args.part.now ++ xs) c.args.theirs.now) c.make_room.ensures
+    ∙ ap (λ l. l ++ merge_entries g.K.Ord.cmp f (c.args.part.now ++ xs) c.args.theirs.now) (c.make_room.ensures ∙ c.in_ok-close.ensures)
