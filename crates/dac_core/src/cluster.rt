@@ -22,9 +22,9 @@ use std::marker::Model;
 /// All controllers of a configuration, every operation that they issued and every message that they shipped. A
 /// [`World`](crate::World) is one of which its events keep what a world needs.
 pub struct Cluster {
-    nodes: Vec<Node>,
-    operations: Vec<Op>,
-    messages: Vec<Message>,
+    pub(crate) nodes: Vec<Node>,
+    pub(crate) operations: Vec<Op>,
+    pub(crate) messages: Vec<Message>,
 }
 
 /// Written out: a drop is one call for a proof, wherever it stands.
@@ -117,28 +117,6 @@ impl Cluster {
         }
     }
 
-    /// The controller of a node.
-    pub(crate) fn node(&self, node: NodeId) -> &Node
-        requires { node.0 < length self.now.nodes }
-        ensures { slice_get self.now.nodes node.0 ≡ Some result.now }
-    {
-        &self.nodes[node.0 as usize]
-    }
-
-    /// The operations that were issued, in the order of issuing.
-    pub(crate) fn operations(&self) -> &[Op]
-        ensures { result.now ≡ self.now.operations }
-    {
-        self.operations.as_slice()
-    }
-
-    /// The messages that were shipped, in the order of shipping.
-    pub(crate) fn messages(&self) -> &[Message]
-        ensures { result.now ≡ self.now.messages }
-    {
-        self.messages.as_slice()
-    }
-
     /// What an event does at a node, where it is accepted. Nothing changes yet.
     fn prepare_at(
         &mut self,
@@ -201,7 +179,7 @@ impl Cluster {
         }
     }
 
-    /// The message of this number comes to a node.
+    /// Prepares the delivery of the message of this number to a node.
     fn deliver(&self, config: &Config, node: NodeId, number: u64) -> Result<Change, WorldFault>
         requires inside { node.0 < length self.now.nodes }
         requires made { IsMade self.now }
@@ -210,32 +188,17 @@ impl Cluster {
         ensures fault { IfErr result (λ fault. HappensAt config.now self.now node
             (heard_by (counted self.now.messages number)) (Err fault) self.now) }
     {
-        if number == 0 || number > self.messages.len() as u64 {
-            return Err(WorldFault::NoSuchMessage);
-        }
-        self.hear_message(config, node, number)
-    }
-
-    /// The message of this number, which was shipped, comes to a node.
-    fn hear_message(&self, config: &Config, node: NodeId, number: u64) -> Result<Change, WorldFault>
-        requires inside { node.0 < length self.now.nodes }
-        requires counted { 0 < number }
-        requires shipped { number ≤ length self.now.messages }
-        requires made { IsMade self.now }
-        ensures prepared { IfOk result (IsPreparedAt config.now self.now.nodes node
-            (heard_by (counted self.now.messages number))) }
-        ensures fault { IfErr result (λ fault. HappensAt config.now self.now node
-            (heard_by (counted self.now.messages number)) (Err fault) self.now) }
-    {
         laws::heard_dots_are_order();
-        let message = &self.messages[number as usize - 1];
+        let Some(message) = item_of(self.messages.as_slice(), number) else {
+            return Err(WorldFault::NoSuchMessage);
+        };
         match self.nodes[node.0 as usize].prepare_hear_by_dots(config, message) {
             Ok(change) => Ok(change),
             Err(why) => Err(WorldFault::Refused(why)),
         }
     }
 
-    /// The operation of this number comes to a node by itself.
+    /// Prepares the delivery of the operation of this number, without a message, to a node.
     fn hand(&self, config: &Config, node: NodeId, number: u64) -> Result<Change, WorldFault>
         requires inside { node.0 < length self.now.nodes }
         requires made { IsMade self.now }
@@ -244,30 +207,10 @@ impl Cluster {
         ensures fault { IfErr result (λ fault. HappensAt config.now self.now node
             (handed_by (counted self.now.operations number)) (Err fault) self.now) }
     {
-        if number == 0 || number > self.operations.len() as u64 {
-            return Err(WorldFault::NoSuchOperation);
-        }
-        self.hear_operation(config, node, number)
-    }
-
-    /// The operation of this number, which was issued, comes to a node by itself.
-    fn hear_operation(
-        &self,
-        config: &Config,
-        node: NodeId,
-        number: u64,
-    ) -> Result<Change, WorldFault>
-        requires inside { node.0 < length self.now.nodes }
-        requires counted { 0 < number }
-        requires issued { number ≤ length self.now.operations }
-        requires made { IsMade self.now }
-        ensures prepared { IfOk result (IsPreparedAt config.now self.now.nodes node
-            (handed_by (counted self.now.operations number))) }
-        ensures fault { IfErr result (λ fault. HappensAt config.now self.now node
-            (handed_by (counted self.now.operations number)) (Err fault) self.now) }
-    {
         laws::heard_dots_are_order();
-        let operation = &self.operations[number as usize - 1];
+        let Some(operation) = item_of(self.operations.as_slice(), number) else {
+            return Err(WorldFault::NoSuchOperation);
+        };
         match self.nodes[node.0 as usize].prepare_hear_op_by_dot(operation) {
             Ok(change) => Ok(change),
             Err(why) => Err(WorldFault::Refused(why)),
@@ -347,6 +290,17 @@ impl Cluster {
             change.into_reply(),
         );
         Ok(())
+    }
+}
+
+/// The item of this number, counted from 1.
+fn item_of<T>(items: &[T], number: u64) -> Option<&T>
+    ensures { MatchOption result (counted items.now number ≡ None)
+        (λ item. counted items.now number ≡ Some item.now) }
+{
+    match number.checked_sub(1) {
+        Some(index) => items.get(index as usize),
+        None => None,
     }
 }
 

@@ -123,20 +123,20 @@ impl World {
         requires { node.0 < length self.now.nodes }
         ensures { slice_get self.now.nodes node.0 ≡ Some result.now }
     {
-        self.cluster.node(node)
+        &self.cluster.nodes[node.0 as usize]
     }
 
     /// The operations that were issued, in the order of issuing.
     pub fn operations(&self) -> &[Op]
         ensures { result.now ≡ self.now.operations }
     {
-        self.cluster.operations()
+        self.cluster.operations.as_slice()
     }
 
     /// The messages that were shipped, in the order of shipping.
     pub fn messages(&self) -> &[Message]
         ensures { result.now ≡ self.now.messages }
     {
-        self.cluster.messages()
+        self.cluster.messages.as_slice()
     }
 }
